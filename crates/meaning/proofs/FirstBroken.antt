@@ -1,0 +1,105 @@
+-- Demand 1: the refusal is the first broken claim, and there is one exactly when some claim is broken.
+use Prim.Native.Nat.{ℕ, zero, suc, _<_}
+use native.Mathlib.Omega.{arith}
+use mathlib.Core.Path.{_≡_, refl, sym, ap, _∙_}
+use mathlib.Core.Logic.{_↔_}
+use mathlib.Core.Bool.{Bool, true, false}
+use mathlib.Core.List.{List, [], _∷_, List·Memᴰ, List·Memᴰ·head, List·Memᴰ·tail, List·Memᴰ·not-nil}
+use lib.ListN.{length, getD}
+use Rattle.meaning.specs.declared.Refusal.{Refusal}
+use Rattle.meaning.specs.declared.Verdict.{Verdict}
+use Rattle.meaning.specs.declared.Verdict.the-variants.{Readable, Unreadable}
+use Rattle.meaning.specs.Refusals.{Claim, claims, refusal, speaks, verdictOf}
+use Rattle.meaning.specs.Promises.{noClaim, FirstBroken, NoneBroken}
+use Rattle.meaning.proofs.Laws.{each-cons, getD-mem}
+
+speaks-yes : (p : Claim) (r : List Claim) → p .broken ≡ true → speaks (p ∷ r) ≡ Unreadable (refusal p)
+unfolding speaks
+speaks-yes p r e = rw e
+
+speaks-no : (p : Claim) (r : List Claim) → p .broken ≡ false → speaks (p ∷ r) ≡ speaks r
+unfolding speaks
+speaks-no p r e = rw e
+
+-- what is told is the first broken
+first-of : (cs : List Claim) (r : Refusal) → speaks cs ≡ Unreadable r → FirstBroken cs r
+unfolding speaks
+first-of [] r e = let z : _≡_ {A = ℕ} 0 1 = cc in absurd (omega arith)
+first-of (p ∷ cs) r e = go (p .broken) refl (first-of cs r)
+  where
+    go : (t : Bool) → p .broken ≡ t → (speaks cs ≡ Unreadable r → FirstBroken cs r) → FirstBroken (p ∷ cs) r
+    go true b rest = record { at = 0; inside = omega arith; spoken = cc (speaks-yes p cs b); broken = b; silent = λ k h. absurd (omega arith) }
+    go false b rest = later (rest (sym (speaks-no p cs b) ∙ e))
+      where
+        later : FirstBroken cs r → FirstBroken (p ∷ cs) r
+        later f = record { at = suc (f .at); inside = omega arith; spoken = f .spoken; broken = f .broken; silent = early f }
+          where
+            early : (f : FirstBroken cs r) (k : ℕ) → k < suc (f .at) → getD (p ∷ cs) k noClaim .broken ≡ false
+            early f zero h = b
+            early f (suc k) h = f .silent k (omega arith)
+
+-- the first broken is told
+of-first : (cs : List Claim) (at : ℕ) → at < length cs → getD cs at noClaim .broken ≡ true → ((k : ℕ) → k < at → getD cs k noClaim .broken ≡ false) → speaks cs ≡ Unreadable (refusal (getD cs at noClaim))
+of-first [] at h b silent = absurd (omega arith)
+of-first (p ∷ cs) zero h b silent = speaks-yes p cs b
+of-first (p ∷ cs) (suc at) h b silent =
+    speaks-no p cs (silent 0 (omega arith)) ∙ of-first cs at (omega arith) b (λ k less. silent (suc k) (omega arith))
+
+pub spoken-first : (cs : List Claim) (r : Refusal) → speaks cs ≡ Unreadable r ↔ FirstBroken cs r
+spoken-first cs r = (first-of cs r, λ f. of-first cs (f .at) (f .inside) (f .broken) (f .silent) ∙ ap Unreadable (f .spoken))
+
+none-of : (cs : List Claim) → speaks cs ≡ Readable → NoneBroken cs
+unfolding speaks
+none-of [] e = λ p m. absurd (List·Memᴰ·not-nil m)
+none-of (p ∷ cs) e = go (p .broken) refl (none-of cs)
+  where
+    go : (t : Bool) → p .broken ≡ t → (speaks cs ≡ Readable → NoneBroken cs) → NoneBroken (p ∷ cs)
+    go true b rest = let z : _≡_ {A = ℕ} 0 1 = cc (speaks-yes p cs b) in absurd (omega arith)
+    go false b rest = each-cons (λ (q : Claim). q .broken ≡ false) p cs b (rest (sym (speaks-no p cs b) ∙ e))
+
+of-none : (cs : List Claim) → NoneBroken cs → speaks cs ≡ Readable
+unfolding speaks
+of-none [] none = refl
+of-none (p ∷ cs) none = speaks-no p cs (none p (List·Memᴰ·head refl)) ∙ of-none cs (λ q m. none q (List·Memᴰ·tail m))
+
+pub silent-none : (cs : List Claim) → speaks cs ≡ Readable ↔ NoneBroken cs
+silent-none cs = (none-of cs, of-none cs)
+
+-- at most one refusal is first
+pub first-unique : (cs : List Claim) (r s : Refusal) → FirstBroken cs r → FirstBroken cs s → r ≡ s
+first-unique cs r s f g = cc (spoken-first cs r .1 f, spoken-first cs s .1 g)
+
+-- some claim is broken
+pub record SomeBroken (cs : List Claim) : Type 0 where
+  pub which : Claim
+  pub among : List·Memᴰ which cs
+  pub broken : which .broken ≡ true
+
+-- a feed is refused
+pub record RefusedBy (files : List (List ℕ)) (rooms : List ℕ) : Type 0 where
+  pub told : Refusal
+  pub verdict : verdictOf files rooms ≡ Unreadable told
+
+module _ (files : List (List ℕ)) (rooms : List ℕ) where
+  -- The refusal is the first broken claim, and the first broken claim is the refusal.
+  pub first-broken : (r : Refusal) → verdictOf files rooms ≡ Unreadable r ↔ FirstBroken (claims files rooms) r
+  unfolding verdictOf
+  first-broken r = spoken-first (claims files rooms) r
+
+  -- A feed is readable exactly when no claim is broken.
+  pub readable-exactly : verdictOf files rooms ≡ Readable ↔ NoneBroken (claims files rooms)
+  unfolding verdictOf
+  readable-exactly = silent-none (claims files rooms)
+
+  -- A feed is refused exactly when some claim is broken.
+  pub refused-exactly : RefusedBy files rooms ↔ SomeBroken (claims files rooms)
+  refused-exactly = (λ v. there v (first-broken (v .told) .0 (v .verdict)), λ s. back s (verdictOf files rooms) refl)
+    where
+      there : (v : RefusedBy files rooms) → FirstBroken (claims files rooms) (v .told) → SomeBroken (claims files rooms)
+      there v f = record { which = getD (claims files rooms) (f .at) noClaim; among = getD-mem (claims files rooms) (f .at) noClaim (f .inside); broken = f .broken }
+
+      back : SomeBroken (claims files rooms) → (v : Verdict) → verdictOf files rooms ≡ v → RefusedBy files rooms
+      back s Readable e =
+          let none : s .which .broken ≡ false = readable-exactly .0 e (s .which) (s .among) in
+          let z : _≡_ {A = ℕ} 0 1 = cc in absurd (omega arith)
+      back s (Unreadable r) e = record { told = r; verdict = e }

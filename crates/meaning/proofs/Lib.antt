@@ -1,0 +1,12 @@
+-- Theorems about the definitions, a file for each promise.
+pub mod ListLaws
+pub mod Laws
+pub mod Lines
+pub mod References
+pub mod FirstBroken
+pub mod Claims
+pub mod Readable
+pub mod TheList
+pub mod Pages
+pub mod TimesNeverFall
+pub mod Starred

@@ -1,0 +1,260 @@
+-- Demand 3: the list has each broken binding rule once, in the order of file, line, rule; and what the answer says of it.
+use Prim.Native.Nat.{ℕ, zero, suc, _+_, _*_, _-_, _≤_, _<_}
+use native.Mathlib.Omega.{arith}
+use native.Mathlib.Nat.{add-sub-cancel, mul-suc}
+use mathlib.Core.Path.{_≡_, refl, sym, ap}
+use mathlib.Core.Logic.{_↔_, ⊎-elim}
+use mathlib.Core.Bool.{Bool, true, false, cond}
+use mathlib.Core.List.{List, [], _∷_, map, append-nil, List·Memᴰ, List·Memᴰ·head, List·Memᴰ·tail, List·Memᴰ·not-nil, List·Memᴰ·cases-cons}
+use lib.IntN.{ℤ}
+use lib.ListN.{length, replicate, length-replicate, length-append, List·getD-eq-default}
+use lib.Dec.{ltb, eqb}
+use borrow.Author.Tests.{lt-ltb, ltb-true, ltb-false}
+use Rattle.meaning.specs.declared.Refusal.{Refusal}
+use Rattle.meaning.specs.declared.Place.{Place}
+use Rattle.meaning.specs.declared.Verdict.{Verdict}
+use Rattle.meaning.specs.declared.Verdict.the-variants.{Readable, Unreadable}
+use Rattle.meaning.specs.declared.Answer.the-variants.{Accepted, Findings, Refused}
+use Rattle.meaning.specs.Tables.{Feed, feedOf}
+use Rattle.meaning.specs.Refusals.{Test, test, Claim, claim, onLine, verdictOf}
+use Rattle.meaning.specs.Rules.{stopRules, routeRules, serviceRules, tripRules, timeRules, recordCounts, recordCount, rulesOf, onRecords, bindingsOf, bindings}
+use Rattle.meaning.specs.Findings.{Finding, finding, listed, findingsOf, above, after, answerOf}
+use Rattle.meaning.specs.Outcome.{readOutcome, refusedOr, outcome}
+use Rattle.meaning.specs.Promises.{Ordered, BrokenAt, comesBefore, beginning, PagesJoin, PagesEnd}
+use Rattle.meaning.proofs.Pages.{pages-join, pages-end}
+use Rattle.meaning.proofs.Laws.{Each, along, Along, along-in, along-of, along-ordered}
+use Rattle.meaning.proofs.Lines.{rising, rising-within, rank, rank-file, linewise, Linewise, linewise-exactly, linewise-ordered}
+
+-- the finding that a broken claim is
+abbrev toFinding : Claim → Finding
+toFinding p = finding (p .file) (p .line) (p .number)
+
+listed-yes : (p : Claim) (cs : List Claim) → p .broken ≡ true → listed (p ∷ cs) ≡ toFinding p ∷ listed cs
+unfolding listed
+listed-yes p cs e = rw e
+
+listed-no : (p : Claim) (cs : List Claim) → p .broken ≡ false → listed (p ∷ cs) ≡ listed cs
+unfolding listed
+listed-no p cs e = rw e
+
+-- what is listed is what is broken
+listed-in : (f n r : ℕ) (cs : List Claim) → List·Memᴰ (finding f n r) (listed cs) → List·Memᴰ (claim r f n true) cs
+unfolding listed
+listed-in f n r [] m = absurd (List·Memᴰ·not-nil m)
+listed-in f n r (p ∷ cs) m = go (p .broken) refl (listed-in f n r cs)
+  where
+    go : (t : Bool) → p .broken ≡ t → (List·Memᴰ (finding f n r) (listed cs) → List·Memᴰ (claim r f n true) cs) → List·Memᴰ (claim r f n true) (p ∷ cs)
+    go true e rest =
+        ⊎-elim
+        (λ (d : finding f n r ≡ toFinding p). List·Memᴰ·head (λ i. claim (d i .rule) (d i .file) (d i .line) (sym e i)))
+        (λ (k : List·Memᴰ (finding f n r) (listed cs)). List·Memᴰ·tail (rest k))
+        (List·Memᴰ·cases-cons (rw (listed-yes p cs e) at m))
+    go false e rest = List·Memᴰ·tail (rest (rw (listed-no p cs e) at m))
+
+listed-of : (f n r : ℕ) (cs : List Claim) → List·Memᴰ (claim r f n true) cs → List·Memᴰ (finding f n r) (listed cs)
+listed-of f n r [] m = absurd (List·Memᴰ·not-nil m)
+listed-of f n r (p ∷ cs) m = ⊎-elim here (λ k. later (p .broken) refl (listed-of f n r cs k)) (List·Memᴰ·cases-cons m)
+  where
+    here : claim r f n true ≡ p → List·Memᴰ (finding f n r) (listed (p ∷ cs))
+    here e = rw (listed-yes p cs (ap (λ (q : Claim). q .broken) (sym e))) (List·Memᴰ·head (ap toFinding e))
+
+    later : (t : Bool) → p .broken ≡ t → List·Memᴰ (finding f n r) (listed cs) → List·Memᴰ (finding f n r) (listed (p ∷ cs))
+    later true e k = rw (listed-yes p cs e) (List·Memᴰ·tail k)
+    later false e k = rw (listed-no p cs e) k
+
+listed-ordered : (cs : List Claim) → Ordered rank cs → Ordered comesBefore (listed cs)
+unfolding listed rank comesBefore
+listed-ordered [] o = tt
+listed-ordered (p ∷ cs) o = go (p .broken) refl (listed-ordered cs (o .1))
+  where
+    before : (e : Finding) → List·Memᴰ e (listed cs) → comesBefore (toFinding p) e ≡ true
+    before e m = o .0 (claim (e .rule) (e .file) (e .line) true) (listed-in (e .file) (e .line) (e .rule) cs m)
+
+    go : (t : Bool) → p .broken ≡ t → Ordered comesBefore (listed cs) → Ordered comesBefore (listed (p ∷ cs))
+    go true e rest = rw (listed-yes p cs e) (before, rest)
+    go false e rest = rw (listed-no p cs e) rest
+
+listed-length : (cs : List Claim) → length (listed cs) ≤ length cs
+unfolding listed
+listed-length [] = omega arith
+listed-length (p ∷ cs) = go (p .broken) refl (listed-length cs)
+  where
+    go : (t : Bool) → p .broken ≡ t → length (listed cs) ≤ length cs → length (listed (p ∷ cs)) ≤ suc (length cs)
+    go true e h = rw (listed-yes p cs e) (omega arith)
+    go false e h = rw (listed-no p cs e) (omega arith)
+
+-- the rules of a file's lines, by the line
+abbrev onIndex : (ℕ → List Test) → ℕ → Unit {0} → List Test
+onIndex rules n u = rules (n - 2)
+
+records-along : (f : ℕ) (rules : ℕ → List Test) (i n : ℕ) → onRecords f rules i n ≡ linewise f (onIndex rules) (i + 2) (replicate n tt)
+unfolding onRecords along
+records-along f rules i zero = refl
+records-along f rules i (suc n) =
+    let e : i + 1 + 2 ≡ i + 2 + 1 = omega arith in
+    rw (records-along f rules (i + 1) n, e, add-sub-cancel i 2)
+
+rules-rising : (w : Feed) (f i : ℕ) → rising 19 32 (rulesOf w f i) ≡ true
+unfolding rising rulesOf stopRules routeRules serviceRules tripRules timeRules
+rules-rising w zero i = refl
+rules-rising w (suc zero) i = refl
+rules-rising w (suc (suc zero)) i = refl
+rules-rising w (suc (suc (suc zero))) i = refl
+rules-rising w (suc (suc (suc (suc zero)))) i = refl
+rules-rising w (suc (suc (suc (suc (suc zero))))) i = refl
+rules-rising w (suc (suc (suc (suc (suc (suc f)))))) i = refl
+
+-- the files with records are 1 to 5
+counted-files : (w : Feed) (f : ℕ) → 0 < recordCount w f → (1 ≤ f) × (f < 6)
+unfolding recordCount recordCounts
+counted-files w zero h = absurd (omega arith)
+counted-files w (suc f) h = (omega arith, go (ltb f 5) refl)
+  where
+    go : (t : Bool) → ltb f 5 ≡ t → suc f < 6
+    go true e = omega (arith, ltb-true f 5 e)
+    go false e =
+        let k : 6 ≤ suc f = omega (arith, ltb-false f 5 e) in
+        let z = List·getD-eq-default (recordCounts w) 0 k in
+        absurd (omega arith)
+
+module _ (w : Feed) where
+  -- the files, counted from 1
+  abbrev five : List (Unit {0})
+  five = replicate 5 tt
+
+  abbrev ofNumber : ℕ → Unit {0} → List Claim
+  ofNumber f u = bindingsOf w f
+
+  bindings-along : bindings w ≡ along ofNumber 1 five
+  unfolding bindings along
+  bindings-along = rw append-nil
+
+  abbrev records : ℕ → List (Unit {0})
+  records f = replicate (recordCount w f) tt
+
+  records-count : (f : ℕ) → length (records f) ≡ recordCount w f
+  records-count f = length-replicate (recordCount w f) tt
+
+  abbrev ruled : ℕ → ℕ → Unit {0} → List Test
+  ruled f = onIndex (rulesOf w f)
+
+  file-along : (f : ℕ) → bindingsOf w f ≡ linewise f (ruled f) 2 (records f)
+  unfolding bindingsOf
+  file-along f = records-along f (rulesOf w f) 0 (recordCount w f)
+
+  -- what stands among the claims of file f
+  file-exactly : (f : ℕ) (p : Claim) → List·Memᴰ p (bindingsOf w f) ↔ Linewise tt f (ruled f) 2 (records f) p
+  file-exactly f p = rw (file-along f) (linewise-exactly tt f (ruled f) 2 (records f) p)
+
+  bindings-ordered : Ordered rank (bindings w)
+  bindings-ordered = rw bindings-along (along-ordered tt ofNumber rank own apart 1 five)
+    where
+      own : (f : ℕ) (u : Unit {0}) → Ordered rank (bindingsOf w f)
+      own f u = rw (file-along f) (linewise-ordered tt f (ruled f) 2 (records f) 19 32 (λ k b. rules-rising w f (k - 2)))
+
+      apart : (j k : ℕ) (b c : Unit {0}) (x y : Claim) → j < k → List·Memᴰ x (bindingsOf w j) → List·Memᴰ y (bindingsOf w k) → rank x y ≡ true
+      apart j k b c x y h m t =
+          let u = file-exactly j x .0 m .file in
+          let v = file-exactly k y .0 t .file in
+          rank-file x y (omega arith)
+
+  module _ (f n r : ℕ) where
+    broken-in : Along tt ofNumber 1 five (claim r f n true) → BrokenAt w f n r
+    broken-in t =
+        let u = file-exactly (t .number) (claim r f n true) .0 (t .here) in
+        let count = records-count (t .number) in
+        rw (u .file) (record { from = u .from; to = omega arith; rule = u .rule })
+
+    broken-of : BrokenAt w f n r → Along tt ofNumber 1 five (claim r f n true)
+    broken-of b =
+        let file = counted-files w f (omega arith) in
+        let count = records-count f in
+        record { number = f; from = file .0; to = omega arith; here = file-exactly f (claim r f n true) .1 (record { file = refl; from = b .from; to = omega arith; rule = b .rule }) }
+
+    -- The list has exactly the broken rules.
+    pub listed-exactly : List·Memᴰ (finding f n r) (findingsOf w) ↔ BrokenAt w f n r
+    unfolding findingsOf
+    listed-exactly = (
+      λ m. broken-in (along-in tt ofNumber 1 five (claim r f n true) (rw bindings-along at (listed-in f n r (bindings w) m))),
+      λ b. listed-of f n r (bindings w) (rw bindings-along (along-of tt ofNumber 1 five (claim r f n true) (broken-of b))),
+    )
+
+  -- The list rises strictly by file, line, rule, so each finding stands once.
+  pub list-ordered : Ordered comesBefore (findingsOf w)
+  unfolding findingsOf
+  list-ordered = listed-ordered (bindings w) bindings-ordered
+
+-- the numbers of a finding
+pub record Findable (w : Feed) (d : Finding) : Type 0 where
+  pub file : (1 ≤ d .file) × (d .file ≤ 5)
+  pub line : (2 ≤ d .line) × (d .line ≤ recordCount w (d .file) + 1)
+  pub rule : (20 ≤ d .rule) × (d .rule ≤ 31)
+
+-- A finding's file is 1 to 5, its line one of that file's records, its rule 20 to 31.
+pub finding-numbers : (w : Feed) → Each (Findable w) (findingsOf w)
+finding-numbers w d m =
+    let b = listed-exactly w (d .file) (d .line) (d .rule) .0 m in
+    let file = counted-files w (d .file) (omega arith) in
+    let rule = rising-within 19 32 (rulesOf w (d .file) (d .line - 2)) (rules-rising w (d .file) (d .line - 2)) (test (d .rule) true) (b .rule) in
+    record { file = omega arith; line = omega arith; rule = omega arith }
+
+-- Every finding comes after the list's beginning.
+pub findings-from-beginning : (w : Feed) → Each (λ d. after beginning d ≡ true) (findingsOf w)
+unfolding after above
+findings-from-beginning w d m = rw (lt-ltb 0 (d .file) (finding-numbers w d m .file .0))
+
+-- Calls from the list's beginning until one hands out none together give the whole list.
+pub list-joins : (w : Feed) → PagesJoin (findingsOf w)
+list-joins w = pages-join (findingsOf w) (list-ordered w) (findings-from-beginning w)
+
+-- Such calls come to an end.
+pub list-ends : (w : Feed) → PagesEnd (findingsOf w)
+list-ends w = pages-end (findingsOf w) (list-ordered w) (findings-from-beginning w)
+
+line-length : (f n : ℕ) (ts : List Test) → length (onLine f n ts) ≡ length ts
+unfolding onLine
+line-length f n [] = refl
+line-length f n (t ∷ r) = ap suc (line-length f n r)
+
+records-length : (f m : ℕ) (rules : ℕ → List Test) → ((i : ℕ) → length (rules i) ≡ m) → (i n : ℕ) → length (onRecords f rules i n) ≡ m * n
+unfolding onRecords
+records-length f m rules each i zero = omega arith
+records-length f m rules each i (suc n) = simp (length-append, line-length, each, mul-suc) (omega (arith, records-length f m rules each (i + 1) n))
+
+-- The list has at most one finding for each rule of each line.
+pub total-bound : (w : Feed) → length (findingsOf w) ≤ 3 * length (w .stops) + 2 * length (w .routes) + 2 * length (w .calendar) + 4 * length (w .trips) + 6 * length (w .stopTimes)
+unfolding findingsOf bindings bindingsOf rulesOf recordCount recordCounts stopRules routeRules serviceRules tripRules timeRules
+total-bound w =
+    omega (
+      arith,
+      simp length-append at (listed-length (bindings w)),
+      records-length 1 3 (stopRules w) (λ i. refl) 0 (length (w .stops)),
+      records-length 2 2 (routeRules w) (λ i. refl) 0 (length (w .routes)),
+      records-length 3 2 (serviceRules w) (λ i. refl) 0 (length (w .calendar)),
+      records-length 4 4 (tripRules w) (λ i. refl) 0 (length (w .trips)),
+      records-length 5 6 (timeRules w) (λ i. refl) 0 (length (w .stopTimes)),
+    )
+
+-- a feed that reads is not refused
+never-refused : (p : Place) (ds : List Finding) (list : List ℤ) (r : Refusal) → answerOf p ds list ≡ Refused r → ⊥
+unfolding answerOf
+never-refused p ds list r = go (eqb (length ds) 0) _ _
+  where
+    go : (t : Bool) (written total : ℕ) → cond t Accepted (Findings written total) ≡ Refused r → ⊥
+    go true n m e = let z : _≡_ {A = ℕ} 0 1 = cc in omega arith
+    go false n m e = let z : _≡_ {A = ℕ} 0 1 = cc in omega arith
+
+module _ (files : List (List ℕ)) (tables : List (List ℤ)) (list : List ℤ) (p : Place) where
+  -- The answer refuses exactly what the verdict does.
+  pub refused-answer : (r : Refusal) → outcome files tables list p .answer ≡ Refused r ↔ verdictOf files (map length tables) ≡ Unreadable r
+  unfolding outcome readOutcome
+  refused-answer r = (λ e. there (verdictOf files (map length tables)) refl e, λ e. rw e)
+    where
+      there : (v : Verdict) → verdictOf files (map length tables) ≡ v → refusedOr v (readOutcome files tables list p) tables list .answer ≡ Refused r → verdictOf files (map length tables) ≡ Unreadable r
+      there Readable k e = absurd (never-refused p (findingsOf (feedOf files)) list r e)
+      there (Unreadable s) k e = cc
+
+  -- A refused feed leaves every table and the list as lent.
+  pub refused-untouched : (r : Refusal) → outcome files tables list p .answer ≡ Refused r → (outcome files tables list p .tables ≡ tables) × (outcome files tables list p .list ≡ list)
+  unfolding outcome
+  refused-untouched r e = let v = refused-answer r .0 e in (rw v, rw v)

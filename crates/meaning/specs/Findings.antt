@@ -1,0 +1,73 @@
+-- The list of findings, and what a call hands out of it.
+use Prim.Native.Nat.{ℕ, _+_, _/_}
+use mathlib.Core.List.{List, [], _∷_}
+use mathlib.Core.Bool.{Bool, true, false, cond, not, _&&_, _||_}
+use lib.IntN.{ℤ, pos}
+use lib.Signed.{ltZ}
+use lib.ListN.{length, take}
+use lib.Dec.{eqb}
+use Rattle.meaning.specs.declared.Refusal.{Refusal}
+use Rattle.meaning.specs.declared.Place.{Place}
+use Rattle.meaning.specs.declared.Answer.{Answer}
+use Rattle.meaning.specs.declared.Answer.the-variants.{Accepted, Findings, Refused}
+use Rattle.meaning.specs.Lists.{keep, laid}
+use Rattle.meaning.specs.Tables.{Feed}
+use Rattle.meaning.specs.Refusals.{Claim}
+use Rattle.meaning.specs.Rules.{bindings}
+
+-- A finding is three numbers: file, line, rule.
+pub record Finding : Type 0 where
+  pub file : ℕ
+  pub line : ℕ
+  pub rule : ℕ
+
+abbrev pub finding : ℕ → ℕ → ℕ → Finding
+finding f n r = record { file = f; line = n; rule = r }
+
+-- the broken ones of a list of claims
+unfoldable pub listed : List Claim → List Finding
+listed [] = []
+listed (p ∷ r) =
+    let k = listed r in
+    cond (p .broken) (finding (p .file) (p .line) (p .number) ∷ k) k
+
+-- all findings of a feed
+unfoldable pub findingsOf : Feed → List Finding
+findingsOf w = listed (bindings w)
+
+-- three numbers strictly greater than three others, compared in that order
+unfoldable pub above : ℤ → ℤ → ℤ → ℤ → ℤ → ℤ → Bool
+above a b c x y z =
+    ltZ a x || (not (ltZ x a) && (ltZ b y || (not (ltZ y b) && ltZ c z)))
+
+-- a finding strictly greater than the starting place
+unfoldable pub after : Place → Finding → Bool
+after p d = above (p .file) (p .line) (p .rule) (pos (d .file)) (pos (d .line)) (pos (d .rule))
+
+-- what a call hands out: those after its starting place, as many as fit
+unfoldable pub page : Place → ℕ → List Finding → List Finding
+page p room ds = take room (keep (after p) ds)
+
+-- Room is the list's length divided by 3.
+unfoldable pub roomOf : List ℤ → ℕ
+roomOf lent = length lent / 3
+
+unfoldable pub triples : List Finding → List ℤ
+triples [] = []
+triples (d ∷ r) = pos (d .file) ∷ pos (d .line) ∷ pos (d .rule) ∷ triples r
+
+-- the lent list after the call: the rest stays unchanged
+unfoldable pub handed : Place → List Finding → List ℤ → List ℤ
+handed p ds lent = laid (triples (page p (roomOf lent) ds)) lent
+
+-- The answer tells how many were written and the total over the whole feed, whatever the start; accepted exactly when there is none.
+unfoldable pub answerOf : Place → List Finding → List ℤ → Answer
+answerOf p ds lent =
+    cond (eqb (length ds) 0) Accepted (Findings (length (page p (roomOf lent) ds)) (length ds))
+
+-- what document 01 calls each case of the answer, as seven numbers: verdict (0 accepted, 1 findings, 2 refused),
+-- the refusal's number, file, line and column, the findings written and their total
+unfoldable pub answerNumbers : Answer → List ℕ
+answerNumbers Accepted = 0 ∷ 0 ∷ 0 ∷ 0 ∷ 0 ∷ 0 ∷ 0 ∷ []
+answerNumbers (Findings written total) = 1 ∷ 0 ∷ 0 ∷ 0 ∷ 0 ∷ written ∷ total ∷ []
+answerNumbers (Refused r) = 2 ∷ r .number ∷ r .file ∷ r .line ∷ r .column ∷ 0 ∷ 0 ∷ []

@@ -1,0 +1,11 @@
+-- What document 01 means, one section a file, in its order.
+pub mod Lists
+pub mod Bytes
+pub mod Columns
+pub mod Forms
+pub mod Tables
+pub mod Refusals
+pub mod Rules
+pub mod Findings
+pub mod Outcome
+pub mod Promises

@@ -1,0 +1,172 @@
+-- Refusals.
+use Prim.Native.Nat.{ℕ, _+_, _*_, _-_}
+use mathlib.Core.List.{List, [], _∷_, _++_}
+use mathlib.Core.Bool.{Bool, true, false, cond, not, _&&_, _||_}
+use lib.ListN.{length, getD}
+use lib.Dec.{ltb, eqb}
+use Rattle.meaning.specs.declared.Column.{Column}
+use Rattle.meaning.specs.declared.Refusal.{Refusal}
+use Rattle.meaning.specs.declared.Verdict.{Verdict}
+use Rattle.meaning.specs.declared.Verdict.the-variants.{Readable, Unreadable}
+use Rattle.meaning.specs.Lists.{same, empty, some}
+use Rattle.meaning.specs.Bytes.{Line, linesOf, countLf, good, fields, values}
+use Rattle.meaning.specs.Columns.{Row, nameOf, columnOf, countOf, places, rowOf}
+use Rattle.meaning.specs.Forms.{shape}
+use Rattle.meaning.specs.Tables.{widthOf}
+
+-- a rule by its number, and whether it is broken at the place that is looked at
+pub record Test : Type 0 where
+  pub number : ℕ
+  pub broken : Bool
+
+abbrev pub test : ℕ → Bool → Test
+test n b = record { number = n; broken = b }
+
+-- a rule, a place, and whether it is broken there
+pub record Claim : Type 0 where
+  pub number : ℕ
+  pub file : ℕ
+  pub line : ℕ
+  pub broken : Bool
+
+abbrev pub claim : ℕ → ℕ → ℕ → Bool → Claim
+claim n f l b = record { number = n; file = f; line = l; broken = b }
+
+-- the tests of line n of file f
+unfoldable pub onLine : ℕ → ℕ → List Test → List Claim
+onLine f n [] = []
+onLine f n (t ∷ r) = claim (t .number) f n (t .broken) ∷ onLine f n r
+
+-- 1: file longer than 16,777,216 bytes
+unfoldable pub rule1 : ℕ → List ℕ → ℕ → Bool
+rule1 f s room = ltb 16777216 (length s)
+
+-- 2: more than 65,536 LF bytes
+unfoldable pub rule2 : ℕ → List ℕ → ℕ → Bool
+rule2 f s room = ltb 65536 (countLf s)
+
+-- 3: table shorter than its width times the file's LF count
+unfoldable pub rule3 : ℕ → List ℕ → ℕ → Bool
+rule3 f s room = ltb room (widthOf f * countLf s)
+
+-- 4: last byte isn't LF, or the file is empty
+unfoldable pub rule4 : ℕ → List ℕ → ℕ → Bool
+rule4 f s room = eqb (length s) 0 || not (eqb (getD s (length s - 1) 0) 10)
+
+-- 5: tab, or CR outside an ending (a line's text has no ending)
+unfoldable pub rule5 : List ℕ → Bool
+rule5 [] = false
+rule5 (b ∷ r) = let k = rule5 r in cond (eqb b 9) true (cond (eqb b 13) true k)
+
+-- 6: quoting table says bad
+unfoldable pub rule6 : List ℕ → Bool
+rule6 l = not (good l)
+
+-- 7: more than 32 fields
+unfoldable pub rule7 : List ℕ → Bool
+rule7 l = ltb 32 (length (fields l))
+
+-- how often a name stands among a header's values
+unfoldable pub standings : List ℕ → List (List ℕ) → ℕ
+standings name [] = 0
+standings name (v ∷ r) = let k = standings name r in cond (same v name) (k + 1) k
+
+-- 8: a known name stands twice in the header
+unfoldable pub rule8 : ℕ → List (List ℕ) → Bool
+rule8 f header = some (λ k. ltb 1 (standings (nameOf f k) header)) 0 (countOf f)
+
+-- 9: a must-be-present name is missing
+unfoldable pub rule9 : ℕ → List (List ℕ) → Bool
+rule9 f header = some (λ k. columnOf f k .must && eqb (getD (places f header) k 0) 0) 0 (countOf f)
+
+-- 10: field count differs from the header's
+unfoldable pub rule10 : ℕ → List ℕ → Bool
+rule10 count l = not (eqb (length (fields l)) count)
+
+-- a value longer than 64 bytes under a column that bounds it
+unfoldable pub long : Column → List ℕ → Bool
+long c v = c .ident && ltb 64 (length v)
+
+-- an empty value where one is needed
+unfoldable pub blank : Column → List ℕ → Bool
+blank c v = c .need && empty v
+
+-- a value not of its form
+unfoldable pub formless : Column → List ℕ → Bool
+formless c v = not (empty v) && not (shape (c .form) v)
+
+-- does a test hold of the value under some of the first n known columns of file f
+unfoldable pub overRow : (Column → List ℕ → Bool) → ℕ → Row → ℕ → Bool
+overRow P f r n = some (λ k. P (columnOf f k) (getD r k [])) 0 n
+
+-- 11: a value under a known column named `..._id`, or parent_station, longer than 64 bytes
+unfoldable pub rule11 : ℕ → Row → Bool
+rule11 f r = overRow long f r (countOf f)
+
+-- 12: an empty value where one is needed
+unfoldable pub rule12 : ℕ → Row → Bool
+rule12 f r = overRow blank f r (countOf f)
+
+-- 13: a value not of its form
+unfoldable pub rule13 : ℕ → Row → Bool
+rule13 f r = overRow formless f r (countOf f)
+
+-- the tests of any line, in the order in which they speak
+unfoldable pub textTests : List ℕ → List Test
+textTests l = test 5 (rule5 l) ∷ test 6 (rule6 l) ∷ test 7 (rule7 l) ∷ []
+
+-- the tests of a header
+unfoldable pub headTests : ℕ → List ℕ → List Test
+headTests f h = textTests h ++ (test 8 (rule8 f (values h)) ∷ test 9 (rule9 f (values h)) ∷ [])
+
+-- the tests of what a line says
+unfoldable pub rowTests : ℕ → Row → List Test
+rowTests f r = test 11 (rule11 f r) ∷ test 12 (rule12 f r) ∷ test 13 (rule13 f r) ∷ []
+
+-- the tests of a line after the header, whose names stand in the columns ps and whose fields are count
+unfoldable pub lineTests : ℕ → List ℕ → ℕ → List ℕ → List Test
+lineTests f ps count l = textTests l ++ (test 10 (rule10 count l) ∷ rowTests f (rowOf ps l))
+
+-- lines in order, from line n
+unfoldable pub onLines : ℕ → List ℕ → ℕ → ℕ → List Line → List Claim
+onLines f ps count n [] = []
+onLines f ps count n (l ∷ r) = onLine f n (lineTests f ps count (l .text)) ++ onLines f ps count (n + 1) r
+
+-- a file: its header, then its lines
+unfoldable pub inFile : ℕ → List Line → List Claim
+inFile f [] = []
+inFile f (h ∷ r) =
+    onLine f 1 (headTests f (h .text))
+    ++ onLines f (places f (values (h .text))) (length (fields (h .text))) 2 r
+
+-- files are read in order, from file f
+unfoldable pub inFiles : ℕ → List (List ℕ) → List Claim
+inFiles f [] = []
+inFiles f (s ∷ r) = inFile f (linesOf s) ++ inFiles (f + 1) r
+
+-- one rule of whole files over the files, from file f, each with its table's length
+unfoldable pub overFiles : ℕ → (ℕ → List ℕ → ℕ → Bool) → ℕ → List (List ℕ) → List ℕ → List Claim
+overFiles n P f [] rooms = []
+overFiles n P f (s ∷ r) [] = []
+overFiles n P f (s ∷ r) (m ∷ rooms) = claim n f 0 (P f s m) ∷ overFiles n P (f + 1) r rooms
+
+-- Rules 1 to 4 go rule by rule, each over files 1 to 5. Then files are read in order, lines in order, and on one line the lowest number speaks.
+unfoldable pub claims : List (List ℕ) → List ℕ → List Claim
+claims files rooms =
+    overFiles 1 rule1 1 files rooms
+    ++ (overFiles 2 rule2 1 files rooms
+    ++ (overFiles 3 rule3 1 files rooms
+    ++ (overFiles 4 rule4 1 files rooms
+    ++ inFiles 1 files)))
+
+abbrev pub refusal : Claim → Refusal
+refusal p = record { number = p .number; file = p .file; line = p .line; column = 0 }
+
+-- the first that is broken speaks
+unfoldable pub speaks : List Claim → Verdict
+speaks [] = Readable
+speaks (p ∷ r) = let k = speaks r in cond (p .broken) (Unreadable (refusal p)) k
+
+-- can five files be read, with tables of these lengths
+unfoldable pub verdictOf : List (List ℕ) → List ℕ → Verdict
+verdictOf files rooms = speaks (claims files rooms)

@@ -1,0 +1,226 @@
+-- Binding rules, tested only when all five files read. A rule looks at the line with index i of a file's rows, which is line i + 2.
+use Prim.Native.Nat.{ℕ, zero, suc, _+_, _-_}
+use mathlib.Core.List.{List, [], _∷_, _++_, map}
+use mathlib.Core.Bool.{Bool, true, false, cond, not, _&&_, _||_}
+use lib.ListN.{length, getD, take}
+use lib.Dec.{leb, ltb, eqb}
+use Rattle.meaning.specs.declared.Number.{Number}
+use Rattle.meaning.specs.declared.Number.the-variants.{Value, NoNumber}
+use Rattle.meaning.specs.declared.Time.{Time}
+use Rattle.meaning.specs.declared.Time.the-variants.{Seconds, Untimed, NoTime}
+use Rattle.meaning.specs.declared.Date.{Date}
+use Rattle.meaning.specs.declared.Date.the-variants.{Day, NoDate}
+use Rattle.meaning.specs.declared.Choice.{Choice}
+use Rattle.meaning.specs.declared.Choice.the-variants.{Picked, NoChoice}
+use Rattle.meaning.specs.Lists.{same, empty, keep, firstHas, lastHas, stands}
+use Rattle.meaning.specs.Columns.{Row}
+use Rattle.meaning.specs.Forms.{timeOf, dateOf, sequenceOf, choiceOf}
+use Rattle.meaning.specs.Tables.{Feed, stopIds, routeIds, serviceIds, tripIds, refer, stopId, locationType, parentStation, routeShortName, routeLongName, startDate, endDate, tripRoute, tripService, tripId, timeTrip, arrivalTime, departureTime, timeStop, stopSequence, timepoint, oneIf}
+use Rattle.meaning.specs.Refusals.{Test, test, Claim, onLine}
+
+-- the row with index i
+abbrev pub row : List Row → ℕ → Row
+row rs i = getD rs i []
+
+-- 20 (files 1 to 4): the id stands on an earlier line of its file
+unfoldable pub rule20 : List (List ℕ) → ℕ → Bool
+rule20 ids i = stands (getD ids i []) (take i ids)
+
+-- a non-empty reference names no line
+unfoldable pub dangling : List ℕ → List (List ℕ) → Bool
+dangling v ids = not (empty v) && not (stands v ids)
+
+-- 21 (1, 4, 5): a non-empty reference names no line; one finding even if two do
+unfoldable pub rule21·stops : Feed → ℕ → Bool
+rule21·stops w i = dangling (parentStation (row (w .stops) i)) (stopIds w)
+
+unfoldable pub rule21·trips : Feed → ℕ → Bool
+rule21·trips w i =
+    dangling (tripRoute (row (w .trips) i)) (routeIds w)
+    || dangling (tripService (row (w .trips) i)) (serviceIds w)
+
+unfoldable pub rule21·times : Feed → ℕ → Bool
+rule21·times w i =
+    dangling (timeTrip (row (w .stopTimes) i)) (tripIds w)
+    || dangling (timeStop (row (w .stopTimes) i)) (stopIds w)
+
+-- the location_type of a stops row: empty means 0
+unfoldable pub kindOf : Row → ℕ
+kindOf r = oneIf (choiceOf 2 (locationType r))
+
+-- the type of the stop that a reference resolves to isn't m
+unfoldable pub otherKind : Feed → ℕ → List ℕ → Bool
+otherKind w m v =
+    let k = refer v (stopIds w) in
+    not (eqb k 0) && not (eqb (kindOf (row (w .stops) (k - 1))) m)
+
+-- 22 (1): a type 1 stop has a parent; a type 2 stop has none; or a parent that resolves isn't type 1
+unfoldable pub rule22 : Feed → ℕ → Bool
+rule22 w i =
+    let r = row (w .stops) i in
+    let none = empty (parentStation r) in
+    eqb (kindOf r) 1 && not none || (eqb (kindOf r) 2 && none || otherKind w 1 (parentStation r))
+
+-- 23 (5): the resolved stop isn't type 0
+unfoldable pub rule23 : Feed → ℕ → Bool
+rule23 w i = otherKind w 0 (timeStop (row (w .stopTimes) i))
+
+abbrev pub dayOf : Date → ℕ
+dayOf (Day n) = n
+dayOf NoDate = 0
+
+-- 24 (3): end before start
+unfoldable pub rule24 : Feed → ℕ → Bool
+rule24 w i =
+    let r = row (w .calendar) i in
+    ltb (dayOf (dateOf (endDate r))) (dayOf (dateOf (startDate r)))
+
+-- 25 (2): both route names empty
+unfoldable pub rule25 : Feed → ℕ → Bool
+rule25 w i =
+    let r = row (w .routes) i in
+    empty (routeShortName r) && empty (routeLongName r)
+
+-- a time is given
+abbrev pub given : Time → Bool
+given (Seconds n) = true
+given Untimed = false
+given NoTime = false
+
+abbrev pub secondsOf : Time → ℕ
+secondsOf (Seconds n) = n
+secondsOf Untimed = 0
+secondsOf NoTime = 0
+
+unfoldable pub arrives : Row → ℕ
+arrives r = secondsOf (timeOf (arrivalTime r))
+
+unfoldable pub departs : Row → ℕ
+departs r = secondsOf (timeOf (departureTime r))
+
+-- a timed line has both times
+unfoldable pub timed : Row → Bool
+timed r = given (timeOf (arrivalTime r)) && given (timeOf (departureTime r))
+
+unfoldable pub untimed : Row → Bool
+untimed r = not (timed r)
+
+abbrev pub isOne : Choice → Bool
+isOne (Picked n) = eqb n 1
+isOne NoChoice = false
+
+-- 26 (5): just one time given, or timepoint 1 without both
+unfoldable pub rule26 : Feed → ℕ → Bool
+rule26 w i =
+    let r = row (w .stopTimes) i in
+    let one = given (timeOf (arrivalTime r)) || given (timeOf (departureTime r)) in
+    untimed r && (one || isOne (choiceOf 1 (timepoint r)))
+
+-- 27 (5): both given, departure before arrival
+unfoldable pub rule27 : Feed → ℕ → Bool
+rule27 w i =
+    let r = row (w .stopTimes) i in
+    timed r && ltb (departs r) (arrives r)
+
+abbrev pub valueOf : Number → ℕ
+valueOf (Value n) = n
+valueOf NoNumber = 0
+
+unfoldable pub sequence : Row → ℕ
+sequence r = valueOf (sequenceOf (stopSequence r))
+
+-- "Same trip" means equal trip_id values: the lines of a trip. Trip order is file order.
+unfoldable pub ofTrip : List ℕ → List Row → List Row
+ofTrip v rs = keep (λ r. same (timeTrip r) v) rs
+
+-- the earlier lines of the same trip, of which the last is the nearest
+unfoldable pub earlier : Feed → ℕ → List Row
+earlier w i = ofTrip (timeTrip (row (w .stopTimes) i)) (take i (w .stopTimes))
+
+-- 28 (5): sequence not above that of the nearest earlier line of the same trip
+unfoldable pub rule28 : Feed → ℕ → Bool
+rule28 w i =
+    let r = row (w .stopTimes) i in
+    lastHas (λ e. leb (sequence r) (sequence e)) (earlier w i)
+
+-- 29 (5): a timed line arrives before the departure of the nearest earlier timed line of the same trip
+unfoldable pub rule29 : Feed → ℕ → Bool
+rule29 w i =
+    let r = row (w .stopTimes) i in
+    timed r && lastHas (λ e. ltb (arrives r) (departs e)) (keep timed (earlier w i))
+
+-- the stop_times lines of the trip on a line of file 4
+unfoldable pub ofTripLine : Feed → ℕ → List Row
+ofTripLine w i = ofTrip (tripId (row (w .trips) i)) (w .stopTimes)
+
+-- Rules 30 and 31 concern only the first line of each trip_id.
+unfoldable pub firstOfTrip : Feed → ℕ → Bool
+firstOfTrip w i = not (rule20 (tripIds w) i)
+
+-- 30 (4): fewer than two stop_times lines
+unfoldable pub rule30 : Feed → ℕ → Bool
+rule30 w i = firstOfTrip w i && ltb (length (ofTripLine w i)) 2
+
+-- 31 (4): its first or last stop_times line isn't timed; not tested with none
+unfoldable pub rule31 : Feed → ℕ → Bool
+rule31 w i = firstOfTrip w i && (firstHas untimed (ofTripLine w i) || lastHas untimed (ofTripLine w i))
+
+-- the rules of a line of each file, in the order of their numbers
+unfoldable pub stopRules : Feed → ℕ → List Test
+stopRules w i = test 20 (rule20 (stopIds w) i) ∷ test 21 (rule21·stops w i) ∷ test 22 (rule22 w i) ∷ []
+
+unfoldable pub routeRules : Feed → ℕ → List Test
+routeRules w i = test 20 (rule20 (routeIds w) i) ∷ test 25 (rule25 w i) ∷ []
+
+unfoldable pub serviceRules : Feed → ℕ → List Test
+serviceRules w i = test 20 (rule20 (serviceIds w) i) ∷ test 24 (rule24 w i) ∷ []
+
+unfoldable pub tripRules : Feed → ℕ → List Test
+tripRules w i =
+    test 20 (rule20 (tripIds w) i)
+    ∷ test 21 (rule21·trips w i)
+    ∷ test 30 (rule30 w i)
+    ∷ test 31 (rule31 w i)
+    ∷ []
+
+unfoldable pub timeRules : Feed → ℕ → List Test
+timeRules w i =
+    test 21 (rule21·times w i)
+    ∷ test 23 (rule23 w i)
+    ∷ test 26 (rule26 w i)
+    ∷ test 27 (rule27 w i)
+    ∷ test 28 (rule28 w i)
+    ∷ test 29 (rule29 w i)
+    ∷ []
+
+-- how many records a file has
+unfoldable pub recordCounts : Feed → List ℕ
+recordCounts w =
+    0
+    ∷ length (w .stops)
+    ∷ length (w .routes)
+    ∷ length (w .calendar)
+    ∷ length (w .trips)
+    ∷ length (w .stopTimes)
+    ∷ []
+
+unfoldable pub recordCount : Feed → ℕ → ℕ
+recordCount w f = getD (recordCounts w) f 0
+
+-- the rules of file f
+unfoldable pub rulesOf : Feed → ℕ → ℕ → List Test
+rulesOf w f =
+    getD ((λ i. []) ∷ stopRules w ∷ routeRules w ∷ serviceRules w ∷ tripRules w ∷ timeRules w ∷ []) f (λ i. [])
+
+-- the rules of n lines of file f, from index i on
+unfoldable pub onRecords : ℕ → (ℕ → List Test) → ℕ → ℕ → List Claim
+onRecords f rules i zero = []
+onRecords f rules i (suc n) = onLine f (i + 2) (rules i) ++ onRecords f rules (i + 1) n
+
+-- every rule of file f on every line
+unfoldable pub bindingsOf : Feed → ℕ → List Claim
+bindingsOf w f = onRecords f (rulesOf w f) 0 (recordCount w f)
+
+-- every rule on every line of every file, in order of file, line, rule
+unfoldable pub bindings : Feed → List Claim
+bindings w = bindingsOf w 1 ++ (bindingsOf w 2 ++ (bindingsOf w 3 ++ (bindingsOf w 4 ++ bindingsOf w 5)))

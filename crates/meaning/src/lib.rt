@@ -1,0 +1,74 @@
+// The types that definitions and code share.
+
+// Where something starts and where it ends, the end excluded.
+pub struct Bounds {
+    pub start: usize,
+    pub end: usize,
+}
+
+// What document 01 asks of a known column.
+pub struct Column {
+    pub must: bool,
+    pub need: bool,
+    pub ident: bool,
+    pub form: u8,
+}
+
+// What a run of digits writes.
+pub enum Number {
+    Value(u32),
+    NoNumber,
+}
+
+// What the value of a time says: seconds, nothing, or that it is no time.
+pub enum Time {
+    Seconds(u32),
+    Untimed,
+    NoTime,
+}
+
+// What the value of a date says: the number YYYYMMDD, or that it is no date.
+pub enum Date {
+    Day(u32),
+    NoDate,
+}
+
+// What the value of a coordinate says: ten-millionths of a degree, or that it is no coordinate.
+pub enum Degrees {
+    TenMillionths(i32),
+    NoDegrees,
+}
+
+// What the value of a choice says: its number, or that it is none of those offered.
+pub enum Choice {
+    Picked(u32),
+    NoChoice,
+}
+
+// A refusal: the number of the broken rule, its file, its line (0 for a whole file) and its column (0: none is told).
+pub struct Refusal {
+    pub number: usize,
+    pub file: usize,
+    pub line: usize,
+    pub column: usize,
+}
+
+// Whether five files can be read.
+pub enum Verdict {
+    Readable,
+    Unreadable(Refusal),
+}
+
+// The starting place of a call: any three numbers.
+pub struct Place {
+    pub file: i32,
+    pub line: i32,
+    pub rule: i32,
+}
+
+// The answer of a check.
+pub enum Answer {
+    Accepted,
+    Findings { written: usize, total: usize },
+    Refused(Refusal),
+}
