@@ -1,0 +1,289 @@
+-- Laws of fields: stray bytes, the quoting table, the count of fields, and a cursor's step along a line.
+use mathlib.Core.Path.{_≡_, refl, sym, ap}
+use mathlib.Core.Bool.{Bool, true, false, cond}
+use mathlib.Core.List.{List, [], _∷_}
+use Prim.Native.Nat.{ℕ, zero, suc, _+_, _-_, _≤_, _<_, zero-le}
+use native.Mathlib.Numerals.{add-one}
+use native.Mathlib.Omega.{arith}
+use native.Mathlib.Nat.{add-zero}
+use lib.Dec.{eqb, ltb, leb→le}
+use lib.ListN.{length, getD, drop, length-drop}
+use lib.Seq.{drop-drop}
+use borrow.Author.Tests.{eq-eqb, ne-eqb, lt-ltb, le-ltb, eqb-true, ltb-true, ltb-false}
+use Rattle.meaning.specs.declared.Bounds.{Bounds}
+use Rattle.meaning.specs.Bytes.{bounds, part, start, classOf, quoting, endings, next, run, good, fieldsGo, fields, marked, content, undouble, value, valuesOf, values}
+use Rattle.meaning.specs.Columns.{fieldAt, cell}
+use Rattle.meaning.specs.Refusals.{rule5}
+use Rattle.text.specs.declared.Cursor.{Cursor}
+use Rattle.text.specs.declared.Step.the-variants.{Field, Done}
+use Rattle.text.specs.Fields.{fieldCount, fieldLen, stepAt, fieldsFrom, valuesFrom, FieldStands, Inside}
+use Rattle.text.proofs.Laws.{drop-next, drop-over, all, getD-all}
+
+-- a turn along the bytes, on whether a stray one is left
+module _ (s : List ℕ) (i : ℕ) (k : Bool) (inv : rule5 (drop i s) ≡ k) where
+  pub stray-tab : i < length s → getD s i 0 ≡ 9 → true ≡ k
+  unfolding rule5
+  stray-tab h e = rw (drop-next s i h, eq-eqb _ _ e) at inv
+
+  pub stray-cr : i < length s → (getD s i 0 ≡ 9 → ⊥) → getD s i 0 ≡ 13 → true ≡ k
+  unfolding rule5
+  stray-cr h d e = rw (drop-next s i h, ne-eqb _ _ d, eq-eqb _ _ e) at inv
+
+  pub stray-next : i < length s → (getD s i 0 ≡ 9 → ⊥) → (getD s i 0 ≡ 13 → ⊥) → rule5 (drop (i + 1) s) ≡ k
+  unfolding rule5
+  stray-next h d e = rw (drop-next s i h, ne-eqb _ _ d, ne-eqb _ _ e) at inv
+
+  pub stray-over : length s ≤ i → false ≡ k
+  unfolding rule5
+  stray-over h = rw (drop-over s i h) at inv
+
+pub next-lt : (q b : ℕ) → next q b < 5
+unfolding next quoting
+next-lt q b =
+    leb→le (suc (next q b)) 5
+    (getD-all (λ x. ltb x 5) 0 tt (getD quoting q [])
+    (getD-all (λ r. all (λ x. ltb x 5) r) [] tt quoting tt q)
+    (classOf b))
+
+pub next-at : (q b k : ℕ) → k ≡ classOf b → (getD (getD quoting q []) k 0 ≡ next q b) × (getD (getD quoting q []) k 0 < 5)
+unfolding next
+next-at q b k e = rw e (refl, next-lt q b)
+
+-- a turn along the bytes, on the last state, the count of fields and the end of this one
+module _ (s : List ℕ) (i : ℕ) (more : i < length s) (q q′ : ℕ) (to : q′ ≡ next q (getD s i 0)) (k : ℕ) where
+  pub run-turn : run q (drop i s) ≡ k → run q′ (drop (i + 1) s) ≡ k
+  unfolding run
+  run-turn inv = rw to (rw (drop-next s i more) at inv)
+
+  pub count-yes : (n : ℕ) → q′ ≡ start → n + fieldCount q (drop i s) ≡ k → n + 1 + fieldCount q′ (drop (i + 1) s) ≡ k
+  unfolding fieldCount
+  count-yes n t inv =
+      let z : fieldCount q (drop i s) ≡ fieldCount q′ (drop (i + 1) s) + 1 = rw (drop-next s i, ← to, eq-eqb _ _ t) in omega arith
+
+  pub count-no : (n : ℕ) → (q′ ≡ start → ⊥) → n + fieldCount q (drop i s) ≡ k → n + fieldCount q′ (drop (i + 1) s) ≡ k
+  unfolding fieldCount
+  count-no n t inv =
+      let z : fieldCount q (drop i s) ≡ fieldCount q′ (drop (i + 1) s) = rw (drop-next s i, ← to, ne-eqb _ _ t) in omega arith
+
+  pub field-yes : q′ ≡ start → i + fieldLen q (drop i s) ≡ k → i ≡ k
+  unfolding fieldLen
+  field-yes t inv =
+      let z : fieldLen q (drop i s) ≡ 0 = rw (drop-next s i, ← to, eq-eqb _ _ t) in omega arith
+
+  pub field-no : (q′ ≡ start → ⊥) → i + fieldLen q (drop i s) ≡ k → i + 1 + fieldLen q′ (drop (i + 1) s) ≡ k
+  unfolding fieldLen
+  field-no t inv =
+      let z : fieldLen q (drop i s) ≡ fieldLen q′ (drop (i + 1) s) + 1 = rw (drop-next s i, ← to, ne-eqb _ _ t) in omega arith
+
+module _ (s : List ℕ) (i : ℕ) (over : length s ≤ i) (q : ℕ) where
+  pub good-over : run q (drop i s) ≡ run start s → getD endings q false ≡ good s
+  unfolding run good
+  good-over inv = rw (← inv, drop-over s i over)
+
+  pub count-over : (n k : ℕ) → n + fieldCount q (drop i s) ≡ k + 1 → n ≡ k
+  unfolding fieldCount
+  count-over n k inv = let z : fieldCount q (drop i s) ≡ 1 = rw (drop-over s i over) in omega arith
+
+  pub field-over : (k : ℕ) → i + fieldLen q (drop i s) ≡ k → i ≡ k
+  unfolding fieldLen
+  field-over k inv = let z : fieldLen q (drop i s) ≡ 0 = rw (drop-over s i over) in omega arith
+
+-- as many fields as the count says
+go-count : (q st at : ℕ) (r : List ℕ) → length (fieldsGo q st at r) ≡ fieldCount q r
+unfolding fieldsGo fieldCount
+go-count q st at [] = refl
+go-count q st at (b ∷ r) = go (eqb (next q b) start) (go-count (next q b) (at + 1) (at + 1) r) (go-count (next q b) st (at + 1) r)
+  where
+    go : (t : Bool) → length (fieldsGo (next q b) (at + 1) (at + 1) r) ≡ fieldCount (next q b) r → length (fieldsGo (next q b) st (at + 1) r) ≡ fieldCount (next q b) r
+        → length (cond t (bounds st at ∷ fieldsGo (next q b) (at + 1) (at + 1) r) (fieldsGo (next q b) st (at + 1) r)) ≡ cond t (fieldCount (next q b) r + 1) (fieldCount (next q b) r)
+    go true x y = omega arith
+    go false x y = y
+
+pub fields-count : (l : List ℕ) → length (fields l) ≡ fieldCount start l
+unfolding fields
+fields-count l = go-count start 0 0 l
+
+pub count-first : (l : List ℕ) → 1 + fieldCount start l ≡ length (fields l) + 1
+count-first l = omega (arith, fields-count l)
+
+-- the end of a field lies within what is left
+field-within : (q : ℕ) (r : List ℕ) → fieldLen q r ≤ length r
+unfolding fieldLen
+field-within q [] = omega arith
+field-within q (b ∷ r) = go (eqb (next q b) start) (field-within (next q b) r)
+  where
+    go : (t : Bool) → fieldLen (next q b) r ≤ length r → cond t 0 (fieldLen (next q b) r + 1) ≤ suc (length r)
+    go true h = omega arith
+    go false h = omega arith
+
+pub end-within : (l : List ℕ) (at e : ℕ) → at ≤ length l → e ≡ at + fieldLen start (drop at l) → e ≤ length l
+end-within l at e h p = omega (arith, field-within start (drop at l), length-drop at l)
+
+-- what is left of the fields after one that ends at e, by what stands there
+abbrev after : ℕ → List ℕ → List Bounds
+after e [] = []
+after e (b ∷ r) = fieldsGo start (e + 1) (e + 1) r
+
+fields-step : (q st at : ℕ) (r : List ℕ) → fieldsGo q st at r ≡ bounds st (at + fieldLen q r) ∷ after (at + fieldLen q r) (drop (fieldLen q r) r)
+unfolding fieldsGo fieldLen
+fields-step q st at [] = rw (add-zero at)
+fields-step q st at (b ∷ r) = go (eqb (next q b) start) refl (fields-step (next q b) st (at + 1) r)
+  where
+    go : (t : Bool) → eqb (next q b) start ≡ t
+        → fieldsGo (next q b) st (at + 1) r ≡ bounds st (at + 1 + fieldLen (next q b) r) ∷ after (at + 1 + fieldLen (next q b) r) (drop (fieldLen (next q b) r) r)
+        → fieldsGo q st at (b ∷ r) ≡ bounds st (at + fieldLen q (b ∷ r)) ∷ after (at + fieldLen q (b ∷ r)) (drop (fieldLen q (b ∷ r)) (b ∷ r))
+    go true e ih = let z : next q b ≡ start = eqb-true (next q b) start e in rw (z, add-zero at)
+    go false e ih =
+        let k : at + (fieldLen (next q b) r + 1) ≡ at + 1 + fieldLen (next q b) r = omega arith in
+        rw (e, k, add-one (fieldLen (next q b) r)) ih
+
+-- where a field begins, the first field ends at its end, and the others are those from past it
+module _ (l : List ℕ) (at : ℕ) (within : at ≤ length l) (e : ℕ) (ends : e ≡ at + fieldLen start (drop at l)) where
+  after-from : after e (drop e l) ≡ fieldsFrom l (e + 1)
+  unfolding fieldsFrom
+  after-from = go (ltb e (length l)) refl
+    where
+      go : (t : Bool) → ltb e (length l) ≡ t → after e (drop e l) ≡ cond (ltb (length l) (e + 1)) [] (fieldsGo start (e + 1) (e + 1) (drop (e + 1) l))
+      go true t =
+          let h : e < length l = ltb-true e (length l) t in
+          rw (drop-next l e h, le-ltb (length l) (e + 1) (omega arith))
+      go false t =
+          let h : length l ≤ e = ltb-false e (length l) t in
+          rw (drop-over l e h, lt-ltb (length l) (e + 1) (omega arith))
+
+  pub from-step : fieldsFrom l at ≡ bounds at e ∷ fieldsFrom l (e + 1)
+  unfolding fieldsFrom
+  from-step =
+      let s : fieldsGo start at at (drop at l) ≡ bounds at e ∷ after e (drop e l) =
+      rw (ends, ← drop-drop (fieldLen start (drop at l)) at l) (fields-step start at at (drop at l)) in
+      rw (← after-from, le-ltb (length l) at within) s
+
+  pub values-step : valuesFrom l at ≡ value (part l (bounds at e)) ∷ valuesFrom l (e + 1)
+  unfolding valuesFrom valuesOf
+  values-step = rw from-step
+
+pub from-over : (l : List ℕ) (at : ℕ) → length l < at → fieldsFrom l at ≡ []
+unfolding fieldsFrom
+from-over l at h = rw (lt-ltb (length l) at h)
+
+pub values-over : (l : List ℕ) (at : ℕ) → length l < at → valuesFrom l at ≡ []
+unfolding valuesFrom valuesOf
+values-over l at h = rw (from-over l at h)
+
+pub from-start : (l : List ℕ) → fieldsFrom l 0 ≡ fields l
+unfolding fieldsFrom fields
+from-start l = rw (le-ltb (length l) 0 zero-le)
+
+pub values-start : (l : List ℕ) → valuesFrom l 0 ≡ values l
+unfolding valuesFrom values
+values-start l = rw (from-start l)
+
+-- a cursor's step, in the order of the code
+pub step-over : (l : List ℕ) (at : ℕ) → length l < at → Done ≡ stepAt l at
+unfolding stepAt
+step-over l at h = rw (lt-ltb (length l) at h)
+
+pub step-to : (l : List ℕ) (at e : ℕ) → at ≤ length l → e ≡ at + fieldLen start (drop at l) → Field at e (record { at = e + 1 }) ≡ stepAt l at
+unfolding stepAt
+step-to l at e h p = rw (le-ltb (length l) at h, ← p)
+
+-- a step that finds a field, from any byte
+pub field-found : (l : List ℕ) (at a e : ℕ) (n : Cursor) → stepAt l at ≡ Field a e n → FieldStands l at a e (n .at)
+unfolding stepAt
+field-found l at a e n p = go (ltb (length l) at) refl (at + fieldLen start (drop at l)) refl
+  where
+    go : (t : Bool) → ltb (length l) at ≡ t → (k : ℕ) → k ≡ at + fieldLen start (drop at l) → FieldStands l at a e (n .at)
+    go true t k q = let z : Done ≡ Field a e n = rw t at p in let w : _≡_ {A = ℕ} 0 1 = cc in absurd (omega arith)
+    go false t k q =
+        let h : at ≤ length l = ltb-false (length l) at t in
+        let z : Field at k (record { at = k + 1 }) ≡ Field a e n = rw q (rw t at p) in
+        let x : at ≡ a = cc in
+        let y : k ≡ e = cc in
+        let c : _≡_ {A = Cursor} (record { at = k + 1 }) n = cc in
+        let m : k + 1 ≡ n .at = ap (λ (v : Cursor). v .at) c in
+        record {
+          starts = sym x;
+          ordered = omega arith;
+          within = omega (arith, end-within l at k h q);
+          moves = omega arith;
+          fields = rw (← x, ← y, ← m) (from-step l at h k q);
+          values = rw (← x, ← y, ← m) (values-step l at h k q);
+        }
+
+-- a step that finds none
+pub field-none : (l : List ℕ) (at : ℕ) → stepAt l at ≡ Done → length l < at
+unfolding stepAt
+field-none l at p = go (ltb (length l) at) refl
+  where
+    go : (t : Bool) → ltb (length l) at ≡ t → length l < at
+    go true t = ltb-true (length l) at t
+    go false t =
+        let z : Field at (at + fieldLen start (drop at l)) (record { at = at + fieldLen start (drop at l) + 1 }) ≡ Done = rw t at p in
+        let w : _≡_ {A = ℕ} 0 1 = cc in omega arith
+
+pub fields-none : (l : List ℕ) (at : ℕ) → stepAt l at ≡ Done → fieldsFrom l at ≡ []
+fields-none l at p = from-over l at (field-none l at p)
+
+pub values-none : (l : List ℕ) (at : ℕ) → stepAt l at ≡ Done → valuesFrom l at ≡ []
+values-none l at p = values-over l at (field-none l at p)
+
+-- every field of what is left lies within the line
+go-inside : (q st at : ℕ) (r : List ℕ) (n : ℕ) → st ≤ at → at + length r ≡ n → (j : ℕ) → Inside n (getD (fieldsGo q st at r) j (bounds 0 0))
+unfolding fieldsGo
+go-inside q st at [] n h e zero = record { ordered = h; within = omega arith }
+go-inside q st at [] n h e (suc j) = record { ordered = omega arith; within = omega arith }
+go-inside q st at (b ∷ r) n h e j =
+    go (eqb (next q b) start) j
+    (go-inside (next q b) (at + 1) (at + 1) r n (omega arith) (omega arith))
+    (go-inside (next q b) st (at + 1) r n (omega arith) (omega arith))
+  where
+    go : (t : Bool) (j : ℕ)
+        → ((i : ℕ) → Inside n (getD (fieldsGo (next q b) (at + 1) (at + 1) r) i (bounds 0 0)))
+        → ((i : ℕ) → Inside n (getD (fieldsGo (next q b) st (at + 1) r) i (bounds 0 0)))
+        → Inside n (getD (cond t (bounds st at ∷ fieldsGo (next q b) (at + 1) (at + 1) r) (fieldsGo (next q b) st (at + 1) r)) j (bounds 0 0))
+    go true zero y x = record { ordered = h; within = omega arith }
+    go true (suc j) y x = y j
+    go false j y x = x j
+
+-- every field lies within its line, and so does the default
+pub fields-inside : (l : List ℕ) (j : ℕ) → Inside (length l) (getD (fields l) j (bounds 0 0))
+unfolding fields
+fields-inside l j = go-inside start 0 0 l (length l) (omega arith) (omega arith) j
+
+pub field-inside : (l : List ℕ) (p : ℕ) → Inside (length l) (fieldAt l p)
+unfolding fieldAt
+field-inside l p = go (eqb p 0)
+  where
+    go : (t : Bool) → Inside (length l) (cond t (bounds 0 0) (getD (fields l) (p - 1) (bounds 0 0)))
+    go true = record { ordered = omega arith; within = omega arith }
+    go false = fields-inside l (p - 1)
+
+-- as many values as fields
+values-of-count : (l : List ℕ) (ps : List Bounds) → length (valuesOf l ps) ≡ length ps
+unfolding valuesOf
+values-of-count l [] = refl
+values-of-count l (p ∷ r) = ap suc (values-of-count l r)
+
+pub values-count : (l : List ℕ) → length (values l) ≡ length (fields l)
+unfolding values
+values-count l = values-of-count l (fields l)
+
+-- each value is that of its field, and so is the default
+values-of-at : (l : List ℕ) (ps : List Bounds) (j : ℕ) → getD (valuesOf l ps) j [] ≡ value (part l (getD ps j (bounds 0 0)))
+unfolding valuesOf part value marked content undouble
+values-of-at l [] j = refl
+values-of-at l (p ∷ r) zero = refl
+values-of-at l (p ∷ r) (suc j) = values-of-at l r j
+
+pub values-at : (l : List ℕ) (j : ℕ) → getD (values l) j [] ≡ value (part l (getD (fields l) j (bounds 0 0)))
+unfolding values
+values-at l j = values-of-at l (fields l) j
+
+-- the value in a column, from the line's values
+pub cell-at : (l : List ℕ) (p : ℕ) → cell l p ≡ cond (eqb p 0) [] (getD (values l) (p - 1) [])
+unfolding cell fieldAt part value marked content undouble
+cell-at l p = go (eqb p 0)
+  where
+    go : (t : Bool) → value (part l (cond t (bounds 0 0) (getD (fields l) (p - 1) (bounds 0 0)))) ≡ cond t [] (getD (values l) (p - 1) [])
+    go true = refl
+    go false = sym (values-at l (p - 1))

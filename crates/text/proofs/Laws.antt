@@ -1,0 +1,75 @@
+-- Laws of byte strings and tables: one byte more, the end, parts, equality, and a test computed over a table.
+use mathlib.Core.Path.{_≡_, refl, sym, _∙_}
+use mathlib.Core.Bool.{Bool, true, false, _&&_}
+use mathlib.Core.List.{List, [], _∷_}
+use Prim.Native.Nat.{ℕ, zero, suc, _+_, _-_, _≤_, _<_}
+use native.Mathlib.Numerals.{add-one}
+use native.Mathlib.Omega.{arith}
+use lib.Dec.{T, eqb}
+use lib.ListN.{length, getD, take, drop, drop-of-length-le, length-take, length-drop}
+use lib.Seq.{drop-cons, drop-drop, take-take, take-nil}
+use borrow.Author.Tests.{eq-eqb, eqb-true}
+use Rattle.meaning.specs.Lists.{same}
+use Rattle.meaning.specs.Bytes.{bounds, part}
+use Rattle.meaning.proofs.ListLaws.{same-self, same-equal}
+
+-- one byte more: the code's i + 1
+pub drop-next : (s : List ℕ) (i : ℕ) → i < length s → drop i s ≡ getD s i 0 ∷ drop (i + 1) s
+drop-next s i h = rw (add-one, drop-cons s i 0)
+
+pub drop-over : (s : List ℕ) (i : ℕ) → length s ≤ i → drop i s ≡ []
+drop-over s i h = drop-of-length-le s {i = i} h
+
+-- parts
+pub drop-take : (m n : ℕ) (l : List ℕ) → drop m (take n l) ≡ take (n - m) (drop m l)
+drop-take zero n l = let z : n - 0 ≡ n = omega arith in rw z
+drop-take (suc m) zero l = let z : 0 - suc m ≡ 0 = omega arith in rw z
+drop-take (suc m) (suc n) [] = rw take-nil
+drop-take (suc m) (suc n) (x ∷ l) = let z : suc n - suc m ≡ n - m = omega arith in rw z (drop-take m n l)
+
+pub part-length : (s : List ℕ) (a e : ℕ) → e ≤ length s → length (part s (bounds a e)) ≡ e - a
+unfolding part
+part-length s a e h = omega (arith, length-take (e - a) (drop a s), length-drop a s)
+
+-- a part of a part, counted from the first byte of all
+pub part-part : (s : List ℕ) (a e st en : ℕ) → a + en ≤ e → part (part s (bounds a e)) (bounds st en) ≡ part s (bounds (a + st) (a + en))
+unfolding part
+part-part s a e st en h =
+    let k : a + en - (a + st) ≡ en - st = omega arith in
+    let j : en - st ≤ e - a - st = omega arith in
+    rw (k, drop-take st (e - a) (drop a s), take-take (en - st) (e - a - st) (drop st (drop a s)) j, drop-drop st a s)
+
+-- `same` is equality
+pub same-sym : (a b : List ℕ) → same a b ≡ same b a
+same-sym a b = go (same a b) (same b a) refl refl
+  where
+    go : (t u : Bool) → same a b ≡ t → same b a ≡ u → t ≡ u
+    go true true p q = refl
+    go false false p q = refl
+    go true false p q = let e : a ≡ b = same-equal a b p in sym (same-self a) ∙ rw (← e) at q
+    go false true p q = let e : b ≡ a = same-equal b a q in sym p ∙ rw e (same-self a)
+
+pub same-no : (a b : List ℕ) → (a ≡ b → ⊥) → same a b ≡ false
+same-no a b n = go (same a b) refl
+  where
+    go : (t : Bool) → same a b ≡ t → t ≡ false
+    go true p = absurd (n (same-equal a b p))
+    go false p = refl
+
+-- what a computed test shows of each element of a table, and of the default, holds at each index
+abbrev pub all {ℓ} : {A : Type ℓ} → (A → Bool) → List A → Bool
+all P [] = true
+all P (x ∷ r) = P x && all P r
+
+pub and-left : (a b : Bool) → T (a && b) → T a
+and-left true b t = tt
+and-left false b t = t
+
+pub and-right : (a b : Bool) → T (a && b) → T b
+and-right true b t = t
+and-right false b t = absurd t
+
+pub getD-all {ℓ} : {A : Type ℓ} (P : A → Bool) (d : A) → T (P d) → (l : List A) → T (all P l) → (i : ℕ) → T (P (getD l i d))
+getD-all P d k [] t i = k
+getD-all P d k (x ∷ r) t zero = and-left (P x) (all P r) t
+getD-all P d k (x ∷ r) t (suc i) = getD-all P d k r (and-right (P x) (all P r) t) i

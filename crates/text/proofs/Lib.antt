@@ -1,0 +1,5 @@
+-- The laws that the proofs apply, and that the crates above cite.
+pub mod Laws
+pub mod Lines
+pub mod Fields
+pub mod Values

@@ -1,0 +1,264 @@
+-- Laws of lines: the LF count, the mark at a file's start, and a step along a file.
+use mathlib.Core.Path.{_≡_, refl, sym, ap, _∙_}
+use mathlib.Core.Bool.{Bool, true, false, cond, not, _&&_}
+use mathlib.Core.List.{List, [], _∷_, _++_}
+use Prim.Native.Nat.{ℕ, zero, suc, _+_, _-_, _≤_, _<_}
+use native.Mathlib.Numerals.{add-one}
+use native.Mathlib.Omega.{arith}
+use native.Mathlib.Nat.{not-suc-le-zero, add-zero}
+use lib.Dec.{eqb, ltb}
+use lib.ListN.{length, getD, take, drop, length-drop, length-take, length-map, take-append-drop}
+use lib.Seq.{drop-drop}
+use borrow.Author.Tests.{eq-eqb, ne-eqb, lt-ltb, le-ltb, eqb-true, eqb-false, ltb-true, ltb-false}
+use Rattle.meaning.specs.Lists.{same}
+use Rattle.meaning.specs.Bytes.{bounds, leadingMark, startOf, countLf, cuts, endOf, lineOf, linesFrom, linesOf}
+use Rattle.meaning.specs.Refusals.{rule4}
+use Rattle.meaning.proofs.ListLaws.{same-equal}
+use Rattle.text.specs.declared.LineStep.the-variants.{Line, Done}
+use Rattle.text.specs.Lines.{toLf, lineTo, lineAt, LineStands}
+use Rattle.text.proofs.Laws.{drop-next, drop-over, same-no}
+
+-- a turn along the bytes, on how many LF are left and how far the first is
+module _ (s : List ℕ) (i : ℕ) (more : i < length s) where
+  pub countLf-yes : (n k : ℕ) → getD s i 0 ≡ 10 → n + countLf (drop i s) ≡ k → n + 1 + countLf (drop (i + 1) s) ≡ k
+  unfolding countLf
+  countLf-yes n k e inv =
+      let z : countLf (drop i s) ≡ countLf (drop (i + 1) s) + 1 = rw (drop-next s i, eq-eqb _ _ e) in omega arith
+
+  pub countLf-no : (n k : ℕ) → (getD s i 0 ≡ 10 → ⊥) → n + countLf (drop i s) ≡ k → n + countLf (drop (i + 1) s) ≡ k
+  unfolding countLf
+  countLf-no n k e inv =
+      let z : countLf (drop i s) ≡ countLf (drop (i + 1) s) = rw (drop-next s i, ne-eqb _ _ e) in omega arith
+
+  pub toLf-yes : (k : ℕ) → getD s i 0 ≡ 10 → i + toLf (drop i s) ≡ k → i ≡ k
+  unfolding toLf
+  toLf-yes k e inv = let z : toLf (drop i s) ≡ 0 = rw (drop-next s i, eq-eqb _ _ e) in omega arith
+
+  pub toLf-no : (k : ℕ) → (getD s i 0 ≡ 10 → ⊥) → i + toLf (drop i s) ≡ k → i + 1 + toLf (drop (i + 1) s) ≡ k
+  unfolding toLf
+  toLf-no k e inv = let z : toLf (drop i s) ≡ toLf (drop (i + 1) s) + 1 = rw (drop-next s i, ne-eqb _ _ e) in omega arith
+
+pub countLf-over : (s : List ℕ) (i n k : ℕ) → length s ≤ i → n + countLf (drop i s) ≡ k → n ≡ k
+unfolding countLf
+countLf-over s i n k h inv = let z : countLf (drop i s) ≡ 0 = rw (drop-over s i h) in omega arith
+
+pub toLf-over : (s : List ℕ) (i k : ℕ) → length s ≤ i → i + toLf (drop i s) ≡ k → i ≡ k
+unfolding toLf
+toLf-over s i k h inv = let z : toLf (drop i s) ≡ 0 = rw (drop-over s i h) in omega arith
+
+-- rule 4
+pub ended : (s : List ℕ) → 0 < length s → eqb (getD s (length s - 1) 0) 10 ≡ not (rule4 0 s 0)
+unfolding rule4
+ended s h = let n : length s ≡ 0 → ⊥ = λ z. omega arith in rw (ne-eqb (length s) 0 n) (go (eqb (getD s (length s - 1) 0) 10))
+  where
+    go : (t : Bool) → t ≡ not (not t)
+    go true = refl
+    go false = refl
+
+pub unended : (s : List ℕ) → length s ≤ 0 → false ≡ not (rule4 0 s 0)
+unfolding rule4
+unended [] h = refl
+unended (b ∷ r) h = absurd (not-suc-le-zero h)
+
+-- the mark at a file's start
+pub start-short : (s : List ℕ) → length s < 3 → 0 ≡ startOf s
+unfolding startOf leadingMark
+start-short s h = rw (same-no (take 3 s) leadingMark (λ e. omega (arith, length-take 3 s, ap length e)))
+
+start-test : (s : List ℕ) → 3 ≤ length s
+    → same (take 3 s) leadingMark ≡ (eqb (getD s 0 0) 0xEF && (eqb (getD s 1 0) 0xBB && eqb (getD s 2 0) 0xBF))
+unfolding same leadingMark
+start-test [] h = absurd (not-suc-le-zero h)
+start-test (a ∷ []) h = absurd (omega arith)
+start-test (a ∷ b ∷ []) h = absurd (omega arith)
+start-test (a ∷ b ∷ c ∷ r) h = go (eqb a 0xEF) (eqb b 0xBB) (eqb c 0xBF)
+  where
+    go : (x y z : Bool) → cond x (cond y (cond z true false) false) false ≡ (x && (y && z))
+    go true true true = refl
+    go true true false = refl
+    go true false z = refl
+    go false y z = refl
+
+module _ (s : List ℕ) (long : 3 ≤ length s) where
+  pub start-marked : getD s 0 0 ≡ 0xEF → getD s 1 0 ≡ 0xBB → getD s 2 0 ≡ 0xBF → 3 ≡ startOf s
+  unfolding startOf
+  start-marked x y z = rw (start-test s long, eq-eqb _ _ x, eq-eqb _ _ y, eq-eqb _ _ z)
+
+  pub start-first : (getD s 0 0 ≡ 0xEF → ⊥) → 0 ≡ startOf s
+  unfolding startOf
+  start-first x = rw (start-test s long, ne-eqb _ _ x)
+
+  pub start-second : getD s 0 0 ≡ 0xEF → (getD s 1 0 ≡ 0xBB → ⊥) → 0 ≡ startOf s
+  unfolding startOf
+  start-second x y = rw (start-test s long, eq-eqb _ _ x, ne-eqb _ _ y)
+
+  pub start-third : getD s 0 0 ≡ 0xEF → getD s 1 0 ≡ 0xBB → (getD s 2 0 ≡ 0xBF → ⊥) → 0 ≡ startOf s
+  unfolding startOf
+  start-third x y z = rw (start-test s long, eq-eqb _ _ x, eq-eqb _ _ y, ne-eqb _ _ z)
+
+-- the mark has no LF
+pub start-count : (s : List ℕ) → countLf (drop (startOf s) s) ≡ countLf s
+unfolding startOf countLf leadingMark
+start-count s = go (same (take 3 s) leadingMark) refl
+  where
+    go : (t : Bool) → same (take 3 s) leadingMark ≡ t → countLf (drop (cond t 3 0) s) ≡ countLf s
+    go false e = refl
+    go true e =
+        let p : take 3 s ≡ leadingMark = same-equal (take 3 s) leadingMark e in
+        ap countLf (ap (λ (l : List ℕ). l ++ drop 3 s) (sym p) ∙ take-append-drop 3 s)
+
+-- the line from `at` with its LF at e, in the order of the code
+module _ (s : List ℕ) (at e : ℕ) where
+  pub to-none : length s ≤ e → Done ≡ lineTo s at e
+  unfolding lineTo
+  to-none h = rw (le-ltb e (length s) h)
+
+  module _ (more : e < length s) where
+    pub to-cr : at < e → getD s (e - 1) 0 ≡ 13 → Line at (e - 1) (e + 1) ≡ lineTo s at e
+    unfolding lineTo endOf
+    to-cr h c = rw (lt-ltb e (length s) more, lt-ltb at e h, eq-eqb _ _ c)
+
+    pub to-lf : at < e → (getD s (e - 1) 0 ≡ 13 → ⊥) → Line at e (e + 1) ≡ lineTo s at e
+    unfolding lineTo endOf
+    to-lf h c = rw (lt-ltb e (length s) more, lt-ltb at e h, ne-eqb _ _ c)
+
+    pub to-empty : e ≤ at → Line at e (e + 1) ≡ lineTo s at e
+    unfolding lineTo endOf
+    to-empty h = rw (lt-ltb e (length s) more, le-ltb at e h)
+
+-- the lines from a byte on, by the first LF there
+cuts-end : (st at : ℕ) (r : List ℕ) → length r ≤ toLf r → cuts st at r ≡ []
+unfolding cuts toLf
+cuts-end st at [] h = refl
+cuts-end st at (b ∷ r) h = go (eqb b 10) refl (cuts-end st (at + 1) r)
+  where
+    go : (t : Bool) → eqb b 10 ≡ t → (length r ≤ toLf r → cuts st (at + 1) r ≡ []) → cuts st at (b ∷ r) ≡ []
+    go true e ih = let z : length (b ∷ r) ≤ 0 = rw e at h in absurd (not-suc-le-zero z)
+    go false e ih = let z : suc (length r) ≤ toLf r + 1 = rw e at h in rw e (ih (omega arith))
+
+cuts-step : (st at : ℕ) (r : List ℕ) → toLf r < length r
+    → cuts st at r ≡ bounds st (at + toLf r) ∷ cuts (at + toLf r + 1) (at + toLf r + 1) (drop (toLf r + 1) r)
+unfolding cuts toLf
+cuts-step st at [] h = absurd (not-suc-le-zero h)
+cuts-step st at (b ∷ r) h = go (eqb b 10) refl (cuts-step st (at + 1) r)
+  where
+    go : (t : Bool) → eqb b 10 ≡ t
+        → (toLf r < length r → cuts st (at + 1) r ≡ bounds st (at + 1 + toLf r) ∷ cuts (at + 1 + toLf r + 1) (at + 1 + toLf r + 1) (drop (toLf r + 1) r))
+        → cuts st at (b ∷ r) ≡ bounds st (at + toLf (b ∷ r)) ∷ cuts (at + toLf (b ∷ r) + 1) (at + toLf (b ∷ r) + 1) (drop (toLf (b ∷ r) + 1) (b ∷ r))
+    go true e ih = rw (e, add-zero at)
+    go false e ih =
+        let z : toLf r + 1 < suc (length r) = rw e at h in
+        let k : at + (toLf r + 1) ≡ at + 1 + toLf r = omega arith in
+        rw (e, k, add-one (toLf r + 1)) (ih (omega arith))
+
+pub lines-over : (s : List ℕ) (at : ℕ) → length s ≤ at → linesFrom s at ≡ []
+unfolding linesFrom cuts
+lines-over s at h = rw (drop-over s at h)
+
+ending-within : (s : List ℕ) (at e : ℕ) → at ≤ e → (at ≤ endOf s at e) × (endOf s at e ≤ e)
+unfolding endOf
+ending-within s at e h = go (ltb at e) refl (eqb (getD s (e - 1) 0) 13)
+  where
+    go : (t : Bool) → ltb at e ≡ t → (u : Bool) → (at ≤ cond (t && u) (e - 1) e) × (cond (t && u) (e - 1) e ≤ e)
+    go true p true = let z : at < e = ltb-true at e p in omega arith
+    go true p false = omega arith
+    go false p u = omega arith
+
+module _ (s : List ℕ) (at e : ℕ) (ends : e ≡ at + toLf (drop at s)) where
+  lines-none : length s ≤ e → linesFrom s at ≡ []
+  unfolding linesFrom
+  lines-none h =
+      let z : length (drop at s) ≤ toLf (drop at s) = omega (arith, length-drop at s) in
+      rw (cuts-end at at (drop at s) z)
+
+  lines-some : e < length s → linesFrom s at ≡ lineOf s (bounds at e) ∷ linesFrom s (e + 1)
+  unfolding linesFrom
+  lines-some h =
+      let z : toLf (drop at s) < length (drop at s) = omega (arith, length-drop at s) in
+      let d : at + (toLf (drop at s) + 1) ≡ at + toLf (drop at s) + 1 = omega arith in
+      let q : cuts at at (drop at s) ≡ bounds at e ∷ cuts (e + 1) (e + 1) (drop (e + 1) s) =
+      rw (ends, ← d, ← drop-drop (toLf (drop at s) + 1) at s) (rw d (cuts-step at at (drop at s) z)) in
+      rw q
+
+  to-found : (a x n : ℕ) → lineTo s at e ≡ Line a x n → LineStands s at a x n
+  unfolding lineTo lineOf
+  to-found a x n p = go (ltb e (length s)) refl
+    where
+      go : (t : Bool) → ltb e (length s) ≡ t → LineStands s at a x n
+      go false t = let z : Done ≡ Line a x n = rw t at p in let w : _≡_ {A = ℕ} 0 1 = cc in absurd (omega arith)
+      go true t =
+          let h : e < length s = ltb-true e (length s) t in
+          let z : Line at (endOf s at e) (e + 1) ≡ Line a x n = rw t at p in
+          let i : at ≡ a = cc in
+          let j : endOf s at e ≡ x = cc in
+          let k : e + 1 ≡ n = cc in
+          let w = ending-within s at e (omega arith) in
+          record {
+            starts = sym i;
+            ordered = omega arith;
+            before = omega arith;
+            within = omega arith;
+            lines = rw (← i, ← j, ← k) (lines-some h);
+          }
+
+  to-end : lineTo s at e ≡ Done → linesFrom s at ≡ []
+  unfolding lineTo
+  to-end p = go (ltb e (length s)) refl
+    where
+      go : (t : Bool) → ltb e (length s) ≡ t → linesFrom s at ≡ []
+      go false t = lines-none (ltb-false e (length s) t)
+      go true t =
+          let z : Line at (endOf s at e) (e + 1) ≡ Done = rw t at p in
+          let w : _≡_ {A = ℕ} 0 1 = cc in absurd (omega arith)
+
+-- a step that finds a line, from any byte
+pub line-found : (s : List ℕ) (at a e n : ℕ) → lineAt s at ≡ Line a e n → LineStands s at a e n
+unfolding lineAt
+line-found s at a e n p = to-found s at (at + toLf (drop at s)) refl a e n p
+
+-- a step that finds none
+pub line-none : (s : List ℕ) (at : ℕ) → lineAt s at ≡ Done → linesFrom s at ≡ []
+unfolding lineAt
+line-none s at p = to-end s at (at + toLf (drop at s)) refl p
+
+-- as many lines as LF bytes
+cuts-count : (st at : ℕ) (r : List ℕ) → length (cuts st at r) ≡ countLf r
+unfolding cuts countLf
+cuts-count st at [] = refl
+cuts-count st at (b ∷ r) = go (eqb b 10) (cuts-count (at + 1) (at + 1) r) (cuts-count st (at + 1) r)
+  where
+    go : (t : Bool) → length (cuts (at + 1) (at + 1) r) ≡ countLf r → length (cuts st (at + 1) r) ≡ countLf r
+        → length (cond t (bounds st at ∷ cuts (at + 1) (at + 1) r) (cuts st (at + 1) r)) ≡ cond t (countLf r + 1) (countLf r)
+    go true x y = omega arith
+    go false x y = y
+
+pub lines-count : (s : List ℕ) (at : ℕ) → length (linesFrom s at) ≡ countLf (drop at s)
+unfolding linesFrom
+lines-count s at = length-map (cuts at at (drop at s)) (lineOf s) ∙ cuts-count at at (drop at s)
+
+pub lines-all : (s : List ℕ) → length (linesOf s) ≡ countLf s
+unfolding linesOf
+lines-all s = lines-count s (startOf s) ∙ start-count s
+
+-- an LF counts
+pub count-some : (s : List ℕ) (i : ℕ) → i < length s → getD s i 0 ≡ 10 → 1 ≤ countLf s
+unfolding countLf
+count-some [] i h e = absurd (omega arith)
+count-some (b ∷ r) zero h e = rw (eq-eqb b 10 e) (omega arith)
+count-some (b ∷ r) (suc i) h e = go (eqb b 10) (count-some r i (omega arith) e)
+  where
+    go : (t : Bool) → 1 ≤ countLf r → 1 ≤ cond t (countLf r + 1) (countLf r)
+    go true ih = omega arith
+    go false ih = ih
+
+-- a file that keeps rule 4 has a line
+pub ended-count : (f : ℕ) (s : List ℕ) (room : ℕ) → rule4 f s room ≡ false → 1 ≤ countLf s
+unfolding rule4
+ended-count f s room p = go (eqb (length s) 0) refl (eqb (getD s (length s - 1) 0) 10) refl
+  where
+    go : (t : Bool) → eqb (length s) 0 ≡ t → (u : Bool) → eqb (getD s (length s - 1) 0) 10 ≡ u → 1 ≤ countLf s
+    go true t u q = let z : true ≡ false = rw t at p in let w : _≡_ {A = ℕ} 0 1 = cc in absurd (omega arith)
+    go false t false q = let z : true ≡ false = rw (t, q) at p in let w : _≡_ {A = ℕ} 0 1 = cc in absurd (omega arith)
+    go false t true q =
+        let n : length s ≡ 0 → ⊥ = eqb-false (length s) 0 t in
+        count-some s (length s - 1) (omega arith) (eqb-true _ 10 q)

@@ -1,0 +1,50 @@
+-- `text::lf_from` meets its contract.
+use Rattle.text.proofs.Lines.{toLf-yes, toLf-no, toLf-over}
+use Rattle.text.specs.Lines.{toLf}
+use mathlib.Core.Path.{_≡_, refl}
+use Prim.Native.Nat.{_≤_, _-_, _+_}
+use native.Mathlib.Omega.{arith}
+use lib.ListN.{length, drop}
+use Rattle.text.proofs.lf_from.Statement.{statement}
+use Rattle.text.proofs.lf_from.Tie as tie
+
+abbrev Inv-loop : tie.InvT-loop
+Inv-loop s at i₀ i = (at ≤ i) × (i + toLf (drop i s) ≡ at + toLf (drop at s))
+
+abbrev μ-loop : tie.MeasureT-loop
+μ-loop s at i₀ i = length s - i
+
+loop-holds : tie.Need-loop-holds Inv-loop μ-loop
+loop-holds c = (omega arith, refl)
+
+shared-slice-read-if1 : tie.Need-shared-slice-read-if1 Inv-loop μ-loop
+shared-slice-read-if1 c = omega arith
+
+returns : tie.Need-returns Inv-loop μ-loop
+returns c = (toLf-yes _ _ (c .before .before .loop-test .taken) _ (c .if1 .taken) (c .before .before .before .loop .inv .1), omega arith)
+
+add-i : tie.Need-add-i Inv-loop μ-loop
+add-i c = omega arith
+
+loop-less : tie.Need-loop-less Inv-loop μ-loop
+loop-less c = omega arith
+
+loop-again : tie.Need-loop-again Inv-loop μ-loop
+loop-again c = (omega arith, toLf-no _ _ (c .before .before .loop-test .taken) _ (c .if1 .left) (c .before .before .before .loop .inv .1))
+
+returns-2 : tie.Need-returns-2 Inv-loop μ-loop
+returns-2 c = (toLf-over _ _ _ (c .loop-test .left) (c .before .loop .inv .1), omega arith)
+
+pub lf-from-spec : {M : Type 1} → statement M
+lf-from-spec =
+    tie.close
+    (tie.spec
+    Inv-loop
+    μ-loop
+    loop-holds
+    shared-slice-read-if1
+    returns
+    add-i
+    loop-less
+    loop-again
+    returns-2)

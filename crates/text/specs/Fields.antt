@@ -1,0 +1,49 @@
+-- A step along the fields of a line.
+use Prim.Native.Nat.{ℕ, _+_, _≤_}
+use mathlib.Core.Path.{_≡_}
+use mathlib.Core.List.{List, [], _∷_}
+use mathlib.Core.Bool.{cond}
+use lib.ListN.{length, drop}
+use lib.Dec.{ltb, eqb}
+use Rattle.meaning.specs.declared.Bounds.{Bounds}
+use Rattle.meaning.specs.Bytes.{bounds, part, start, next, fieldsGo, value, valuesOf}
+use Rattle.text.specs.declared.Step.{Step}
+use Rattle.text.specs.declared.Step.the-variants.{Field, Done}
+
+-- how many fields a line has from a state on
+unfoldable pub fieldCount : ℕ → List ℕ → ℕ
+fieldCount q [] = 1
+fieldCount q (b ∷ r) = let k = fieldCount (next q b) r in cond (eqb (next q b) start) (k + 1) k
+
+-- how many bytes stand before the end of a field from a state on
+unfoldable pub fieldLen : ℕ → List ℕ → ℕ
+fieldLen q [] = 0
+fieldLen q (b ∷ r) = let k = fieldLen (next q b) r + 1 in cond (eqb (next q b) start) 0 k
+
+-- the step of a cursor that has come to `at`, where a field begins: none past the line's end
+unfoldable pub stepAt : List ℕ → ℕ → Step
+stepAt l at =
+    let e = at + fieldLen start (drop at l) in
+    cond (ltb (length l) at) Done (Field at e (record { at = e + 1 }))
+
+-- the fields from byte `at`, where one begins: none past the line's end
+unfoldable pub fieldsFrom : List ℕ → ℕ → List Bounds
+fieldsFrom l at = cond (ltb (length l) at) [] (fieldsGo start at at (drop at l))
+
+-- the values from byte `at`, where a field begins
+unfoldable pub valuesFrom : List ℕ → ℕ → List (List ℕ)
+valuesFrom l at = valuesOf l (fieldsFrom l at)
+
+-- what a step from `at` to a field tells: it is the first of the fields from there, the others are those from past its end, and all lies within the line
+pub record FieldStands (l : List ℕ) (at a e n : ℕ) : Type 0 where
+  pub starts : a ≡ at
+  pub ordered : a ≤ e
+  pub within : e ≤ length l
+  pub moves : n ≡ e + 1
+  pub fields : fieldsFrom l at ≡ bounds a e ∷ fieldsFrom l n
+  pub values : valuesFrom l at ≡ value (part l (bounds a e)) ∷ valuesFrom l n
+
+-- bounds that lie within n bytes
+pub record Inside (n : ℕ) (p : Bounds) : Type 0 where
+  pub ordered : p .start ≤ p .end
+  pub within : p .end ≤ n

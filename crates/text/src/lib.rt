@@ -1,0 +1,375 @@
+// From bytes to fields: lines and their endings, quoting, the line cursor, and values.
+ghost use mathlib.Core.Path.{_≡_};
+ghost use mathlib.Core.Bool.{not};
+ghost use Prim.Native.Nat.{_+_, _<_, _≤_};
+ghost use lib.ListN.{length, drop, getD};
+ghost use Rattle.meaning.specs.Lists.{same, empty};
+ghost use Rattle.meaning.specs.Bytes.{countLf, startOf, start, classOf, next, good, fields, marked, content, undouble, value};
+ghost use Rattle.meaning.specs.Forms.{noMark};
+ghost use Rattle.meaning.specs.Refusals.{rule4, rule5};
+ghost use Rattle.text.specs.Lines.{toLf, lineTo, lineAt};
+ghost use Rattle.text.specs.Fields.{fieldLen, stepAt};
+ghost use Rattle.text.specs.Values.{widthOf};
+
+// How many LF bytes stand in a file.
+pub fn count_lf(s: &[u8]) -> usize
+    ensures { λ r. ⌜ (r ≡ countLf (now (s .entry))) × (r ≤ length (now (s .entry))) ⌝ }
+{
+    let mut n: usize = 0;
+    let mut i = 0;
+    while i < s.len() {
+        if s[i] == b'\n' {
+            n += 1;
+        }
+        i += 1;
+    }
+    n
+}
+
+// Has every line its ending?
+pub fn ends_with_lf(s: &[u8]) -> bool
+    ensures { λ r. ⌜ r ≡ not (rule4 0 (now (s .entry)) 0) ⌝ }
+{
+    if 0 < s.len() {
+        let last = s.len() - 1;
+        return s[last] == b'\n';
+    }
+    false
+}
+
+// Where the first line starts: past a mark EF BB BF.
+pub fn body_start(s: &[u8]) -> usize
+    ensures { λ r. ⌜ (r ≡ startOf (now (s .entry))) × (r ≤ length (now (s .entry))) ⌝ }
+{
+    if s.len() < 3 {
+        return 0;
+    }
+    if s[0] != 0xEF {
+        return 0;
+    }
+    if s[1] != 0xBB {
+        return 0;
+    }
+    if s[2] != 0xBF {
+        return 0;
+    }
+    3
+}
+
+// What a step along a file finds: a line, from start to end without its ending, the next one starting at next; or no line any more.
+pub enum LineStep {
+    Line {
+        start: usize,
+        end: usize,
+        next: usize,
+    },
+    Done,
+}
+
+// Where the first LF from `at` on stands; the file's end where there is none.
+fn lf_from(s: &[u8], at: usize) -> usize
+    ensures { λ r. ⌜ (r ≡ at + toLf (drop at (now (s .entry)))) × (at ≤ r) ⌝ }
+{
+    let mut i = at;
+    while i < s.len() {
+        if s[i] == b'\n' {
+            return i;
+        }
+        i += 1;
+    }
+    i
+}
+
+// The line from `at` with its LF at e.
+fn line_to(s: &[u8], at: usize, e: usize) -> LineStep
+    requires { ⌜ at ≤ e ⌝ }
+    ensures { λ r. ⌜ r ≡ lineTo (now (s .entry)) at e ⌝ }
+{
+    if s.len() <= e {
+        return LineStep::Done;
+    }
+    let next = e + 1;
+    if at < e {
+        let last = e - 1;
+        if s[last] == b'\r' {
+            return LineStep::Line {
+                start: at,
+                end: last,
+                next,
+            };
+        }
+    }
+    LineStep::Line {
+        start: at,
+        end: e,
+        next,
+    }
+}
+
+// The line that begins at `at`.
+pub fn next_line(s: &[u8], at: usize) -> LineStep
+    ensures { λ r. ⌜ r ≡ lineAt (now (s .entry)) at ⌝ }
+{
+    let e = lf_from(s, at);
+    line_to(s, at, e)
+}
+
+// Is there a tab, or a CR outside an ending?
+pub fn has_stray(l: &[u8]) -> bool
+    ensures { λ r. ⌜ r ≡ rule5 (now (l .entry)) ⌝ }
+{
+    let mut i = 0;
+    while i < l.len() {
+        if l[i] == b'\t' {
+            return true;
+        }
+        if l[i] == b'\r' {
+            return true;
+        }
+        i += 1;
+    }
+    false
+}
+
+// The states of the quoting table, and a fifth for bad.
+const START: u8 = 0;
+
+const BARE: u8 = 1;
+
+const QUOTED: u8 = 2;
+
+const CLOSED: u8 = 3;
+
+const BAD: u8 = 4;
+
+// The quoting table: the next state by state and byte class.
+const QUOTING: [[u8; 3]; 5] = [
+    [START, QUOTED, BARE],
+    [START, BAD, BARE],
+    [QUOTED, CLOSED, QUOTED],
+    [START, QUOTED, BAD],
+    [BAD, BAD, BAD],
+];
+
+// Its last column: is the line's end good in a state?
+const ENDINGS: [bool; 5] = [true, true, false, true, false];
+
+// The byte classes: comma, mark, other.
+fn class_of(b: u8) -> usize
+    ensures { λ r. ⌜ (r ≡ classOf b) × (r < 3) ⌝ }
+{
+    if b == b',' {
+        return 0;
+    }
+    if b == b'"' {
+        return 1;
+    }
+    2
+}
+
+// The state after a byte.
+fn next_state(q: u8, b: u8) -> u8
+    requires { ⌜ q < 5 ⌝ }
+    ensures { λ r. ⌜ (r ≡ next q b) × (r < 5) ⌝ }
+{
+    let c = class_of(b);
+    let k = q as usize;
+    QUOTING[k][c]
+}
+
+// What one walk along a line tells: whether the quoting table calls it good, and how many fields it has.
+pub struct Measured {
+    pub good: bool,
+    pub fields: usize,
+}
+
+// One walk along a line.
+pub fn measure(l: &[u8]) -> Measured
+    ensures { λ r. ⌜ (r .good ≡ good (now (l .entry)))
+        × (r .fields ≡ length (fields (now (l .entry))))
+        × (1 ≤ r .fields)
+        × (r .fields ≤ length (now (l .entry)) + 1) ⌝ }
+{
+    let mut q = START;
+    let mut n: usize = 1;
+    let mut i = 0;
+    while i < l.len() {
+        q = next_state(q, l[i]);
+        if q == START {
+            n += 1;
+        }
+        i += 1;
+    }
+    let k = q as usize;
+    Measured {
+        good: ENDINGS[k],
+        fields: n,
+    }
+}
+
+// The end of the field that begins at `at`.
+pub fn field_end(l: &[u8], at: usize) -> usize
+    ensures { λ r. ⌜ (r ≡ at + fieldLen start (drop at (now (l .entry)))) × (at ≤ r) ⌝ }
+    ensures { λ r. ⌜ (at ≤ length (now (l .entry)) → r ≤ length (now (l .entry))) ⌝ }
+{
+    let mut q = START;
+    let mut i = at;
+    while i < l.len() {
+        q = next_state(q, l[i]);
+        if q == START {
+            return i;
+        }
+        i += 1;
+    }
+    i
+}
+
+// A place along a line, where a field begins.
+pub struct Cursor {
+    pub at: usize,
+}
+
+// What a step along a line finds: a field's bounds and the moved cursor, or no field any more.
+pub enum Step {
+    Field {
+        start: usize,
+        end: usize,
+        next: Cursor,
+    },
+    Done,
+}
+
+impl Cursor {
+    pub fn new() -> Self
+        ensures { λ r. ⌜ r .at ≡ 0 ⌝ }
+    {
+        Cursor { at: 0 }
+    }
+
+    // The next field.
+    pub fn next(self, l: &[u8]) -> Step
+        ensures { λ r. ⌜ r ≡ stepAt (now (l .entry)) (self .at) ⌝ }
+    {
+        let at = self.at;
+        if l.len() < at {
+            return Step::Done;
+        }
+        let end = field_end(l, at);
+        Step::Field {
+            start: at,
+            end,
+            next: Cursor { at: end + 1 },
+        }
+    }
+}
+
+// Is a raw field quoted?
+pub fn is_marked(raw: &[u8]) -> bool
+    ensures { λ r. ⌜ r ≡ marked (now (raw .entry)) ⌝ }
+{
+    if 0 < raw.len() {
+        return raw[0] == b'"';
+    }
+    false
+}
+
+// What stands inside the quotes of a raw field; all of a bare one.
+pub fn content_of(raw: &[u8]) -> &[u8]
+    ensures { λ r. ⌜ (now r ≡ content (now (raw .entry))) × (length (now r) ≤ length (now (raw .entry))) ⌝ }
+{
+    if is_marked(raw) {
+        if 1 < raw.len() {
+            let e = raw.len() - 1;
+            return &raw[1..e];
+        }
+        return &raw[..0];
+    }
+    raw
+}
+
+// How far a byte of a value reaches: a mark in quotes stands twice.
+fn width(q: bool, b: u8) -> usize
+    ensures { λ r. ⌜ (r ≡ widthOf q b) × (0 < r) × (r ≤ 2) ⌝ }
+{
+    if q && b == b'"' {
+        return 2;
+    }
+    1
+}
+
+// How many bytes the value of a raw field has.
+pub fn value_length(raw: &[u8]) -> usize
+    ensures { λ r. ⌜ (r ≡ length (value (now (raw .entry)))) × (r ≤ length (now (raw .entry))) ⌝ }
+{
+    let s = content_of(raw);
+    let q = is_marked(raw);
+    let mut n: usize = 0;
+    let mut i = 0;
+    while i < s.len() {
+        i += width(q, s[i]);
+        n += 1;
+    }
+    n
+}
+
+// Is the value of a raw field empty?
+pub fn is_empty_value(raw: &[u8]) -> bool
+    ensures { λ r. ⌜ r ≡ empty (value (now (raw .entry))) ⌝ }
+{
+    let s = content_of(raw);
+    s.len() == 0
+}
+
+// Are two contents, each quoted or not, equal by value?
+fn same_content(a: &[u8], qa: bool, b: &[u8], qb: bool) -> bool
+    ensures { λ r. ⌜ r ≡ same (undouble qa (now (a .entry))) (undouble qb (now (b .entry))) ⌝ }
+{
+    let mut i = 0;
+    let mut j = 0;
+    while i < a.len() {
+        if b.len() <= j {
+            return false;
+        }
+        if a[i] != b[j] {
+            return false;
+        }
+        i += width(qa, a[i]);
+        j += width(qb, b[j]);
+    }
+    b.len() <= j
+}
+
+// Are two raw fields equal by value?
+pub fn same_value(a: &[u8], b: &[u8]) -> bool
+    ensures { λ r. ⌜ r ≡ same (value (now (a .entry))) (value (now (b .entry))) ⌝ }
+{
+    same_content(content_of(a), is_marked(a), content_of(b), is_marked(b))
+}
+
+// Is the value of a raw field this name?
+pub fn is_name(raw: &[u8], name: &[u8]) -> bool
+    ensures { λ r. ⌜ r ≡ same (value (now (raw .entry))) (now (name .entry)) ⌝ }
+{
+    same_content(content_of(raw), is_marked(raw), name, false)
+}
+
+// Are two byte strings equal?
+pub fn same_bytes(a: &[u8], b: &[u8]) -> bool
+    ensures { λ r. ⌜ r ≡ same (now (a .entry)) (now (b .entry)) ⌝ }
+{
+    same_content(a, false, b, false)
+}
+
+// Is there no quotation mark?
+pub fn no_mark(s: &[u8]) -> bool
+    ensures { λ r. ⌜ r ≡ noMark (now (s .entry)) ⌝ }
+{
+    let mut i = 0;
+    while i < s.len() {
+        if s[i] == b'"' {
+            return false;
+        }
+        i += 1;
+    }
+    true
+}
