@@ -1,0 +1,2 @@
+-- The laws on digits.
+pub mod Laws

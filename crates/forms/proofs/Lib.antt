@@ -1,0 +1,2 @@
+-- The laws of value forms.
+pub mod Laws
