@@ -1,0 +1,2 @@
+-- Handing out findings one by one.
+pub mod Handing

@@ -1,0 +1,2 @@
+-- What this crate's proofs share with those above it.
+pub mod Laws

@@ -1,0 +1,3 @@
+-- What this crate's proofs share with those above it.
+pub mod Laws
+pub mod Records

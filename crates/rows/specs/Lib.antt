@@ -1,0 +1,2 @@
+-- What tables hold, by the places of their numbers.
+pub mod Cells
