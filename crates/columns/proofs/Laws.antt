@@ -1,0 +1,276 @@
+-- Laws of headers, of tables of ten, and of a line's fields under them.
+use mathlib.Core.Path.{_≡_, refl, sym, ap, _∙_}
+use mathlib.Core.Bool.{Bool, true, false, cond, _&&_}
+use mathlib.Core.List.{List, [], _∷_, map}
+use Prim.Native.Nat.{ℕ, zero, suc, _+_, _-_, _≤_, _<_}
+use native.Mathlib.Omega.{arith}
+use native.Mathlib.Numerals.{add-one}
+use native.Mathlib.Nat.{not-suc-le-zero}
+use lib.Dec.{eqb, ltb}
+use lib.ListN.{length, getD, drop, set, replicate, length-drop, List·getD-eq-default, List·getD-map, length-map}
+use lib.Seq.{getD-drop, drop-drop}
+use borrow.Author.Tests.{eq-eqb, ne-eqb, eqb-true, eqb-false, lt-ltb, le-ltb, ltb-true, ltb-false}
+use Rattle.meaning.specs.declared.Bounds.{Bounds}
+use Rattle.meaning.specs.Lists.{same, some, find}
+use Rattle.meaning.specs.Bytes.{bounds, part, marked, content, undouble, value, fields, values}
+use Rattle.meaning.specs.Columns.{unknown, schema, knownAt, nameOf, columnOf, countOf, places, fieldAt, cell, rowOf}
+use Rattle.meaning.specs.Refusals.{standings, rule9}
+use Rattle.text.specs.Fields.{fieldsFrom, valuesFrom, FieldStands}
+use Rattle.text.proofs.Fields.{from-over, from-start, values-over, values-start, field-inside}
+use Rattle.schema.proofs.Laws.{count-le}
+use Rattle.columns.specs.Columns.{tab, placesOf, lacking, noted, startsOf, endsOf, rowIn}
+
+-- a turn along the fields of a header: the test of this field's value, and what is left
+module _ (name h : List ℕ) (at a e m : ℕ) (stands : FieldStands h at a e m) (t : Bool) (test : t ≡ same (value (part h (bounds a e))) name) (n r : ℕ) where
+  pub find-here : find name n (valuesFrom h at) ≡ r → t ≡ true → n ≡ r
+  unfolding find
+  find-here inv q = rw (stands .values, ← test, q) at inv
+
+  pub find-next : find name n (valuesFrom h at) ≡ r → t ≡ false → find name (n + 1) (valuesFrom h m) ≡ r
+  unfolding find
+  find-next inv q = rw (stands .values, ← test, q) at inv
+
+  pub times-here : n + standings name (valuesFrom h at) ≡ r → t ≡ true → n + 1 + standings name (valuesFrom h m) ≡ r
+  unfolding standings
+  times-here inv q =
+      let z : standings name (valuesFrom h at) ≡ standings name (valuesFrom h m) + 1 = rw (stands .values, ← test, q) in omega arith
+
+  pub times-next : n + standings name (valuesFrom h at) ≡ r → t ≡ false → n + standings name (valuesFrom h m) ≡ r
+  unfolding standings
+  times-next inv q =
+      let z : standings name (valuesFrom h at) ≡ standings name (valuesFrom h m) = rw (stands .values, ← test, q) in omega arith
+
+pub find-over : (name h : List ℕ) (at n r : ℕ) → length h < at → find name n (valuesFrom h at) ≡ r → 0 ≡ r
+unfolding find
+find-over name h at n r g inv = rw (values-over h at g) at inv
+
+pub times-over : (name h : List ℕ) (at n r : ℕ) → length h < at → n + standings name (valuesFrom h at) ≡ r → n ≡ r
+unfolding standings
+times-over name h at n r g inv = let z : standings name (valuesFrom h at) ≡ 0 = rw (values-over h at g) in omega arith
+
+pub find-first : (name h : List ℕ) (at : ℕ) → at ≡ 0 → find name 1 (valuesFrom h at) ≡ find name 1 (values h)
+find-first name h at e = rw (e, values-start h)
+
+pub times-first : (name h : List ℕ) (at : ℕ) → at ≡ 0 → 0 + standings name (valuesFrom h at) ≡ standings name (values h)
+times-first name h at e = rw e (omega (arith, ap (standings name) (values-start h)))
+
+-- a loop over numbers, for a test that holds of some
+module _ (P : ℕ → Bool) (k n : ℕ) (r : Bool) (inv : some P k (n - k) ≡ r) where
+  pub some-over : n ≤ k → false ≡ r
+  unfolding some
+  some-over g = let z : n - k ≡ 0 = omega arith in rw z at inv
+
+  module _ (more : k < n) where
+    z : n - k ≡ suc (n - (k + 1))
+    z = omega arith
+
+    pub some-here : P k ≡ true → true ≡ r
+    unfolding some
+    some-here q = rw (z, q) at inv
+
+    pub some-next : P k ≡ false → some P (k + 1) (n - (k + 1)) ≡ r
+    unfolding some
+    some-next q = rw (z, q) at inv
+
+-- two tests that agree everywhere
+pub some-same : (P Q : ℕ → Bool) → ((k : ℕ) → P k ≡ Q k) → (k n : ℕ) → some P k n ≡ some Q k n
+unfolding some
+some-same P Q e k zero = refl
+some-same P Q e k (suc n) = rw (e k, some-same P Q e (k + 1) n)
+
+-- a table of ten, one place more
+tab-none : (g : ℕ → ℕ) (j i w : ℕ) → tab g j 0 w ≡ tab g i 0 w
+unfolding tab
+tab-none g j i zero = refl
+tab-none g j i (suc w) = ap (λ (l : List ℕ). 0 ∷ l) (tab-none g j i w)
+
+tab-suc : (g : ℕ → ℕ) (j k w : ℕ) → k < w → set (tab g j k w) k (g (j + k)) ≡ tab g j (suc k) w
+unfolding tab
+tab-suc g j k zero h = absurd (not-suc-le-zero h)
+tab-suc g j zero (suc w) h = let z : j + 0 ≡ j = omega arith in rw z (ap (λ (l : List ℕ). g j ∷ l) (tab-none g j (j + 1) w))
+tab-suc g j (suc k) (suc w) h =
+    let z : j + suc k ≡ j + 1 + k = omega arith in
+    rw z (ap (λ (l : List ℕ). g j ∷ l) (tab-suc g (j + 1) k w (omega arith)))
+
+pub tab-more : (g : ℕ → ℕ) (k w v : ℕ) → k < w → v ≡ g k → (l : List ℕ) → l ≡ tab g 0 k w → set l k v ≡ tab g 0 (k + 1) w
+tab-more g k w v h e l p = rw (p, e, add-one k) (let z : 0 + k ≡ k = omega arith in rw z at (tab-suc g 0 k w h))
+
+-- reading a table that is wide enough is reading what it is made from, where that is 0 from its end on
+tab-at : (g : ℕ → ℕ) (j n w k : ℕ) → n ≤ w → ((i : ℕ) → n ≤ i → g (j + i) ≡ 0) → getD (tab g j n w) k 0 ≡ g (j + k)
+unfolding tab
+tab-at g j n zero k h e = sym (e k (omega arith))
+tab-at g j zero (suc w) zero h e = sym (e 0 (omega arith))
+tab-at g j zero (suc w) (suc k) h e =
+    tab-at g j zero w k (omega arith) e ∙ (e k (omega arith) ∙ sym (e (suc k) (omega arith)))
+tab-at g j (suc n) (suc w) zero h e = let z : j + 0 ≡ j = omega arith in rw z
+tab-at g j (suc n) (suc w) (suc k) h e =
+    let z : j + suc k ≡ j + 1 + k = omega arith in
+    rw z (tab-at g (j + 1) n w k (omega arith) (λ i b. let y : j + 1 + i ≡ j + suc i = omega arith in rw y (e (suc i) (omega arith))))
+
+-- the column of a known name
+map-at : {A B : Type 0} (g : A → B) (l : List A) (k : ℕ) (d : B) (x : A) → k < length l → getD (map g l) k d ≡ g (getD l k x)
+map-at g [] k d x h = absurd (not-suc-le-zero h)
+map-at g (y ∷ l) zero d x h = refl
+map-at g (y ∷ l) (suc k) d x h = map-at g l k d x (omega arith)
+
+pub place-at : (f k : ℕ) (header : List (List ℕ)) → k < countOf f → find (nameOf f k) 1 header ≡ getD (places f header) k 0
+unfolding places countOf nameOf knownAt
+place-at f k header h = sym (map-at (λ x. find (x .name) 1 header) (schema f) k 0 unknown h)
+
+pub place-none : (f k : ℕ) (header : List (List ℕ)) → countOf f ≤ k → getD (places f header) k 0 ≡ 0
+unfolding places countOf
+place-none f k header h =
+    List·getD-eq-default (map (λ x. find (x .name) 1 header) (schema f)) 0 {n = k} (rw length-map h)
+
+-- the table of ten reads as the columns do
+pub places-at : (f : ℕ) (header : List (List ℕ)) (k : ℕ) → getD (placesOf f header) k 0 ≡ getD (places f header) k 0
+unfolding placesOf
+places-at f header k =
+    let z : 0 + k ≡ k = omega arith in
+    rw z at (tab-at (λ k. getD (places f header) k 0) 0 (countOf f) 10 k (count-le f)
+    (λ i b. let y : 0 + i ≡ i = omega arith in rw y (place-none f i header b)))
+
+pub lacking-is : (f : ℕ) (header : List (List ℕ)) → lacking f (placesOf f header) ≡ rule9 f header
+unfolding lacking rule9
+lacking-is f header =
+    some-same _ _ (λ k. ap (λ (p : ℕ). columnOf f k .must && eqb p 0) (places-at f header k)) 0 (countOf f)
+
+-- one known column more
+module _ (j v : ℕ) where
+  noted-yes : (ps : List ℕ) (k : ℕ) (xs : List ℕ) → k < length ps → getD ps k 0 ≡ j → set (noted ps j v k xs) k v ≡ noted ps j v (suc k) xs
+  unfolding noted
+  noted-yes [] k xs h e = absurd (not-suc-le-zero h)
+  noted-yes (p ∷ ps) zero [] h e = refl
+  noted-yes (p ∷ ps) (suc k) [] h e = refl
+  noted-yes (p ∷ ps) zero (x ∷ xs) h e = rw (eq-eqb p j e)
+  noted-yes (p ∷ ps) (suc k) (x ∷ xs) h e = ap (λ (l : List ℕ). cond (eqb p j) v x ∷ l) (noted-yes ps k xs (omega arith) e)
+
+  noted-no : (ps : List ℕ) (k : ℕ) (xs : List ℕ) → k < length ps → (getD ps k 0 ≡ j → ⊥) → noted ps j v k xs ≡ noted ps j v (suc k) xs
+  unfolding noted
+  noted-no [] k xs h e = absurd (not-suc-le-zero h)
+  noted-no (p ∷ ps) zero [] h e = refl
+  noted-no (p ∷ ps) (suc k) [] h e = refl
+  noted-no (p ∷ ps) zero (x ∷ xs) h e = rw (ne-eqb p j e)
+  noted-no (p ∷ ps) (suc k) (x ∷ xs) h e = ap (λ (l : List ℕ). cond (eqb p j) v x ∷ l) (noted-no ps k xs (omega arith) e)
+
+  module _ (ps : List ℕ) (k : ℕ) (more : k < length ps) (xs r : List ℕ) (inv : r ≡ noted ps j v k xs) where
+    pub note-yes : getD ps k 0 ≡ j → set r k v ≡ noted ps j v (k + 1) xs
+    note-yes e = rw (inv, add-one k) (noted-yes ps k xs more e)
+
+    pub note-no : (getD ps k 0 ≡ j → ⊥) → r ≡ noted ps j v (k + 1) xs
+    note-no e = rw (inv, add-one k) (noted-no ps k xs more e)
+
+-- what is known of a line's fields before field n: one part of each, and 0 for those to come
+unfoldable pub seen : (Bounds → ℕ) → List ℕ → ℕ → List ℕ → List ℕ
+seen g l n ps = map (λ p. cond (ltb p n) (g (fieldAt l p)) 0) ps
+
+part-of : (g : Bounds → ℕ) → g (bounds 0 0) ≡ 0 → (l : List ℕ) → g (fieldAt l 0) ≡ 0
+unfolding fieldAt
+part-of g z l = z
+
+pub seen-first : (g : Bounds → ℕ) → g (bounds 0 0) ≡ 0 → (l ps : List ℕ) (w : ℕ) → length ps ≡ w → replicate w 0 ≡ seen g l 1 ps
+unfolding seen
+seen-first g z l [] w e = rw (← e)
+seen-first g z l (p ∷ ps) w e = rw (← e) (go p (seen-first g z l ps (length ps) refl))
+  where
+    go : (p : ℕ) → replicate (length ps) 0 ≡ seen g l 1 ps → 0 ∷ replicate (length ps) 0 ≡ cond (ltb p 1) (g (fieldAt l p)) 0 ∷ seen g l 1 ps
+    go zero ih = rw (part-of g z l, ← ih)
+    go (suc p) ih = rw (le-ltb (suc p) 1 (omega arith), ← ih)
+
+pub seen-turn : (g : Bounds → ℕ) (l ps : List ℕ) (n w v : ℕ) → length ps ≤ w → v ≡ g (fieldAt l n) → noted ps n v w (seen g l n ps) ≡ seen g l (n + 1) ps
+unfolding seen noted
+seen-turn g l [] n zero v h e = refl
+seen-turn g l [] n (suc w) v h e = refl
+seen-turn g l (p ∷ ps) n zero v h e = absurd (not-suc-le-zero h)
+seen-turn g l (p ∷ ps) n (suc w) v h e = rw (seen-turn g l ps n w v (omega arith) e) (go (eqb p n) refl)
+  where
+    go : (t : Bool) → eqb p n ≡ t → cond (eqb p n) v (cond (ltb p n) (g (fieldAt l p)) 0) ∷ seen g l (n + 1) ps
+        ≡ cond (ltb p (n + 1)) (g (fieldAt l p)) 0 ∷ seen g l (n + 1) ps
+    go true t = let y : p ≡ n = eqb-true p n t in rw (t, y, lt-ltb n (n + 1) (omega arith), e)
+    go false t = let y : p ≡ n → ⊥ = eqb-false p n t in rw t (step (ltb p n) refl y)
+      where
+        step : (u : Bool) → ltb p n ≡ u → (p ≡ n → ⊥) → cond (ltb p n) (g (fieldAt l p)) 0 ∷ seen g l (n + 1) ps
+            ≡ cond (ltb p (n + 1)) (g (fieldAt l p)) 0 ∷ seen g l (n + 1) ps
+        step true u y = let x : p < n = ltb-true p n u in rw (u, lt-ltb p (n + 1) (omega arith))
+        step false u y = let x : n ≤ p = ltb-false p n u in rw (u, le-ltb p (n + 1) (omega arith))
+
+field-over : (l : List ℕ) (p : ℕ) → length (fields l) < p → fieldAt l p ≡ bounds 0 0
+unfolding fieldAt
+field-over l p h =
+    let z : p ≡ 0 → ⊥ = λ e. omega arith in
+    rw (ne-eqb p 0 z) (List·getD-eq-default (fields l) (bounds 0 0) {n = p - 1} (omega arith))
+
+pub seen-last : (g : Bounds → ℕ) → g (bounds 0 0) ≡ 0 → (l ps : List ℕ) (n : ℕ) → length (fields l) < n → seen g l n ps ≡ map (λ p. g (fieldAt l p)) ps
+unfolding seen
+seen-last g z l [] n h = refl
+seen-last g z l (p ∷ ps) n h = rw (seen-last g z l ps n h) (go (ltb p n) refl)
+  where
+    go : (t : Bool) → ltb p n ≡ t → cond (ltb p n) (g (fieldAt l p)) 0 ∷ map (λ p. g (fieldAt l p)) ps ≡ g (fieldAt l p) ∷ map (λ p. g (fieldAt l p)) ps
+    go true t = rw t
+    go false t = let y : n ≤ p = ltb-false p n t in rw (t, field-over l p (omega arith), z)
+
+-- a turn along the fields of a line, of which n is the next
+module _ (l : List ℕ) (at n : ℕ) (first : 1 ≤ n) (left : drop (n - 1) (fields l) ≡ fieldsFrom l at) where
+  pub field-here : (a e m : ℕ) → FieldStands l at a e m → fieldAt l n ≡ bounds a e
+  unfolding fieldAt
+  field-here a e m s =
+      let z : n ≡ 0 → ⊥ = λ e. omega arith in
+      let y : n - 1 + 0 ≡ n - 1 = omega arith in
+      rw (ne-eqb n 0 z) (sym (rw (left, s .fields, y) at (getD-drop (n - 1) (fields l) 0 (bounds 0 0))))
+
+  pub field-next : (a e m : ℕ) → FieldStands l at a e m → drop (n + 1 - 1) (fields l) ≡ fieldsFrom l m
+  field-next a e m s =
+      let y : n + 1 - 1 ≡ n - 1 + 1 = omega arith in
+      rw (y, ← drop-drop 1 (n - 1) (fields l), left, s .fields)
+
+  pub fields-over : length l < at → length (fields l) < n
+  fields-over h = let z : length (drop (n - 1) (fields l)) ≡ 0 = rw (left, from-over l at h) in omega (arith, length-drop (n - 1) (fields l))
+
+pub fields-first : (l : List ℕ) (at : ℕ) → at ≡ 0 → drop (1 - 1) (fields l) ≡ fieldsFrom l at
+fields-first l at e = rw (e, from-start l)
+
+-- the bounds that `locate` gives at k are those of the field in the column at k, and the value there is the row's
+module _ (l ps : List ℕ) (k : ℕ) where
+  start-at : getD (startsOf l ps) k 0 ≡ fieldAt l (getD ps k 0) .start
+  unfolding startsOf fieldAt
+  start-at = List·getD-map (λ p. fieldAt l p .start) ps k 0
+
+  end-at : getD (endsOf l ps) k 0 ≡ fieldAt l (getD ps k 0) .end
+  unfolding endsOf fieldAt
+  end-at = List·getD-map (λ p. fieldAt l p .end) ps k 0
+
+  pub cells-inside : (getD (startsOf l ps) k 0 ≤ getD (endsOf l ps) k 0) × (getD (endsOf l ps) k 0 ≤ length l)
+  cells-inside = rw (start-at, end-at) (field-inside l (getD ps k 0) .ordered, field-inside l (getD ps k 0) .within)
+
+  pub cell-of : value (part l (bounds (getD (startsOf l ps) k 0) (getD (endsOf l ps) k 0))) ≡ cell l (getD ps k 0)
+  unfolding cell
+  cell-of = rw (start-at, end-at)
+
+pub row-at : (ps l : List ℕ) (k : ℕ) → getD (rowOf ps l) k [] ≡ cell l (getD ps k 0)
+unfolding rowOf cell fieldAt part value marked content undouble
+row-at ps l k = List·getD-map (cell l) ps k 0
+
+pub row-in : (l ps : List ℕ) → rowIn l (startsOf l ps) (endsOf l ps) ≡ rowOf ps l
+unfolding rowIn startsOf endsOf rowOf cell
+row-in l [] = refl
+row-in l (p ∷ ps) = rw (row-in l ps)
+
+-- the same by the tables that `locate` gave
+module _ (l ps ss es : List ℕ) (s : ss ≡ startsOf l ps) (e : es ≡ endsOf l ps) (k : ℕ) where
+  pub located-inside : (getD ss k 0 ≤ getD es k 0) × (getD es k 0 ≤ length l)
+  located-inside = rw (s, e) (cells-inside l ps k)
+
+  pub located-value : value (part l (bounds (getD ss k 0) (getD es k 0))) ≡ getD (rowIn l ss es) k []
+  located-value = rw (s, e, row-in l ps, row-at ps l k) (cell-of l ps k)
+
+  pub located-row : rowIn l ss es ≡ rowOf ps l
+  located-row = rw (s, e) (row-in l ps)
+
+-- and by the table of a header: the field and the value under known column k, as the definitions read them
+module _ (f : ℕ) (header : List (List ℕ)) (l ps ss es : List ℕ) (places-are : ps ≡ placesOf f header) (s : ss ≡ startsOf l ps) (e : es ≡ endsOf l ps) (k : ℕ) where
+  pub known-field : bounds (getD ss k 0) (getD es k 0) ≡ fieldAt l (getD (places f header) k 0)
+  known-field = rw (s, e, start-at, end-at, places-are, places-at f header k)
+
+  pub known-value : value (part l (bounds (getD ss k 0) (getD es k 0))) ≡ getD (rowOf (places f header) l) k []
+  unfolding cell
+  known-value = rw (known-field, row-at (places f header) l k)

@@ -1,0 +1,2 @@
+-- What the functions of columns rest on.
+pub mod Laws

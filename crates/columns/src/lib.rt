@@ -1,0 +1,197 @@
+// Where the known columns stand in a header, and where their fields lie in a line.
+use text::Cursor;
+use text::Step;
+ghost use mathlib.Core.Path.{_≡_};
+ghost use mathlib.Core.Bool.{_&&_};
+ghost use Prim.Native.Nat.{_<_};
+ghost use lib.Dec.{eqb};
+ghost use lib.ListN.{length, getD};
+ghost use Rattle.meaning.specs.Lists.{find};
+ghost use Rattle.meaning.specs.Bytes.{fields, value, values};
+ghost use Rattle.meaning.specs.Columns.{nameOf, columnOf, cell};
+ghost use Rattle.meaning.specs.Refusals.{standings, rule8};
+ghost use Rattle.columns.specs.Columns.{placesOf, lacking, noted, startsOf, endsOf};
+
+// The column of each known name in a header, counted from 1, 0 where it is absent; and how many fields the header has.
+pub struct Columns {
+    pub at: [usize; 10],
+    pub count: usize,
+}
+
+// The column in which the name of known column k stands first.
+fn place(f: usize, k: usize, h: &[u8]) -> usize
+    requires { ⌜ (f < 6) × (k < 10) ⌝ }
+    ensures { λ r. ⌜ r ≡ find (nameOf f k) 1 (values (now (h .entry))) ⌝ }
+{
+    let mut c = Cursor::new();
+    let mut n: usize = 1;
+    loop {
+        match c.next(h) {
+            Step::Field { start, end, next } => {
+                if schema::is_named(f, k, &h[start..end]) {
+                    return n;
+                }
+                n += 1;
+                c = next;
+            }
+            Step::Done => {
+                return 0;
+            }
+        }
+    }
+}
+
+// How often the name of known column k stands in a header.
+fn times(f: usize, k: usize, h: &[u8]) -> usize
+    requires { ⌜ (f < 6) × (k < 10) ⌝ }
+    ensures { λ r. ⌜ r ≡ standings (nameOf f k) (values (now (h .entry))) ⌝ }
+{
+    let mut c = Cursor::new();
+    let mut n: usize = 0;
+    loop {
+        match c.next(h) {
+            Step::Field { start, end, next } => {
+                if schema::is_named(f, k, &h[start..end]) {
+                    n += 1;
+                }
+                c = next;
+            }
+            Step::Done => {
+                return n;
+            }
+        }
+    }
+}
+
+// Does a known name stand twice in a header?
+pub fn repeats(f: usize, h: &[u8]) -> bool
+    requires { ⌜ f < 6 ⌝ }
+    ensures { λ r. ⌜ r ≡ rule8 f (values (now (h .entry))) ⌝ }
+{
+    let m = schema::count(f);
+    let mut k = 0;
+    while k < m {
+        if 1 < times(f, k, h) {
+            return true;
+        }
+        k += 1;
+    }
+    false
+}
+
+// The columns of a header.
+pub fn columns_of(f: usize, h: &[u8]) -> Columns
+    requires { ⌜ f < 6 ⌝ }
+    ensures { λ r. ⌜ (r .at ≡ placesOf f (values (now (h .entry)))) × (r .count ≡ length (fields (now (h .entry)))) ⌝ }
+{
+    let m = schema::count(f);
+    let mut at = [0usize; 10];
+    let mut k = 0;
+    while k < m {
+        at[k] = place(f, k, h);
+        k += 1;
+    }
+    let l = text::measure(h);
+    Columns {
+        at,
+        count: l.fields,
+    }
+}
+
+// Must known column k be present, and is its column p none?
+fn is_missing(f: usize, k: usize, p: usize) -> bool
+    requires { ⌜ (f < 6) × (k < 10) ⌝ }
+    ensures { λ r. ⌜ r ≡ (columnOf f k .must && eqb p 0) ⌝ }
+{
+    let c = schema::known(f, k);
+    if c.must {
+        return p == 0;
+    }
+    false
+}
+
+// Is a must-be-present name missing?
+pub fn lacks(f: usize, c: Columns) -> bool
+    requires { ⌜ f < 6 ⌝ }
+    ensures { λ r. ⌜ r ≡ lacking f (c .at) ⌝ }
+{
+    let m = schema::count(f);
+    let at = c.at;
+    let mut k = 0;
+    while k < m {
+        if is_missing(f, k, at[k]) {
+            return true;
+        }
+        k += 1;
+    }
+    false
+}
+
+// Where the field under each known column lies in a line; start and end are 0 where there is none.
+pub struct Cells {
+    pub start: [usize; 10],
+    pub end: [usize; 10],
+}
+
+// v at each known column that stands in column j.
+fn note(to: [usize; 10], at: [usize; 10], j: usize, v: usize) -> [usize; 10]
+    ensures { λ r. ⌜ r ≡ noted at j v 10 to ⌝ }
+{
+    let mut r = to;
+    let mut k = 0;
+    while k < 10 {
+        if at[k] == j {
+            r[k] = v;
+        }
+        k += 1;
+    }
+    r
+}
+
+// A field from a to e, noted at each known column that stands in its column j.
+fn note_field(c: Cells, at: [usize; 10], j: usize, a: usize, e: usize) -> Cells
+    ensures { λ r. ⌜ (r .start ≡ noted at j a 10 (c .start)) × (r .end ≡ noted at j e 10 (c .end)) ⌝ }
+{
+    let starts = c.start;
+    let ends = c.end;
+    let start = note(starts, at, j, a);
+    let end = note(ends, at, j, e);
+    Cells { start, end }
+}
+
+// The fields of a line under columns, in one walk along the line.
+pub fn locate(l: &[u8], at: [usize; 10]) -> Cells
+    ensures { λ r. ⌜ (r .start ≡ startsOf (now (l .entry)) at) × (r .end ≡ endsOf (now (l .entry)) at) ⌝ }
+{
+    let mut cells = Cells {
+        start: [0usize; 10],
+        end: [0usize; 10],
+    };
+    let mut c = Cursor::new();
+    let mut n: usize = 1;
+    loop {
+        match c.next(l) {
+            Step::Field { start, end, next } => {
+                cells = note_field(cells, at, n, start, end);
+                n += 1;
+                c = next;
+            }
+            Step::Done => {
+                return cells;
+            }
+        }
+    }
+}
+
+// The field under known column k of a line, as it stands there; nothing where the column is absent.
+pub fn field(l: &[u8], at: [usize; 10], k: usize) -> &[u8]
+    requires { ⌜ k < 10 ⌝ }
+    ensures { λ r. ⌜ value (now r) ≡ cell (now (l .entry)) (getD at k 0) ⌝ }
+{
+    let c = locate(l, at);
+    let starts = c.start;
+    let ends = c.end;
+    let a = starts[k];
+    let e = ends[k];
+    &l[a..e]
+}

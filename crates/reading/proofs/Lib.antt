@@ -1,0 +1,6 @@
+-- What the functions of reading rest on.
+pub mod First
+pub mod Values
+pub mod Speaks
+pub mod Files
+pub mod Bounds

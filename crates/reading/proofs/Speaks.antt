@@ -1,0 +1,84 @@
+-- The first broken claim of a list, a part of the list at a time.
+use mathlib.Core.Path.{_≡_, refl, sym, _∙_}
+use mathlib.Core.Bool.{Bool, true, false}
+use mathlib.Core.List.{List, [], _∷_, _++_}
+use Prim.Native.Nat.{ℕ, _+_, _≤_, _<_}
+use native.Mathlib.Omega.{arith}
+use lib.Dec.{T, leb→le}
+use Rattle.text.proofs.Laws.{all, and-left, and-right}
+use Rattle.meaning.specs.declared.Refusal.{Refusal}
+use Rattle.meaning.specs.declared.Verdict.{Verdict}
+use Rattle.meaning.specs.declared.Verdict.the-variants.{Readable, Unreadable}
+use Rattle.meaning.specs.Refusals.{Test, Claim, refusal, speaks, onLine}
+use Rattle.reading.specs.Tests.{first}
+use Rattle.reading.specs.Wholes.{firstTrue, marked}
+use Rattle.reading.proofs.First.{positive}
+
+abbrev pub refused : ℕ → ℕ → ℕ → Verdict
+refused number file line = Unreadable (record { number = number; file = file; line = line; column = 0 })
+
+-- one list after the other: the first speaks, or else the second
+module _ (b : List Claim) where
+  pub then-stop : (a : List Claim) (r : Refusal) → speaks a ≡ Unreadable r → speaks (a ++ b) ≡ Unreadable r
+  unfolding speaks
+  then-stop [] r e = let z : Readable ≡ Unreadable r = e in cc
+  then-stop (p ∷ a) r e = go (p .broken) refl (then-stop a r)
+    where
+      go : (t : Bool) → p .broken ≡ t → (speaks a ≡ Unreadable r → speaks (a ++ b) ≡ Unreadable r) → speaks (p ∷ (a ++ b)) ≡ Unreadable r
+      go true q ih = rw q (rw q at e)
+      go false q ih = rw q (ih (rw q at e))
+
+  pub then-on : (a : List Claim) → speaks a ≡ Readable → speaks (a ++ b) ≡ speaks b
+  unfolding speaks
+  then-on [] e = refl
+  then-on (p ∷ a) e = go (p .broken) refl (then-on a)
+    where
+      go : (t : Bool) → p .broken ≡ t → (speaks a ≡ Readable → speaks (a ++ b) ≡ speaks b) → speaks (p ∷ (a ++ b)) ≡ speaks b
+      go true q ih = let z : Unreadable (refusal p) ≡ Readable = rw q at e in cc
+      go false q ih = rw q (ih (rw q at e))
+
+-- the tests of a line
+module _ (f n : ℕ) where
+  pub line-stop : (ts : List Test) → (t : ℕ) → t ≡ first ts → (t ≡ 0 → ⊥) → speaks (onLine f n ts) ≡ refused t f n
+  unfolding speaks onLine first
+  line-stop [] t e z = absurd (z e)
+  line-stop (u ∷ ts) t e z = go (u .broken) refl (line-stop ts t)
+    where
+      go : (b : Bool) → u .broken ≡ b → (t ≡ first ts → (t ≡ 0 → ⊥) → speaks (onLine f n ts) ≡ refused t f n)
+          → speaks (onLine f n (u ∷ ts)) ≡ refused t f n
+      go true q ih = rw q (rw (← (rw q at e)))
+      go false q ih = rw q (ih (rw q at e) z)
+
+  pub line-on : (ts : List Test) → T (all positive ts) → (t : ℕ) → t ≡ first ts → t ≡ 0 → speaks (onLine f n ts) ≡ Readable
+  unfolding speaks onLine first
+  line-on [] p t e z = refl
+  line-on (u ∷ ts) p t e z = go (u .broken) refl (line-on ts (and-right (positive u) (all positive ts) p) t)
+    where
+      go : (b : Bool) → u .broken ≡ b → (t ≡ first ts → t ≡ 0 → speaks (onLine f n ts) ≡ Readable)
+          → speaks (onLine f n (u ∷ ts)) ≡ Readable
+      go true q ih =
+          let y : t ≡ u .number = rw q at e in
+          let x : 1 ≤ u .number = leb→le 1 (u .number) (and-left (positive u) (all positive ts) p) in
+          absurd (omega arith)
+      go false q ih = rw q (ih (rw q at e) z)
+
+-- one rule over whole files
+module _ (number : ℕ) where
+  pub marks-stop : (f : ℕ) (bs : List Bool) (x : ℕ) → x ≡ firstTrue f bs → (x ≡ 0 → ⊥) → speaks (marked number f bs) ≡ refused number x 0
+  unfolding speaks marked firstTrue
+  marks-stop f [] x e z = absurd (z e)
+  marks-stop f (true ∷ bs) x e z = rw e
+  marks-stop f (false ∷ bs) x e z = marks-stop (f + 1) bs x e z
+
+  pub marks-on : (f : ℕ) → 0 < f → (bs : List Bool) (x : ℕ) → x ≡ firstTrue f bs → x ≡ 0 → speaks (marked number f bs) ≡ Readable
+  unfolding speaks marked firstTrue
+  marks-on f h [] x e z = refl
+  marks-on f h (true ∷ bs) x e z = absurd (omega arith)
+  marks-on f h (false ∷ bs) x e z = marks-on (f + 1) (omega arith) bs x e z
+
+  module _ (bs : List Bool) (x : ℕ) (e : x ≡ firstTrue 1 bs) (rest : List Claim) (v : Verdict) where
+    pub whole-stop : (x ≡ 0 → ⊥) → v ≡ refused number x 0 → v ≡ speaks (marked number 1 bs ++ rest)
+    whole-stop z h = h ∙ sym (then-stop rest (marked number 1 bs) _ (marks-stop 1 bs x e z))
+
+    pub whole-on : x ≡ 0 → v ≡ speaks rest → v ≡ speaks (marked number 1 bs ++ rest)
+    whole-on z h = h ∙ sym (then-on rest (marked number 1 bs) (marks-on 1 (omega arith) bs x e z))

@@ -1,0 +1,86 @@
+-- Rules 5 to 13 on a line: what the callees say of each test.
+use mathlib.Core.Path.{_≡_, refl, sym, ap, _∙_}
+use mathlib.Core.Bool.{Bool, true, false, not, _&&_}
+use mathlib.Core.List.{List}
+use Prim.Native.Nat.{ℕ, _+_, _≤_, _<_}
+use native.Mathlib.Omega.{arith}
+use lib.Dec.{ltb}
+use lib.ListN.{length, getD, List·getD-eq-default}
+use borrow.Author.Tests.{eq-eqb, ne-eqb, lt-ltb, le-ltb}
+use Rattle.meaning.specs.declared.Column.{Column}
+use Rattle.meaning.specs.Lists.{empty}
+use Rattle.meaning.specs.Bytes.{good, fields}
+use Rattle.meaning.specs.Columns.{columnOf, countOf, rowOf, cell}
+use Rattle.meaning.specs.Forms.{shapes, shape}
+use Rattle.meaning.specs.Refusals.{rule6, rule7, rule10, rule11, rule12, rule13, long, blank, formless, overRow, rowTests, lineTests}
+use Rattle.columns.proofs.Laws.{some-same, row-at}
+
+-- a value of n bytes under a column
+module _ (c : Column) (v : List ℕ) (n : ℕ) (e : n ≡ length v) where
+  pub long-is : (t u : Bool) → t ≡ (c .ident && ltb 64 n) → t ≡ u → long c v ≡ u
+  unfolding long
+  long-is t u p q = rw (← e, ← p) q
+
+  pub blank-empty : n ≡ 0 → (u : Bool) → c .need ≡ u → blank c v ≡ u
+  unfolding blank empty
+  blank-empty z true p = rw (← e, z, p)
+  blank-empty z false p = rw p
+
+  pub formless-empty : n ≡ 0 → formless c v ≡ false
+  unfolding formless empty
+  formless-empty z = rw (← e, z)
+
+  pub blank-full : (n ≡ 0 → ⊥) → blank c v ≡ false
+  unfolding blank empty
+  blank-full z = rw (← e, ne-eqb n 0 z) (go (c .need))
+    where
+      go : (b : Bool) → (b && false) ≡ false
+      go true = refl
+      go false = refl
+
+  pub formless-full : (n ≡ 0 → ⊥) → (t u : Bool) → t ≡ shape (c .form) v → t ≡ u → formless c v ≡ not u
+  unfolding formless empty
+  formless-full z t u p q = rw (← e, ne-eqb n 0 z, ← p, q)
+
+-- rules 6, 7 and 10 by what a walk along the line told
+module _ (l : List ℕ) where
+  pub bad-is : (g u : Bool) → g ≡ good l → g ≡ u → rule6 l ≡ not u
+  unfolding rule6
+  bad-is g u p q = rw (← p, q)
+
+  module _ (n : ℕ) (e : n ≡ length (fields l)) where
+    pub many-yes : 32 < n → rule7 l ≡ true
+    unfolding rule7
+    many-yes h = rw (← e) (lt-ltb 32 n h)
+
+    pub many-no : n ≤ 32 → rule7 l ≡ false
+    unfolding rule7
+    many-no h = rw (← e) (le-ltb 32 n h)
+
+    pub other-yes : (k : ℕ) → (n ≡ k → ⊥) → rule10 k l ≡ true
+    unfolding rule10
+    other-yes k h = rw (← e, ne-eqb n k h)
+
+    pub other-no : (k : ℕ) → n ≡ k → rule10 k l ≡ false
+    unfolding rule10
+    other-no k h = rw (← e, eq-eqb n k h)
+
+-- two tables that read alike give the same tests of a line
+module _ (ps qs : List ℕ) (alike : (k : ℕ) → getD ps k 0 ≡ getD qs k 0) where
+  over-same : (P : Column → List ℕ → Bool) (f : ℕ) (l : List ℕ) (n : ℕ) → overRow P f (rowOf ps l) n ≡ overRow P f (rowOf qs l) n
+  unfolding overRow
+  over-same P f l n =
+      some-same _ _ (λ k. ap (λ (v : List ℕ). P (columnOf f k) v) (row-at ps l k ∙ (ap (cell l) (alike k) ∙ sym (row-at qs l k)))) 0 n
+
+  pub line-same : (f count : ℕ) (l : List ℕ) → lineTests f ps count l ≡ lineTests f qs count l
+  unfolding lineTests rowTests rule11 rule12 rule13
+  line-same f count l = rw (over-same long f l (countOf f), over-same blank f l (countOf f), over-same formless f l (countOf f))
+
+-- a number that is none of the first k
+pub past : (n k : ℕ) → k ≤ n → (n ≡ k → ⊥) → k + 1 ≤ n
+past n k h e = omega arith
+
+-- no form has a number from 10 on
+pub no-form : (n : ℕ) (v : List ℕ) → 10 ≤ n → false ≡ shape n v
+unfolding shape shapes
+no-form n v h = sym (ap (λ (f : List ℕ → Bool). f v) (List·getD-eq-default shapes (λ w. false) {n = n} h))

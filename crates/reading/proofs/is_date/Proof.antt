@@ -1,0 +1,23 @@
+-- `reading::is_date` meets its contract.
+use Prim.Native.Nat.{_-_}
+use borrow.Author.Needs.{needs}
+use Rattle.reading.proofs.is_date.Statement.{statement}
+use Rattle.reading.proofs.is_date.Tie as tie
+
+date-of-requires : tie.Need-date-of-requires
+date-of-requires c κs = search needs
+
+enum-told : tie.Need-enum-told
+enum-told c = search needs
+
+enum-told-2 : tie.Need-enum-told-2
+enum-told-2 c = search needs
+
+returns : tie.Need-returns
+returns c = rw (← c .before .before .date-of .ensures .0, c .enum-told .given .1)
+
+returns-2 : tie.Need-returns-2
+returns-2 c = rw (← c .before .before .date-of .ensures .0, c .enum-told2 .given .1)
+
+pub is-date-spec : {M : Type 1} → statement M
+is-date-spec = tie.close (tie.spec date-of-requires enum-told enum-told-2 returns returns-2)

@@ -1,0 +1,25 @@
+-- `reading::whole_of` meets its contract.
+use Rattle.reading.proofs.Files.{unended-is}
+use Rattle.reading.specs.Wholes.{wholeOf}
+use Rattle.meaning.specs.Refusals.{rule1, rule2, rule3}
+use Prim.Native.Nat.{_-_}
+use borrow.Author.Needs.{needs}
+use Rattle.reading.proofs.whole_of.Statement.{statement}
+use Rattle.reading.proofs.whole_of.Tie as tie
+
+count-lf-requires : tie.Need-count-lf-requires
+count-lf-requires c κs = search needs
+
+is-short-requires : tie.Need-is-short-requires
+is-short-requires c κs = search needs
+
+ends-with-lf-requires : tie.Need-ends-with-lf-requires
+ends-with-lf-requires c κs = search needs
+
+returns : tie.Need-returns
+unfolding wholeOf rule1 rule2 rule3
+returns c = rw (← unended-is _ _ _ _ (c .ends-with-lf .ensures), ← c .before .before .count-lf .ensures .0, ← c .before .is-short .ensures)
+
+pub whole-of-spec : {M : Type 1} → statement M
+whole-of-spec =
+    tie.close (tie.spec count-lf-requires is-short-requires ends-with-lf-requires returns)

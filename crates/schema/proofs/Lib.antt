@@ -1,0 +1,2 @@
+-- The schema's tables are meaning's list of known columns.
+pub mod Laws

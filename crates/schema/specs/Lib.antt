@@ -1,0 +1,1 @@
+-- The schema has no definitions of its own: those of `meaning` serve.
