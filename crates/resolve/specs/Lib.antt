@@ -1,0 +1,2 @@
+-- What a reference names, with no search in it.
+pub mod First

@@ -1,0 +1,7 @@
+-- Laws of located lines, records and tables.
+pub mod LineRecords
+pub mod Readings
+pub mod Turns
+pub mod Ids
+pub mod StopParents
+pub mod Feeds

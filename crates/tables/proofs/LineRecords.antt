@@ -1,0 +1,114 @@
+-- The record of a line from its located fields.
+use mathlib.Core.Path.{_≡_, refl, _∙_}
+use mathlib.Core.Bool.{Bool, true, false, cond}
+use mathlib.Core.List.{List, [], _∷_}
+use Prim.Native.Nat.{ℕ, _+_, _≤_}
+use lib.IntN.{ℤ, pos}
+use lib.ListN.{length, getD, List·getD-map}
+use Rattle.meaning.specs.Lists.{empty, find}
+use Rattle.meaning.specs.Bytes.{value}
+use Rattle.meaning.specs.Columns.{fieldAt, cell, rowOf}
+use Rattle.meaning.specs.Forms.{latitudeOf, longitudeOf, timeOf, dateOf, sequenceOf, routeTypeOf}
+use Rattle.meaning.specs.Tables.{Feed, degrees, day, number, seconds, picked, orZero, orMinus, refer, packedDays, stopIds, routeIds, serviceIds, tripIds, idPlace, idColumn, recordOf, numbersOf, stopNumbers, routeNumbers, serviceNumbers, tripNumbers, timeNumbers}
+use Rattle.columns.specs.Columns.{startsOf, endsOf}
+use Rattle.columns.proofs.Laws.{row-at, located-inside}
+use Rattle.tables.specs.Fill.{line, valueIn, Located, Within, Lies}
+
+-- nothing refers to a stop of no stops
+refer-none : (v : List ℕ) (w : Feed) → w .stops ≡ [] → refer v (stopIds w) ≡ 0
+unfolding refer stopIds find
+refer-none v w e = rw e (go (empty v))
+  where
+    go : (b : Bool) → _≡_ {A = ℕ} (cond b 0 0) 0
+    go true = refl
+    go false = refl
+
+-- the value under a column is the row's
+pub in-row :
+    (ps l st en : List ℕ) → Located l ps st en → (k : ℕ) → getD (rowOf ps l) k [] ≡ valueIn l st en k
+unfolding cell
+in-row ps l st en loc k = row-at ps l k ∙ rw (loc k)
+
+module _ (w : Feed) (ps l : List ℕ) (at : ℕ) (st en : List ℕ) (loc : Located l ps st en) where
+  id-in : (k a e : ℕ) → a ≡ at + getD st k 0 → e ≡ at + getD en k 0 → idPlace (getD ps k 0) (line at l) ≡ pos a ∷ pos e ∷ []
+  unfolding idPlace
+  id-in k a e p q = rw (← loc k, p, q)
+
+  pub stop-record :
+      (a e kind : ℕ) (lat lon : ℤ)
+      → w .stops ≡ []
+      → a ≡ at + getD st 0 0
+      → e ≡ at + getD en 0 0
+      → lat ≡ degrees (latitudeOf (valueIn l st en 2))
+      → lon ≡ degrees (longitudeOf (valueIn l st en 3))
+      → pos kind ≡ orZero 2 (valueIn l st en 4)
+      → pos a ∷ pos e ∷ lat ∷ lon ∷ pos kind ∷ pos 0 ∷ [] ≡ recordOf 1 w ps (line at l)
+  unfolding recordOf idColumn numbersOf stopNumbers
+  stop-record a e kind lat lon none p q x y z =
+      rw (id-in 0 a e p q, in-row ps l st en loc 2, in-row ps l st en loc 3, in-row ps l st en loc 4, refer-none (getD (rowOf ps l) 5 []) w none, ← x, ← y, ← z)
+
+  pub route-record :
+      (a e kind : ℕ)
+      → a ≡ at + getD st 0 0
+      → e ≡ at + getD en 0 0
+      → pos kind ≡ picked (routeTypeOf (valueIn l st en 1))
+      → pos a ∷ pos e ∷ pos kind ∷ [] ≡ recordOf 2 w ps (line at l)
+  unfolding recordOf idColumn numbersOf routeNumbers
+  route-record a e kind p q x = rw (id-in 0 a e p q, in-row ps l st en loc 1, ← x)
+
+  pub service-record :
+      (a e days from to : ℕ)
+      → a ≡ at + getD st 0 0
+      → e ≡ at + getD en 0 0
+      → days ≡ packedDays (rowOf ps l)
+      → pos from ≡ day (dateOf (valueIn l st en 8))
+      → pos to ≡ day (dateOf (valueIn l st en 9))
+      → pos a ∷ pos e ∷ pos days ∷ pos from ∷ pos to ∷ [] ≡ recordOf 3 w ps (line at l)
+  unfolding recordOf idColumn numbersOf serviceNumbers
+  service-record a e days from to p q x y z = rw (id-in 0 a e p q, in-row ps l st en loc 8, in-row ps l st en loc 9, x, ← y, ← z)
+
+  pub trip-record :
+      (a e route service wheelchair bikes : ℕ) (direction : ℤ)
+      → a ≡ at + getD st 2 0
+      → e ≡ at + getD en 2 0
+      → route ≡ refer (valueIn l st en 0) (routeIds w)
+      → service ≡ refer (valueIn l st en 1) (serviceIds w)
+      → direction ≡ orMinus 1 (valueIn l st en 3)
+      → pos wheelchair ≡ orZero 2 (valueIn l st en 4)
+      → pos bikes ≡ orZero 2 (valueIn l st en 5)
+      → pos a ∷ pos e ∷ pos route ∷ pos service ∷ direction ∷ pos wheelchair ∷ pos bikes ∷ []
+      ≡ recordOf 4 w ps (line at l)
+  unfolding recordOf idColumn numbersOf tripNumbers
+  trip-record a e route service wheelchair bikes direction p q r s x y z =
+      rw (id-in 2 a e p q, in-row ps l st en loc 0, in-row ps l st en loc 1, in-row ps l st en loc 3, in-row ps l st en loc 4, in-row ps l st en loc 5, r, s, ← x, ← y, ← z)
+
+  pub time-record :
+      (trip stop sequence pickup dropOff : ℕ) (arrival departure timepoint : ℤ)
+      → trip ≡ refer (valueIn l st en 0) (tripIds w)
+      → stop ≡ refer (valueIn l st en 3) (stopIds w)
+      → pos sequence ≡ number (sequenceOf (valueIn l st en 4))
+      → arrival ≡ seconds (timeOf (valueIn l st en 1))
+      → departure ≡ seconds (timeOf (valueIn l st en 2))
+      → pos pickup ≡ orZero 3 (valueIn l st en 5)
+      → pos dropOff ≡ orZero 3 (valueIn l st en 6)
+      → timepoint ≡ orMinus 1 (valueIn l st en 7)
+      → pos trip ∷ pos stop ∷ pos sequence ∷ arrival ∷ departure ∷ pos pickup ∷ pos dropOff ∷ timepoint ∷ []
+      ≡ recordOf 5 w ps (line at l)
+  unfolding recordOf idColumn numbersOf timeNumbers
+  time-record trip stop sequence pickup dropOff arrival departure timepoint p q r a d x y z =
+      rw (in-row ps l st en loc 0, in-row ps l st en loc 1, in-row ps l st en loc 2, in-row ps l st en loc 3, in-row ps l st en loc 4, in-row ps l st en loc 5, in-row ps l st en loc 6, in-row ps l st en loc 7, p, q, ← r, a, d, ← x, ← y, ← z)
+
+-- the fields that `locate` gives under columns
+module _ (l cs st en : List ℕ) (starts : st ≡ startsOf l cs) (ends : en ≡ endsOf l cs) where
+  pub located : (ps : List ℕ) → ((k : ℕ) → getD cs k 0 ≡ getD ps k 0) → Located l ps st en
+  unfolding startsOf endsOf fieldAt
+  located ps e k =
+      let a : getD (startsOf l cs) k 0 ≡ fieldAt l (getD cs k 0) .start = List·getD-map (λ p. fieldAt l p .start) cs k 0 in
+      let b : getD (endsOf l cs) k 0 ≡ fieldAt l (getD cs k 0) .end = List·getD-map (λ p. fieldAt l p .end) cs k 0 in
+      rw (starts, ends, a, b, e k)
+
+  pub within : Within (length l) st en
+  within k = located-inside l cs st en starts ends k
+
+  pub lies : (at : ℕ) → at + length l ≤ 16777216 → Lies l at st en
+  lies at h = (within, h)

@@ -1,0 +1,188 @@
+-- A walk along the lines of a file that writes a record for each.
+use mathlib.Core.Path.{_≡_, sym, ap, _∙_}
+use mathlib.Core.List.{List, [], _∷_, map}
+use Prim.Native.Nat.{ℕ, zero, suc, _+_, _*_, _-_, _≤_, _<_}
+use native.Mathlib.Numerals.{add-one}
+use native.Mathlib.Omega.{arith}
+use native.Mathlib.Nat.{mul-le-mul-left, mul-le-mul-right, mul-comm}
+use lib.IntN.{ℤ, pos}
+use lib.ListN.{length, getD, take, drop, replicate, length-drop, length-map}
+use lib.Seq.{getD-drop, take-all}
+use Rattle.meaning.specs.Lists.{flat, laid}
+use Rattle.meaning.specs.Bytes.{Line, bounds, part, values, startOf, countLf, linesFrom, linesOf}
+use Rattle.meaning.specs.Columns.{places, headerOf}
+use Rattle.meaning.specs.Tables.{Feed, widths, widthOf, recordOf, recordsOf, filled}
+use Rattle.text.specs.Lines.{LineStands}
+use Rattle.text.proofs.Laws.{part-length}
+use Rattle.text.proofs.Lines.{lines-all}
+use Rattle.columns.specs.Columns.{placesOf}
+use Rattle.columns.proofs.Laws.{places-at}
+use Rattle.rows.specs.Cells.{putAt}
+use Rattle.meaning.proofs.Readable.{getD-map-in}
+use Rattle.rows.proofs.Records.{Wide, records-wide, rows-first, rows-turn}
+use Rattle.tables.specs.Fill.{line, Heading, Room}
+
+-- what is left of a list begins with x
+record Heads {A : Type 0} (xs : List A) (r : ℕ) (x : A) (rest : List A) : Type 0 where
+  inside : r < length xs
+  here : (d : A) → getD xs r d ≡ x
+  after : drop (r + 1) xs ≡ rest
+
+heads : {A : Type 0} (xs : List A) (r : ℕ) (x : A) (rest : List A) → drop r xs ≡ x ∷ rest → Heads xs r x rest
+heads [] zero x rest e = absurd (clash e)
+  where
+    clash : [] ≡ x ∷ rest → ⊥
+    clash e = let z : _≡_ {A = ℕ} 0 1 = cc in omega arith
+heads [] (suc r) x rest e = absurd (clash e)
+  where
+    clash : [] ≡ x ∷ rest → ⊥
+    clash e = let z : _≡_ {A = ℕ} 0 1 = cc in omega arith
+heads (y ∷ xs) zero x rest e = record { inside = omega arith; here = λ d. (cc); after = (cc) }
+heads (y ∷ xs) (suc r) x rest e =
+    let h = heads xs r x rest e in
+    record { inside = omega (arith, h .inside); here = h .here; after = rw (add-one (suc r)) (rw add-one at (h .after)) }
+
+pub two-wide : (f : ℕ) → 1 ≤ f → f ≤ 5 → 2 ≤ widthOf f
+unfolding widthOf widths
+two-wide zero h k = absurd (omega arith)
+two-wide (suc zero) h k = omega arith
+two-wide (suc (suc zero)) h k = omega arith
+two-wide (suc (suc (suc zero))) h k = omega arith
+two-wide (suc (suc (suc (suc zero)))) h k = omega arith
+two-wide (suc (suc (suc (suc (suc zero))))) h k = omega arith
+two-wide (suc (suc (suc (suc (suc (suc f)))))) h k = absurd (omega arith)
+
+pub eight-wide : (f : ℕ) → widthOf f ≤ 8
+unfolding widthOf widths
+eight-wide zero = omega arith
+eight-wide (suc zero) = omega arith
+eight-wide (suc (suc zero)) = omega arith
+eight-wide (suc (suc (suc zero))) = omega arith
+eight-wide (suc (suc (suc (suc zero)))) = omega arith
+eight-wide (suc (suc (suc (suc (suc zero))))) = omega arith
+eight-wide (suc (suc (suc (suc (suc (suc f)))))) = omega arith
+
+module _ (f : ℕ) (low : 1 ≤ f) (high : f ≤ 5) (w : Feed) (s : List ℕ) where
+  pub wide : Wide (widthOf f) (recordsOf f w s)
+  wide = records-wide f w s low (omega arith)
+
+  pub records-length : 1 ≤ countLf s → length (recordsOf f w s) ≡ countLf s
+  unfolding recordsOf
+  records-length h =
+      let e : length (map (recordOf f w (places f (headerOf (linesOf s)))) (drop 1 (linesOf s))) ≡ length (linesOf s) - 1 =
+      length-map (drop 1 (linesOf s)) (recordOf f w (places f (headerOf (linesOf s)))) ∙ length-drop 1 (linesOf s) in
+      omega (arith, lines-all s)
+
+  -- record r is that of line r, counted from 0
+  pub record-at :
+      (r : ℕ) (d : Line)
+      → 1 ≤ r
+      → r < countLf s
+      → getD (recordsOf f w s) r [] ≡ recordOf f w (places f (headerOf (linesOf s))) (getD (linesOf s) r d)
+  unfolding recordsOf
+  record-at zero d h k = absurd (omega arith)
+  record-at (suc r) d h k =
+      let g = recordOf f w (places f (headerOf (linesOf s))) in
+      let i : r < length (drop 1 (linesOf s)) = omega (arith, length-drop 1 (linesOf s), lines-all s) in
+      let one : 1 + r ≡ suc r = omega arith in
+      getD-map-in g (drop 1 (linesOf s)) r d [] i ∙ ap g (getD-drop 1 (linesOf s) r d ∙ ap (λ (j : ℕ). getD (linesOf s) j d) one)
+
+-- a walk that has come to byte `at`, where line r begins
+module _ (s : List ℕ) (at r : ℕ) (left : linesFrom s at ≡ drop r (linesOf s)) where
+  module _ (a e n : ℕ) (stands : LineStands s at a e n) where
+    found : Heads (linesOf s) r (line a (part s (bounds a e))) (linesFrom s n)
+    found = heads (linesOf s) r (line a (part s (bounds a e))) (linesFrom s n) (sym left ∙ stands .lines)
+
+    pub walk-here : (d : Line) → getD (linesOf s) r d ≡ line a (part s (bounds a e))
+    walk-here = found .here
+
+    pub walk-inside : r < countLf s
+    walk-inside = omega (arith, found .inside, lines-all s)
+
+    pub walk-on : linesFrom s n ≡ drop (r + 1) (linesOf s)
+    walk-on = sym (found .after)
+
+    pub walk-room : (width room : ℕ) → width * countLf s ≤ room → r * width + width ≤ room
+    walk-room width room h =
+        let m : (r + 1) * width ≤ countLf s * width = mul-le-mul-right {m = r + 1} {n = countLf s} width (omega (arith, walk-inside)) in
+        let c : countLf s * width ≡ width * countLf s = mul-comm (countLf s) width in
+        omega arith
+
+    pub walk-count : (width room : ℕ) → 1 ≤ width → width * countLf s ≤ room → r < room
+    walk-count width room h k =
+        let m : 1 * countLf s ≤ width * countLf s = mul-le-mul-right {m = 1} {n = width} (countLf s) h in
+        omega (arith, walk-inside)
+
+    pub walk-size : (n : ℕ) → length s ≤ n → a + length (part s (bounds a e)) ≤ n
+    walk-size n h = omega (arith, part-length s a e (omega (arith, stands .before, stands .within)), stands .ordered, stands .before, stands .within)
+
+    module _ (f : ℕ) (low : 1 ≤ f) (high : f ≤ 5) (w : Feed) where
+      -- the line's record is written after those before it
+      pub walk-turn :
+          (t t′ t₀ : List ℤ)
+          → 1 ≤ r
+          → t ≡ laid (flat (take r (recordsOf f w s))) t₀
+          → t′ ≡ putAt t (r * widthOf f) (recordOf f w (places f (headerOf (linesOf s))) (line a (part s (bounds a e))))
+          → t′ ≡ laid (flat (take (r + 1) (recordsOf f w s))) t₀
+      walk-turn t t′ t₀ h inv p =
+          let x = line a (part s (bounds a e)) in
+          let i : r < length (recordsOf f w s) = omega (arith, walk-inside, records-length f low high w s (omega (arith, walk-inside))) in
+          let k : getD (recordsOf f w s) r [] ≡ recordOf f w (places f (headerOf (linesOf s))) x =
+          record-at f low high w s r x h walk-inside ∙ ap (recordOf f w (places f (headerOf (linesOf s)))) (found .here x) in
+          p ∙ rw (← k) (rows-turn (widthOf f) (recordsOf f w s) (wide f low high w s) t t₀ r i inv)
+
+  -- no line is left
+  pub walk-past : linesFrom s at ≡ [] → countLf s ≤ r
+  walk-past e =
+      let z : length (drop r (linesOf s)) ≡ 0 = rw (← left, e) in
+      omega (arith, length-drop r (linesOf s), lines-all s)
+
+  pub walk-end :
+      (f : ℕ)
+      → 1 ≤ f
+      → f ≤ 5
+      → (w : Feed) (t t₀ : List ℤ)
+      → 1 ≤ countLf s
+      → linesFrom s at ≡ []
+      → t ≡ laid (flat (take r (recordsOf f w s))) t₀
+      → t ≡ filled f w s t₀
+  unfolding filled
+  walk-end f low high w t t₀ some e inv =
+      let h : length (recordsOf f w s) ≤ r = omega (arith, walk-past e, records-length f low high w s some) in
+      inv ∙ rw (take-all r (recordsOf f w s) h)
+
+-- record 0 is written
+pub walk-first :
+    (f : ℕ) (w : Feed) (s : List ℕ) (t t₀ : List ℤ)
+    → t ≡ laid (replicate (widthOf f) (pos 0)) t₀
+    → t ≡ laid (flat (take 1 (recordsOf f w s))) t₀
+unfolding recordsOf
+walk-first f w s t t₀ e =
+    e ∙ rows-first (replicate (widthOf f) (pos 0)) (map (recordOf f w (places f (headerOf (linesOf s)))) (drop 1 (linesOf s))) t₀
+
+-- the header's line
+module _ (s : List ℕ) (at : ℕ) (starts : at ≡ startOf s) where
+  pub header-found :
+      (f : ℕ) (known : List ℕ) (a e n : ℕ)
+      → LineStands s at a e n
+      → known ≡ placesOf f (values (part s (bounds a e)))
+      → Heading f s known n
+  unfolding linesOf headerOf
+  header-found f known a e n h p =
+      let l : linesFrom s (startOf s) ≡ line a (part s (bounds a e)) ∷ linesFrom s n = rw starts at (h .lines) in
+      record {
+        after = rw l;
+        columns = λ k. rw (l, p) (places-at f (values (part s (bounds a e))) k);
+      }
+
+  pub header-none : {X : Type 0} → 1 ≤ countLf s → linesFrom s at ≡ [] → X
+  unfolding linesOf
+  header-none h e =
+      let z : length (linesFrom s (startOf s)) ≡ 0 = rw (← starts, e) in
+      absurd (omega (arith, lines-all s))
+
+-- room for record 0
+pub first-room : (f : ℕ) (s : List ℕ) (t : List ℤ) (width : ℕ) → Room f s t → width ≡ widthOf f → width ≤ length t
+first-room f s t width h e =
+    let m : widthOf f * 1 ≤ widthOf f * countLf s = mul-le-mul-left {m = 1} {n = countLf s} (widthOf f) (h .lines) in
+    omega (arith, h .room)

@@ -1,0 +1,110 @@
+-- `tables::fill_lines` meets its contract.
+use Rattle.meaning.specs.Lists.{flat, laid}
+use Rattle.meaning.specs.Bytes.{part, linesFrom, linesOf}
+use Rattle.meaning.specs.Tables.{Feed, widthOf, recordsOf}
+use Rattle.text.proofs.Lines.{line-found, line-none}
+use Rattle.tables.specs.Fill.{Refers}
+use Rattle.tables.proofs.Turns.{two-wide, walk-room, walk-count, walk-size, walk-on, walk-turn, walk-end}
+use lib.IntN.{ℤ}
+use mathlib.Core.Path.{_≡_, refl, sym, _∙_}
+use mathlib.Core.List.{List}
+use Prim.Native.Nat.{_≤_, _-_}
+use native.Mathlib.Omega.{arith}
+use lib.ListN.{length, drop, take}
+use borrow.Author.Needs.{needs}
+use Rattle.tables.proofs.fill_lines.Statement.{statement}
+use Rattle.tables.proofs.fill_lines.Tie as tie
+
+abbrev Inv-loop : tie.InvT-loop
+Inv-loop f s at known t₀ a a-table a-count b b-table b-count here₀ r₀ t here r = (1 ≤ r) × ((linesFrom s here ≡ drop r (linesOf s)) × ((length t ≡ length t₀) × ((w : Feed) (lent : List ℤ) → Refers f w a a-table a-count b b-table b-count → t₀ ≡ laid (flat (take 1 (recordsOf f w s))) lent → t ≡ laid (flat (take r (recordsOf f w s))) lent)))
+
+abbrev μ-loop : tie.MeasureT-loop
+μ-loop f s at known t₀ a a-table a-count b b-table b-count here₀ r₀ t here r = length s - here
+
+loop-holds : tie.Need-loop-holds Inv-loop μ-loop
+loop-holds c = (omega arith, (c .before .before .before .pre .1 .0 .after, (refl, λ w lent refs e. e)))
+
+next-line-requires : tie.Need-next-line-requires Inv-loop μ-loop
+next-line-requires c κs = search needs
+
+enum-known-start : tie.Need-enum-known-start Inv-loop μ-loop
+enum-known-start c = search needs
+
+sub-put-record : tie.Need-sub-put-record Inv-loop μ-loop
+sub-put-record c = (line-found _ _ _ _ _ (sym (c .before .before .before .next-line .ensures) ∙ c .before .start .given .1)) .ordered
+
+part-put-record-start : tie.Need-part-put-record-start Inv-loop μ-loop
+part-put-record-start c = let h = line-found _ _ _ _ _ (sym (c .before .before .before .next-line .ensures) ∙ c .before .start .given .1) in omega (arith, h .ordered)
+
+part-put-record-end : tie.Need-part-put-record-end Inv-loop μ-loop
+part-put-record-end c = let h = line-found _ _ _ _ _ (sym (c .before .before .before .next-line .ensures) ∙ c .before .start .given .1) in omega (arith, h .before, h .within)
+
+put-record-requires : tie.Need-put-record-requires Inv-loop μ-loop
+unfolding part
+put-record-requires c κs =
+    let s = c .before .before .before .before .before .before .before .before .before .before in
+    let l = c .before .before .before .before .before .before .loop in
+    let h = line-found _ _ _ _ _ (sym (c .before .before .before .before .before .next-line .ensures) ∙ c .before .before .before .start .given .1) in (
+      (s .pre .0 .0, (s .pre .0 .1 .0, walk-size (s .args .s .now) (l .here) (l .r) (l .inv .1 .0) _ _ _ h _ (s .pre .0 .1 .1 .size))),
+      (rw (← l .inv .1 .1 .0) at (walk-room (s .args .s .now) (l .here) (l .r) (l .inv .1 .0) _ _ _ h _ _ (s .pre .0 .1 .1 .room)), s .pre .1 .1),
+    )
+
+add-r : tie.Need-add-r Inv-loop μ-loop
+add-r c =
+    let s = c .before .before .before .before .before .before .before .before .before .before .before .before in
+    let l = c .before .before .before .before .before .before .before .before .loop in
+    let h = line-found _ _ _ _ _ (sym (c .before .before .before .before .before .before .before .next-line .ensures) ∙ c .before .before .before .before .before .start .given .1) in
+    omega (arith, walk-count (s .args .s .now) (l .here) (l .r) (l .inv .1 .0) _ _ _ h (widthOf (s .args .f)) _ (omega (arith, two-wide (s .args .f) (s .pre .0 .0) (s .pre .0 .1 .0))) (s .pre .0 .1 .1 .room))
+
+loop-less : tie.Need-loop-less Inv-loop μ-loop
+loop-less c =
+    let h = line-found _ _ _ _ _ (sym (c .before .before .before .before .before .before .before .next-line .ensures) ∙ c .before .before .before .before .before .start .given .1) in
+    omega (arith, h .starts, h .ordered, h .before, h .within)
+
+loop-again : tie.Need-loop-again Inv-loop μ-loop
+unfolding part
+loop-again c =
+    let s = c .before .before .before .before .before .before .before .before .before .before .before .before in
+    let l = c .before .before .before .before .before .before .before .before .loop in
+    let h = line-found _ _ _ _ _ (sym (c .before .before .before .before .before .before .before .next-line .ensures) ∙ c .before .before .before .before .before .start .given .1) in (
+      omega arith,
+      (
+        walk-on (s .args .s .now) (l .here) (l .r) (l .inv .1 .0) _ _ _ h,
+        (
+          omega arith,
+          λ w lent refs e. walk-turn (s .args .s .now) (l .here) (l .r) (l .inv .1 .0) _ _ _ h (s .args .f) (s .pre .0 .0) (s .pre .0 .1 .0) w _ _ lent (l .inv .0) (l .inv .1 .1 .1 w lent refs e) (c .before .put-record .ensures w _ (s .pre .1 .0 .columns) refs),
+        ),
+      ),
+    )
+
+enum-told : tie.Need-enum-told Inv-loop μ-loop
+enum-told c = search needs
+
+same-length : tie.Need-same-length Inv-loop μ-loop
+same-length c = c .before .before .before .loop .inv .1 .1 .0
+
+returns : tie.Need-returns Inv-loop μ-loop
+returns c =
+    let s = c .before .before .before .before .before .before .before in
+    let l = c .before .before .before .loop in
+    λ w lent refs e. walk-end (s .args .s .now) (l .here) (l .r) (l .inv .1 .0) (s .args .f) (s .pre .0 .0) (s .pre .0 .1 .0) w _ lent (s .pre .0 .1 .1 .lines) (line-none _ _ (sym (c .before .before .next-line .ensures) ∙ c .enum-told .given .1)) (l .inv .1 .1 .1 w lent refs e)
+
+pub fill-lines-spec : {M : Type 1} → statement M
+fill-lines-spec =
+    tie.close
+    (tie.spec
+    Inv-loop
+    μ-loop
+    loop-holds
+    next-line-requires
+    enum-known-start
+    sub-put-record
+    part-put-record-start
+    part-put-record-end
+    put-record-requires
+    add-r
+    loop-less
+    loop-again
+    enum-told
+    same-length
+    returns)

@@ -1,0 +1,55 @@
+-- `tables::read_header` meets its contract.
+use Rattle.meaning.specs.Bytes.{part}
+use Rattle.text.proofs.Lines.{line-found, line-none}
+use Rattle.tables.proofs.Turns.{header-found, header-none}
+use mathlib.Core.Path.{sym, _∙_}
+use native.Mathlib.Omega.{arith}
+use borrow.Author.Needs.{needs}
+use Rattle.tables.proofs.read_header.Statement.{statement}
+use Rattle.tables.proofs.read_header.Tie as tie
+
+body-start-requires : tie.Need-body-start-requires
+body-start-requires c κs = search needs
+
+next-line-requires : tie.Need-next-line-requires
+next-line-requires c κs = search needs
+
+enum-known-start : tie.Need-enum-known-start
+enum-known-start c = search needs
+
+sub-columns-of : tie.Need-sub-columns-of
+sub-columns-of c = (line-found _ _ _ _ _ (sym (c .before .before .before .next-line .ensures) ∙ c .before .start .given .1)) .ordered
+
+part-columns-of-start : tie.Need-part-columns-of-start
+part-columns-of-start c = let h = line-found _ _ _ _ _ (sym (c .before .before .before .next-line .ensures) ∙ c .before .start .given .1) in omega (arith, h .ordered)
+
+part-columns-of-end : tie.Need-part-columns-of-end
+part-columns-of-end c = let h = line-found _ _ _ _ _ (sym (c .before .before .before .next-line .ensures) ∙ c .before .start .given .1) in omega (arith, h .before, h .within)
+
+columns-of-requires : tie.Need-columns-of-requires
+columns-of-requires c κs = search needs
+
+enum-told : tie.Need-enum-told
+enum-told c = search needs
+
+returns : tie.Need-returns
+unfolding part
+returns c = header-found _ _ (c .before .before .before .before .before .before .before .body-start .ensures .0) _ _ _ _ _ (line-found _ _ _ _ _ (sym (c .before .before .before .before .before .before .next-line .ensures) ∙ c .before .before .before .before .start .given .1)) (c .before .columns-of .ensures .0)
+
+returns-2 : tie.Need-returns-2
+returns-2 c = header-none _ _ (c .before .before .before .body-start .ensures .0) (c .before .before .before .before .before .pre .1) (line-none _ _ (sym (c .before .before .next-line .ensures) ∙ c .enum-told .given .1))
+
+pub read-header-spec : {M : Type 1} → statement M
+read-header-spec =
+    tie.close
+    (tie.spec
+    body-start-requires
+    next-line-requires
+    enum-known-start
+    sub-columns-of
+    part-columns-of-start
+    part-columns-of-end
+    columns-of-requires
+    enum-told
+    returns
+    returns-2)

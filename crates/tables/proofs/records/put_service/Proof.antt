@@ -1,0 +1,43 @@
+-- `tables::records::put_service` meets its contract.
+use Rattle.tables.proofs.LineRecords.{service-record}
+use Rattle.tables.proofs.Readings.{written}
+use borrow.Author.Needs.{needs}
+use Rattle.tables.proofs.records.put_service.Statement.{statement}
+use Rattle.tables.proofs.records.put_service.Tie as tie
+
+id-place-requires : tie.Need-id-place-requires
+id-place-requires c κs = search needs
+
+packed-days-requires : tie.Need-packed-days-requires
+packed-days-requires c κs = search needs
+
+date-requires : tie.Need-date-requires
+date-requires c κs = search needs
+
+date-requires-2 : tie.Need-date-requires-2
+date-requires-2 c κs = search needs
+
+put-requires : tie.Need-put-requires
+put-requires c κs = search needs
+
+same-length : tie.Need-same-length
+same-length c = search needs
+
+returns : tie.Need-returns
+returns c =
+    let s = c .before .before .before .before .before .before .before .before .args in
+    let i = c .before .before .before .before .before .before .id-place .ensures .0 in
+    λ w ps loc. written _ _ _ _ _ (c .before .put .ensures)
+    (service-record w ps (s .l .now) _ (s .q .start) (s .q .end) loc _ _ _ _ _ (i .0) (i .1) (c .before .before .before .before .before .packed-days .ensures .0 ps loc) (c .before .before .before .before .date .ensures .0) (c .before .before .before .date2 .ensures .0))
+
+pub put-service-spec : {M : Type 1} → statement M
+put-service-spec =
+    tie.close
+    (tie.spec
+    id-place-requires
+    packed-days-requires
+    date-requires
+    date-requires-2
+    put-requires
+    same-length
+    returns)

@@ -1,0 +1,46 @@
+-- `tables::records::put_stop` meets its contract.
+use Rattle.tables.proofs.LineRecords.{stop-record}
+use Rattle.tables.proofs.Readings.{written}
+use Rattle.num.proofs.Laws.{kept-is}
+use borrow.Author.Needs.{needs}
+use Rattle.tables.proofs.records.put_stop.Statement.{statement}
+use Rattle.tables.proofs.records.put_stop.Tie as tie
+
+id-place-requires : tie.Need-id-place-requires
+id-place-requires c κs = search needs
+
+latitude-requires : tie.Need-latitude-requires
+latitude-requires c κs = search needs
+
+longitude-requires : tie.Need-longitude-requires
+longitude-requires c κs = search needs
+
+choice-or-zero-requires : tie.Need-choice-or-zero-requires
+choice-or-zero-requires c κs = search needs
+
+put-requires : tie.Need-put-requires
+put-requires c κs = search needs
+
+same-length : tie.Need-same-length
+same-length c = search needs
+
+returns : tie.Need-returns
+returns c =
+    let s = c .before .before .before .before .before .before .before .before .args in
+    let i = c .before .before .before .before .before .before .id-place .ensures .0 in
+    let x = c .before .before .before .before .before .latitude in
+    let y = c .before .before .before .before .longitude in
+    λ w ps loc none. written _ _ _ _ _ (c .before .put .ensures)
+    (stop-record w ps (s .l .now) _ (s .q .start) (s .q .end) loc _ _ _ _ _ none (i .0) (i .1) (kept-is _ _ (x .ok) (x .ensures)) (kept-is _ _ (y .ok) (y .ensures)) (c .before .before .before .choice-or-zero .ensures .0))
+
+pub put-stop-spec : {M : Type 1} → statement M
+put-stop-spec =
+    tie.close
+    (tie.spec
+    id-place-requires
+    latitude-requires
+    longitude-requires
+    choice-or-zero-requires
+    put-requires
+    same-length
+    returns)

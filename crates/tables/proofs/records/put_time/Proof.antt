@@ -1,0 +1,79 @@
+-- `tables::records::put_time` meets its contract.
+use Rattle.tables.proofs.LineRecords.{time-record}
+use Rattle.tables.proofs.Readings.{written, referred}
+use Rattle.num.proofs.Laws.{kept-is}
+use native.Mathlib.Omega.{arith}
+use borrow.Author.Needs.{needs}
+use Rattle.tables.proofs.records.put_time.Statement.{statement}
+use Rattle.tables.proofs.records.put_time.Tie as tie
+
+raw-requires : tie.Need-raw-requires
+raw-requires c κs = search needs
+
+find-trip-requires : tie.Need-find-trip-requires
+find-trip-requires c κs = search needs
+
+raw-requires-2 : tie.Need-raw-requires-2
+raw-requires-2 c κs = search needs
+
+find-stop-requires : tie.Need-find-stop-requires
+find-stop-requires c κs = search needs
+
+sequence-requires : tie.Need-sequence-requires
+sequence-requires c κs = search needs
+
+clock-requires : tie.Need-clock-requires
+clock-requires c κs = search needs
+
+clock-requires-2 : tie.Need-clock-requires-2
+clock-requires-2 c κs = search needs
+
+choice-or-zero-requires : tie.Need-choice-or-zero-requires
+choice-or-zero-requires c κs = (omega arith, c .before .before .before .before .before .before .before .before .before .before .pre .0 .0 .0)
+
+choice-or-zero-requires-2 : tie.Need-choice-or-zero-requires-2
+choice-or-zero-requires-2 c κs = (omega arith, c .before .before .before .before .before .before .before .before .before .before .before .pre .0 .0 .0)
+
+choice-or-minus-requires : tie.Need-choice-or-minus-requires
+choice-or-minus-requires c κs = (omega arith, c .before .before .before .before .before .before .before .before .before .before .before .before .pre .0 .0 .0)
+
+put-requires : tie.Need-put-requires
+put-requires c κs =
+    let s = c .before .before .before .before .before .before .before .before .before .before .before .before .before .before .pre in
+    let trip = c .before .before .before .before .before .before .before .before .before .find-trip .ensures .1 in
+    let stop = c .before .before .before .before .before .before .before .find-stop .ensures .1 in
+    (s .0 .1, (omega (arith, trip, s .1 .0), (omega (arith, stop, s .1 .1), (omega arith, (omega arith, omega arith)))))
+
+same-length : tie.Need-same-length
+same-length c = search needs
+
+returns : tie.Need-returns
+returns c =
+    let s = c .before .before .before .before .before .before .before .before .before .before .before .before .before .before .before .before .args in
+    let x = c .before .before .before .before .before .before .before .clock in
+    let y = c .before .before .before .before .before .before .clock2 in
+    let z = c .before .before .before .choice-or-minus in
+    λ w ps loc trips stops. written _ _ _ _ _ (c .before .put .ensures)
+    (time-record w ps (s .l .now) _ (s .q .start) (s .q .end) loc _ _ _ _ _ _ _ _
+    (referred _ _ _ _ _ _ _ _ trips (c .before .before .before .before .before .before .before .before .before .before .before .find-trip .ensures .0) (c .before .before .before .before .before .before .before .before .before .before .before .before .raw .ensures))
+    (referred _ _ _ _ _ _ _ _ stops (c .before .before .before .before .before .before .before .before .before .find-stop .ensures .0) (c .before .before .before .before .before .before .before .before .before .before .raw2 .ensures))
+    (c .before .before .before .before .before .before .before .before .sequence .ensures .0) (kept-is _ _ (x .ok) (x .ensures)) (kept-is _ _ (y .ok) (y .ensures))
+    (c .before .before .before .before .before .choice-or-zero .ensures .0) (c .before .before .before .before .choice-or-zero2 .ensures .0) (kept-is _ _ (z .ok) (z .ensures)))
+
+pub put-time-spec : {M : Type 1} → statement M
+put-time-spec =
+    tie.close
+    (tie.spec
+    raw-requires
+    find-trip-requires
+    raw-requires-2
+    find-stop-requires
+    sequence-requires
+    clock-requires
+    clock-requires-2
+    choice-or-zero-requires
+    choice-or-zero-requires-2
+    choice-or-minus-requires
+    put-requires
+    same-length
+    returns)

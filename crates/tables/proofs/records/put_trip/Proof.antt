@@ -1,0 +1,71 @@
+-- `tables::records::put_trip` meets its contract.
+use Rattle.tables.proofs.LineRecords.{trip-record}
+use Rattle.tables.proofs.Readings.{written, referred}
+use Rattle.num.proofs.Laws.{kept-is}
+use native.Mathlib.Omega.{arith}
+use borrow.Author.Needs.{needs}
+use Rattle.tables.proofs.records.put_trip.Statement.{statement}
+use Rattle.tables.proofs.records.put_trip.Tie as tie
+
+raw-requires : tie.Need-raw-requires
+raw-requires c κs = search needs
+
+find-route-requires : tie.Need-find-route-requires
+find-route-requires c κs = search needs
+
+raw-requires-2 : tie.Need-raw-requires-2
+raw-requires-2 c κs = search needs
+
+find-service-requires : tie.Need-find-service-requires
+find-service-requires c κs = search needs
+
+id-place-requires : tie.Need-id-place-requires
+id-place-requires c κs = search needs
+
+choice-or-minus-requires : tie.Need-choice-or-minus-requires
+choice-or-minus-requires c κs = search needs
+
+choice-or-zero-requires : tie.Need-choice-or-zero-requires
+choice-or-zero-requires c κs = (omega arith, c .before .before .before .before .before .before .before .before .before .pre .0 .0 .0)
+
+choice-or-zero-requires-2 : tie.Need-choice-or-zero-requires-2
+choice-or-zero-requires-2 c κs = (omega arith, c .before .before .before .before .before .before .before .before .before .before .pre .0 .0 .0)
+
+put-requires : tie.Need-put-requires
+put-requires c κs =
+    let s = c .before .before .before .before .before .before .before .before .before .before .before .before .pre in
+    let route = c .before .before .before .before .before .before .before .find-route .ensures .1 in
+    let service = c .before .before .before .before .before .find-service .ensures .1 in (
+      s .0 .1,
+      (omega arith, (omega arith, (omega (arith, route, s .1 .0), (omega (arith, service, s .1 .1), (omega arith, omega arith))))),
+    )
+
+same-length : tie.Need-same-length
+same-length c = search needs
+
+returns : tie.Need-returns
+returns c =
+    let s = c .before .before .before .before .before .before .before .before .before .before .before .before .before .before .args in
+    let i = c .before .before .before .before .before .before .id-place .ensures .0 in
+    let d = c .before .before .before .before .before .choice-or-minus in
+    λ w ps loc routes services. written _ _ _ _ _ (c .before .put .ensures)
+    (trip-record w ps (s .l .now) _ (s .q .start) (s .q .end) loc _ _ _ _ _ _ _ (i .0) (i .1)
+    (referred _ _ _ _ _ _ _ _ routes (c .before .before .before .before .before .before .before .before .before .find-route .ensures .0) (c .before .before .before .before .before .before .before .before .before .before .raw .ensures))
+    (referred _ _ _ _ _ _ _ _ services (c .before .before .before .before .before .before .before .find-service .ensures .0) (c .before .before .before .before .before .before .before .before .raw2 .ensures))
+    (kept-is _ _ (d .ok) (d .ensures)) (c .before .before .before .before .choice-or-zero .ensures .0) (c .before .before .before .choice-or-zero2 .ensures .0))
+
+pub put-trip-spec : {M : Type 1} → statement M
+put-trip-spec =
+    tie.close
+    (tie.spec
+    raw-requires
+    find-route-requires
+    raw-requires-2
+    find-service-requires
+    id-place-requires
+    choice-or-minus-requires
+    choice-or-zero-requires
+    choice-or-zero-requires-2
+    put-requires
+    same-length
+    returns)

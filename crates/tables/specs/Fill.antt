@@ -1,0 +1,59 @@
+-- One located line, and the ids that a record's references are looked up among.
+use Prim.Native.Nat.{ℕ, _+_, _*_, _≤_}
+use mathlib.Core.Path.{_≡_}
+use mathlib.Core.List.{List, []}
+use lib.IntN.{ℤ}
+use lib.ListN.{length, getD, drop}
+use Rattle.meaning.specs.declared.Bounds.{Bounds}
+use Rattle.meaning.specs.Bytes.{bounds, part, value, countLf, Line, linesFrom, linesOf}
+use Rattle.meaning.specs.Columns.{fieldAt, places, headerOf}
+use Rattle.meaning.specs.Tables.{Feed, stopIds, routeIds, serviceIds, tripIds, widthOf}
+use Rattle.resolve.specs.First.{Held}
+
+-- a line that starts at a byte
+abbrev pub line : ℕ → List ℕ → Line
+line at l = record { start = at; text = l }
+
+-- where the field under known column k lies, by lists of starts and of ends
+abbrev pub fieldIn : List ℕ → List ℕ → ℕ → Bounds
+fieldIn st en k = bounds (getD st k 0) (getD en k 0)
+
+-- the value under known column k
+abbrev pub valueIn : List ℕ → List ℕ → List ℕ → ℕ → List ℕ
+valueIn l st en k = value (part l (fieldIn st en k))
+
+-- the fields lie inside a line of n bytes
+abbrev pub Within : ℕ → List ℕ → List ℕ → Type 0
+Within n st en = (k : ℕ) → (getD st k 0 ≤ getD en k 0) × (getD en k 0 ≤ n)
+
+-- they are those in the columns ps of a line
+abbrev pub Located : List ℕ → List ℕ → List ℕ → List ℕ → Type 0
+Located l ps st en = (k : ℕ) → fieldIn st en k ≡ fieldAt l (getD ps k 0)
+
+-- a line at a byte, and its fields, lie inside a file of the largest size
+abbrev pub Lies : List ℕ → ℕ → List ℕ → List ℕ → Type 0
+Lies l at st en = Within (length l) st en × (at + length l ≤ 16777216)
+
+-- a table of n records, record 0 among them, holds ids
+pub record Lists (s : List ℕ) (t : List ℤ) (width n : ℕ) (ids : List (List ℕ)) : Type 0 where
+  pub held : Held s t width ids
+  pub count : n ≡ length ids + 1
+
+-- what a file refers to: two files with their tables and their numbers of records. Parents are none at first.
+pub record Refers (f : ℕ) (w : Feed) (a : List ℕ) (at : List ℤ) (an : ℕ) (b : List ℕ) (bt : List ℤ) (bn : ℕ) : Type 0 where
+  pub parents : f ≡ 1 → w .stops ≡ []
+  pub routes : f ≡ 4 → Lists a at 3 an (routeIds w)
+  pub services : f ≡ 4 → Lists b bt 5 bn (serviceIds w)
+  pub trips : f ≡ 5 → Lists a at 7 an (tripIds w)
+  pub stops : f ≡ 5 → Lists b bt 6 bn (stopIds w)
+
+-- a file that has a line, no longer than allowed, and a table with room for its records
+pub record Room (f : ℕ) (s : List ℕ) (t : List ℤ) : Type 0 where
+  pub lines : 1 ≤ countLf s
+  pub size : length s ≤ 16777216
+  pub room : widthOf f * countLf s ≤ length t
+
+-- what a file's header tells: the columns of its known names, and where the next line starts
+pub record Heading (f : ℕ) (s known : List ℕ) (next : ℕ) : Type 0 where
+  pub after : linesFrom s next ≡ drop 1 (linesOf s)
+  pub columns : (k : ℕ) → getD known k 0 ≡ getD (places f (headerOf (linesOf s))) k 0

@@ -1,0 +1,2 @@
+-- What a located line and the tables that a file refers to hold.
+pub mod Fill
