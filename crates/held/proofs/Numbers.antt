@@ -1,0 +1,112 @@
+-- Each number of a filled table, by its record.
+use Prim.Native.Nat.{ℕ, zero, suc, _+_, _*_, _-_, _≤_, _<_}
+use mathlib.Core.Path.{_≡_, refl, sym, ap, _∙_}
+use mathlib.Core.List.{List, [], _∷_, _++_, map}
+use native.Mathlib.Omega.{arith}
+use native.Mathlib.Nat.{add-zero}
+use borrow.Author.Tests.{ne-eqb}
+use lib.IntN.{ℤ, pos}
+use lib.ListN.{length, getD}
+use Rattle.num.specs.Signs.{natOf}
+use Rattle.rows.specs.Cells.{natAt, timeAt, timeIn}
+use Rattle.meaning.specs.Bytes.{Line, countLf, linesOf}
+use Rattle.meaning.specs.Columns.{Row, places, headerOf, rowOf, rowsOf}
+use Rattle.meaning.specs.Forms.{timeOf, dateOf, sequenceOf}
+use Rattle.meaning.specs.Tables.{Feed, widths, widthOf, recordOf, numbersOf, idPlace, stopNumbers, routeNumbers, serviceNumbers, tripNumbers, timeNumbers, under, seconds, number, day, orZero, orMinus, refer, stopIds, routeIds, serviceIds, tripIds, locationType, parentStation, startDate, endDate, tripRoute, tripService, timeTrip, timeStop, stopSequence, arrivalTime, departureTime, timepoint, idColumn}
+use Rattle.meaning.specs.Rules.{row}
+use Rattle.resolve.specs.First.{Held}
+use Rattle.tables.specs.Fill.{line}
+use Rattle.tables.proofs.Ids.{rows-count, row-of-line, cell-at, ids-held, filled-length}
+use Rattle.held.specs.Held.{Filled}
+
+module _ (f : ℕ) (low : 1 ≤ f) (high : f ≤ 5) (w : Feed) (rows : List Row) (s : List ℕ) (t : List ℤ) (h : Filled f w rows s t) where
+  -- a file has as many lines as rows, and the header
+  pub lines-held : length rows + 1 ≡ countLf s
+  lines-held = omega (arith, ap length (h .read), rows-count f s, h .some)
+
+  unfoldable pub the-line : ℕ → Line
+  the-line i = getD (linesOf s) (i + 1) (line 0 [])
+
+  module _ (i : ℕ) (inside : i < length rows) where
+    row-is : rowOf (places f (headerOf (linesOf s))) (the-line i .text) ≡ getD rows i []
+    unfolding the-line
+    row-is = sym (rw (h .read) (row-of-line f s i (line 0 []) (omega (arith, lines-held))))
+
+    -- number j of the record of row i
+    number-held : (j : ℕ) → j < widthOf f → getD t ((i + 1) * widthOf f + j) (pos 0) ≡ getD (recordOf f w (places f (headerOf (linesOf s))) (the-line i)) j (pos 0)
+    unfolding the-line
+    number-held j k = rw (h .is) (cell-at f low high w s (h .lent) (h .some) (i + 1) j (line 0 []) (omega arith) (omega (arith, lines-held)) k)
+
+    -- number j after the place of an id, in files 1 to 4
+    pub after-id : f ≤ 4 → (j : ℕ) → j + 2 < widthOf f → getD t ((i + 1) * widthOf f + (j + 2)) (pos 0) ≡ getD (numbersOf f w (getD rows i [])) j (pos 0)
+    unfolding recordOf idPlace
+    after-id four j k =
+        let ne : f ≡ 5 → ⊥ = λ z. omega arith in
+        let two : j + 2 ≡ suc (suc j) = omega arith in
+        number-held (j + 2) k
+        ∙ rw (ne-eqb f 5 ne, two, row-is)
+
+-- what a reader makes of number j after the place of an id, for a file whose width and numbers are known
+module _ (w : Feed) (s : List ℕ) (t : List ℤ) (i : ℕ) where
+  module _ (h : Filled 1 w (w .stops) s t) (inside : i < length (w .stops)) where
+    pub stop-kind : natAt t ((i + 1) * 6 + 4) ≡ natOf (orZero 2 (locationType (row (w .stops) i)))
+    unfolding widthOf widths numbersOf stopNumbers
+    stop-kind = ap natOf (after-id 1 (omega arith) (omega arith) w (w .stops) s t h i inside (omega arith) 2 (omega arith))
+
+    pub stop-parent : natAt t ((i + 1) * 6 + 5) ≡ refer (parentStation (row (w .stops) i)) (stopIds w)
+    unfolding widthOf widths numbersOf stopNumbers
+    stop-parent = ap natOf (after-id 1 (omega arith) (omega arith) w (w .stops) s t h i inside (omega arith) 3 (omega arith))
+
+  module _ (h : Filled 3 w (w .calendar) s t) (inside : i < length (w .calendar)) where
+    pub service-start : natAt t ((i + 1) * 5 + 3) ≡ natOf (day (dateOf (startDate (row (w .calendar) i))))
+    unfolding widthOf widths numbersOf serviceNumbers
+    service-start = ap natOf (after-id 3 (omega arith) (omega arith) w (w .calendar) s t h i inside (omega arith) 1 (omega arith))
+
+    pub service-end : natAt t ((i + 1) * 5 + 4) ≡ natOf (day (dateOf (endDate (row (w .calendar) i))))
+    unfolding widthOf widths numbersOf serviceNumbers
+    service-end = ap natOf (after-id 3 (omega arith) (omega arith) w (w .calendar) s t h i inside (omega arith) 2 (omega arith))
+
+  module _ (h : Filled 4 w (w .trips) s t) (inside : i < length (w .trips)) where
+    pub trip-route : natAt t ((i + 1) * 7 + 2) ≡ refer (tripRoute (row (w .trips) i)) (routeIds w)
+    unfolding widthOf widths numbersOf tripNumbers
+    trip-route = ap natOf (after-id 4 (omega arith) (omega arith) w (w .trips) s t h i inside (omega arith) 0 (omega arith))
+
+    pub trip-service : natAt t ((i + 1) * 7 + 3) ≡ refer (tripService (row (w .trips) i)) (serviceIds w)
+    unfolding widthOf widths numbersOf tripNumbers
+    trip-service = ap natOf (after-id 4 (omega arith) (omega arith) w (w .trips) s t h i inside (omega arith) 1 (omega arith))
+
+  module _ (h : Filled 5 w (w .stopTimes) s t) (inside : i < length (w .stopTimes)) where
+    -- number j of a stop_times record, which has no id
+    pub time-number : (j : ℕ) → j < 8 → getD t ((i + 1) * 8 + j) (pos 0) ≡ getD (timeNumbers w (row (w .stopTimes) i)) j (pos 0)
+    unfolding widthOf widths recordOf numbersOf
+    time-number j k =
+        number-held 5 (omega arith) (omega arith) w (w .stopTimes) s t h i inside j k
+        ∙ ap (λ r. getD (timeNumbers w r) j (pos 0)) (row-is 5 (omega arith) (omega arith) w (w .stopTimes) s t h i inside)
+
+    pub time-trip : natAt t ((i + 1) * 8) ≡ refer (timeTrip (row (w .stopTimes) i)) (tripIds w)
+    unfolding timeNumbers
+    time-trip = ap natOf (ap (λ k. getD t k (pos 0)) (sym (add-zero ((i + 1) * 8))) ∙ time-number 0 (omega arith))
+
+    pub time-stop : natAt t ((i + 1) * 8 + 1) ≡ refer (timeStop (row (w .stopTimes) i)) (stopIds w)
+    unfolding timeNumbers
+    time-stop = ap natOf (time-number 1 (omega arith))
+
+    pub time-sequence : natAt t ((i + 1) * 8 + 2) ≡ natOf (number (sequenceOf (stopSequence (row (w .stopTimes) i))))
+    unfolding timeNumbers
+    time-sequence = ap natOf (time-number 2 (omega arith))
+
+    pub time-arrival : timeAt t ((i + 1) * 8 + 3) ≡ timeIn (seconds (timeOf (arrivalTime (row (w .stopTimes) i))))
+    unfolding timeNumbers
+    time-arrival = ap timeIn (time-number 3 (omega arith))
+
+    pub time-departure : timeAt t ((i + 1) * 8 + 4) ≡ timeIn (seconds (timeOf (departureTime (row (w .stopTimes) i))))
+    unfolding timeNumbers
+    time-departure = ap timeIn (time-number 4 (omega arith))
+
+    pub time-point : natAt t ((i + 1) * 8 + 7) ≡ natOf (orMinus 1 (timepoint (row (w .stopTimes) i)))
+    unfolding timeNumbers
+    time-point = ap natOf (time-number 7 (omega arith))
+
+-- the ids of files 1 to 4 stand where the resolver looks for them
+pub ids-of : (f : ℕ) → 1 ≤ f → f ≤ 4 → (w : Feed) (rows : List Row) (s : List ℕ) (t : List ℤ) → Filled f w rows s t → Held s t (widthOf f) (map (under (idColumn f)) rows)
+ids-of f low four w rows s t h = rw (h .is, h .read) (ids-held f low (omega arith) w s (h .lent) (h .some) four)

@@ -1,0 +1,2 @@
+-- A table as the check has filled it.
+pub mod Held

@@ -1,0 +1,1 @@
+// What a filled table holds, number by number: laws for the rules that read it.

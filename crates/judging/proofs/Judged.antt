@@ -1,0 +1,204 @@
+-- Laws: judged by what its tables hold, a line breaks exactly the rules that the definitions say.
+use Prim.Native.Nat.{ℕ, _+_, _-_, _≤_, _<_}
+use mathlib.Core.Path.{_≡_, refl, sym, ap, _∙_}
+use mathlib.Core.List.{List, [], _∷_, map}
+use mathlib.Core.Bool.{Bool, true, false, not, _&&_, _||_}
+use native.Mathlib.Omega.{arith}
+use lib.ListN.{length, length-map}
+use lib.Dec.{leb, ltb, eqb}
+use borrow.Author.Tests.{eqb-false}
+use Rattle.num.specs.Signs.{natOf}
+use Rattle.meaning.specs.declared.Time.{Time}
+use Rattle.meaning.specs.Lists.{firstHas, lastHas}
+use Rattle.meaning.specs.Columns.{Row}
+use Rattle.meaning.specs.Forms.{timeOf, dateOf}
+use Rattle.meaning.specs.Tables.{Feed, stopIds, routeIds, serviceIds, tripIds, refer, stopId, routeId, serviceId, parentStation, startDate, endDate, tripId, timeTrip, arrivalTime, departureTime, timeStop, timepoint, orMinus}
+use Rattle.meaning.specs.Rules.{row, rule20, dangling, rule21·stops, rule21·trips, rule21·times, kindOf, otherKind, rule22, rule23, rule24, rule25, given, secondsOf, timed, untimed, arrives, departs, rule26, rule27, sequence, rule28, rule29, ofTrip, ofTripLine, firstOfTrip, rule30, rule31, stopRules, routeRules, serviceRules, tripRules, timeRules}
+use Rattle.meaning.proofs.References.{twentieth, dangling-refer}
+use Rattle.trip_order.specs.Trips.{timedAt, nearLine, nearTimed}
+use Rattle.trip_order.proofs.Laws.{atOne}
+use Rattle.trip_order.proofs.Trips.{rule28-near, rule29-near, few-lines, first-line, last-line}
+use Rattle.judging.specs.Judging.{repeated, loose, offKind, openEnd, bothGiven, halfTimed, notAbove, sooner, overtakes, stopJudged, routeJudged, serviceJudged, tripJudged, timeJudged, testsFrom}
+use Rattle.judging.proofs.Stored.{kind-number, one-number, day-number, sequence-number, given-stored, seconds-stored}
+use Rattle.judging.proofs.Seen.{IsFirst, Refers, KindAt, IsTime, IsSequence, SequenceAt, DepartsAt, StopSeen, RouteSeen, ServiceSeen, TripLines, TripSeen, TimeSeen}
+
+-- ---- one rule
+
+-- a test that is asked only where another doesn't hold
+unless : (t b c : Bool) → (t ≡ false → b ≡ c) → (not t && b) ≡ (not t && c)
+unless true b c h = refl
+unless false b c h = h refl
+
+-- a test that is asked only of what is there
+asked : (k : ℕ) (b c : Bool) → ((k ≡ 0 → ⊥) → b ≡ c) → (not (eqb k 0) && b) ≡ (not (eqb k 0) && c)
+asked k b c h = unless (eqb k 0) b c (λ e. h (eqb-false k 0 e))
+
+repeated-is : (id : Row → List ℕ) (rs : List Row) (i first : ℕ) → i < length rs → IsFirst (map id rs) i first → rule20 (map id rs) i ≡ repeated (i + 1) first
+repeated-is id rs i first h e = rw e (twentieth (map id rs) i (rw length-map h))
+
+loose-is : {v : List ℕ} {ids : List (List ℕ)} {none : Bool} {k : ℕ} → Refers v ids none k → dangling v ids ≡ loose none k
+loose-is {v} {ids} e = rw (e .bare, e .resolves) (dangling-refer v ids)
+
+off-kind-is : (w : Feed) (m : ℕ) (v : List ℕ) (k kind : ℕ) → k ≡ refer v (stopIds w) → KindAt w k kind → otherKind w m v ≡ offKind m k kind
+unfolding otherKind
+off-kind-is w m v k kind e h =
+    rw (← e)
+    (asked k _ _ (λ z. ap (λ n. not (eqb n m)) (sym (h z ∙ kind-number (row (w .stops) (k - 1))))))
+
+given-is : (v : List ℕ) (t : Time) → IsTime v t → given (timeOf v) ≡ given t
+given-is v t e = rw e (sym (given-stored (timeOf v)))
+
+seconds-is : (v : List ℕ) (t : Time) → IsTime v t → secondsOf (timeOf v) ≡ secondsOf t
+seconds-is v t e = rw e (sym (seconds-stored (timeOf v)))
+
+-- ---- rules 30 and 31
+
+module _ (w : Feed) (k : ℕ) (b : Bool) (h : (k ≡ 0 → ⊥) → b ≡ timedAt w (k - 1)) where
+  open-end-is : atOne untimed [] (w .stopTimes) k ≡ openEnd k b
+  unfolding atOne untimed timedAt
+  open-end-is = asked k _ _ (λ z. ap not (sym (h z)))
+
+module _ {w : Feed} {v : List ℕ} {firstLine lastLine : ℕ} {firstTimed lastTimed : Bool} (s : TripLines w v firstLine lastLine firstTimed lastTimed) where
+  few-is : ltb (length (ofTrip v (w .stopTimes))) 2 ≡ eqb firstLine lastLine
+  few-is = rw (s .firsts, s .lasts) (few-lines w v)
+
+  ends-are : (firstHas untimed (ofTrip v (w .stopTimes)) || lastHas untimed (ofTrip v (w .stopTimes))) ≡ (openEnd firstLine firstTimed || openEnd lastLine lastTimed)
+  ends-are =
+      rw (
+        first-line w v untimed,
+        last-line w v untimed,
+        ← s .firsts,
+        ← s .lasts,
+        open-end-is w firstLine firstTimed (s .firsts-timed),
+        open-end-is w lastLine lastTimed (s .lasts-timed),
+      )
+
+-- ---- rules 26 to 29
+
+module _ (r : Row) (arrival departure : Time) (a : IsTime (arrivalTime r) arrival) (d : IsTime (departureTime r) departure) where
+  pub timed-is : timed r ≡ bothGiven arrival departure
+  unfolding timed
+  timed-is = rw (given-is (arrivalTime r) arrival a, given-is (departureTime r) departure d)
+
+module _ (w : Feed) (i : ℕ) (arrival departure : Time) (a : IsTime (arrivalTime (row (w .stopTimes) i)) arrival) (d : IsTime (departureTime (row (w .stopTimes) i)) departure) where
+  half-is : (point : ℕ) → point ≡ natOf (orMinus 1 (timepoint (row (w .stopTimes) i))) → rule26 w i ≡ halfTimed arrival departure point
+  unfolding rule26 untimed
+  half-is point p =
+      let r = row (w .stopTimes) i in
+      rw (
+        timed-is r arrival departure a d,
+        given-is (arrivalTime r) arrival a,
+        given-is (departureTime r) departure d,
+        p,
+        one-number 1 (timepoint r),
+      )
+
+  backward-is : rule27 w i ≡ bothGiven arrival departure && sooner departure arrival
+  unfolding rule27 arrives departs
+  backward-is =
+      let r = row (w .stopTimes) i in
+      rw (
+        timed-is r arrival departure a d,
+        seconds-is (arrivalTime r) arrival a,
+        seconds-is (departureTime r) departure d,
+      )
+
+  overtakes-is : (k : ℕ) (t : Time) → i ≤ length (w .stopTimes) → k ≡ nearTimed w (timeTrip (row (w .stopTimes) i)) i → DepartsAt w k t → rule29 w i ≡ overtakes arrival departure k t
+  unfolding atOne arrives departs
+  overtakes-is k t h e g =
+      let r = row (w .stopTimes) i in
+      rw (
+        rule29-near w i h,
+        timed-is r arrival departure a d,
+        seconds-is (arrivalTime r) arrival a,
+        ← e,
+      )
+      (ap (λ b. bothGiven arrival departure && b)
+      (asked k _ _ (λ z. ap (λ n. ltb (secondsOf arrival) n) (seconds-is (departureTime (row (w .stopTimes) (k - 1))) t (g z)))))
+
+not-above-is : (w : Feed) (i n k m : ℕ) → i ≤ length (w .stopTimes) → IsSequence (row (w .stopTimes) i) n → k ≡ nearLine w (timeTrip (row (w .stopTimes) i)) i → SequenceAt w k m → rule28 w i ≡ notAbove k n m
+unfolding atOne
+not-above-is w i n k m h s e g =
+    let r = row (w .stopTimes) i in
+    rw (rule28-near w i h, ← e, s, sequence-number r)
+    (asked k _ _ (λ z. ap (λ l. leb (sequence r) l) (sym (g z ∙ sequence-number (row (w .stopTimes) (k - 1))))))
+
+-- ---- one line of each file
+
+module _ {w : Feed} {i : ℕ} where
+  pub stop-judged :
+      {first : ℕ} {none : Bool} {parent kind parentKind : ℕ}
+      → i < length (w .stops)
+      → StopSeen w i first none parent kind parentKind
+      → stopRules w i ≡ testsFrom (20 ∷ 21 ∷ 22 ∷ 0 ∷ 0 ∷ 0 ∷ []) (stopJudged (i + 1) first none parent kind parentKind) 3
+  unfolding stopRules testsFrom stopJudged rule21·stops rule22 stopIds
+  stop-judged {first} {none} {parent} {kind} {parentKind} h s =
+      let v = parentStation (row (w .stops) i) in
+      let e : kindOf (row (w .stops) i) ≡ kind = sym (s .kinds ∙ kind-number (row (w .stops) i)) in
+      rw (
+        repeated-is stopId (w .stops) i first h (s .is-first),
+        loose-is (s .parents),
+        off-kind-is w 1 v parent parentKind (s .parents .resolves) (s .parent-kinds),
+        e,
+        ← s .parents .bare,
+      )
+
+  pub route-judged :
+      {first : ℕ} {noShort noLong : Bool}
+      → i < length (w .routes)
+      → RouteSeen w i first noShort noLong
+      → routeRules w i ≡ testsFrom (20 ∷ 25 ∷ 0 ∷ 0 ∷ 0 ∷ 0 ∷ []) (routeJudged (i + 1) first noShort noLong) 2
+  unfolding routeRules testsFrom routeJudged rule25 routeIds
+  route-judged {first} {noShort} {noLong} h s =
+      rw (repeated-is routeId (w .routes) i first h (s .is-first), s .shorts, s .longs)
+
+  pub service-judged :
+      {first start end : ℕ}
+      → i < length (w .calendar)
+      → ServiceSeen w i first start end
+      → serviceRules w i ≡ testsFrom (20 ∷ 24 ∷ 0 ∷ 0 ∷ 0 ∷ 0 ∷ []) (serviceJudged (i + 1) first start end) 2
+  unfolding serviceRules testsFrom serviceJudged rule24 serviceIds
+  service-judged {first} {start} {end} h s =
+      let r = row (w .calendar) i in
+      rw (
+        repeated-is serviceId (w .calendar) i first h (s .is-first),
+        s .starts,
+        s .ends,
+        day-number (dateOf (startDate r)),
+        day-number (dateOf (endDate r)),
+      )
+
+  pub trip-judged :
+      {first : ℕ} {noRoute : Bool} {route : ℕ} {noService : Bool} {service firstLine lastLine : ℕ} {firstTimed lastTimed : Bool}
+      → i < length (w .trips)
+      → TripSeen w i first noRoute route noService service firstLine lastLine firstTimed lastTimed
+      → tripRules w i ≡ testsFrom (20 ∷ 21 ∷ 30 ∷ 31 ∷ 0 ∷ 0 ∷ []) (tripJudged (i + 1) first noRoute route noService service firstLine lastLine firstTimed lastTimed) 4
+  unfolding tripRules testsFrom tripJudged rule21·trips rule30 rule31 firstOfTrip ofTripLine tripIds
+  trip-judged {first} {noRoute} {route} {noService} {service} {firstLine} {lastLine} {firstTimed} {lastTimed} h s =
+      let v = tripId (row (w .trips) i) in
+      let rs = ofTrip v (w .stopTimes) in
+      rw (
+        repeated-is tripId (w .trips) i first h (s .is-first),
+        loose-is (s .routed),
+        loose-is (s .served),
+        unless (repeated (i + 1) first) (ltb (length rs) 2) (eqb firstLine lastLine) (λ e. few-is (s .lines e)),
+        unless (repeated (i + 1) first) (firstHas untimed rs || lastHas untimed rs) (openEnd firstLine firstTimed || openEnd lastLine lastTimed) (λ e. ends-are (s .lines e)),
+      )
+
+  pub time-judged :
+      {noTrip : Bool} {trip : ℕ} {noStop : Bool} {stop stopKind : ℕ} {arrival departure : Time} {point sequenced near nearSequence timedNear : ℕ} {nearDeparture : Time}
+      → i < length (w .stopTimes)
+      → TimeSeen w i noTrip trip noStop stop stopKind arrival departure point sequenced near nearSequence timedNear nearDeparture
+      → timeRules w i ≡ testsFrom (21 ∷ 23 ∷ 26 ∷ 27 ∷ 28 ∷ 29 ∷ []) (timeJudged noTrip trip noStop stop stopKind arrival departure point sequenced near nearSequence timedNear nearDeparture) 6
+  unfolding timeRules testsFrom timeJudged rule21·times rule23
+  time-judged {noTrip} {trip} {noStop} {stop} {stopKind} {arrival} {departure} {point} {sequenced} {near} {nearSequence} {timedNear} {nearDeparture} h s =
+      let r = row (w .stopTimes) i in
+      rw (
+        loose-is (s .trips),
+        loose-is (s .halts),
+        off-kind-is w 0 (timeStop r) stop stopKind (s .halts .resolves) (s .kinds),
+        half-is w i arrival departure (s .arrived) (s .departed) point (s .points),
+        backward-is w i arrival departure (s .arrived) (s .departed),
+        not-above-is w i sequenced near nearSequence (omega arith) (s .sequences) (s .nears) (s .near-sequences),
+        overtakes-is w i arrival departure (s .arrived) (s .departed) timedNear nearDeparture (omega arith) (s .nears-timed) (s .near-departed),
+      )

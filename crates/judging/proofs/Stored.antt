@@ -1,0 +1,95 @@
+-- Laws: a stored number says what the value that it was stored for says.
+use Prim.Native.Nat.{ℕ}
+use mathlib.Core.Path.{_≡_, refl}
+use mathlib.Core.List.{List}
+use mathlib.Core.Bool.{Bool, true, false, cond}
+use lib.ListN.{length}
+use lib.Dec.{eqb}
+use lib.IntN.{ℤ}
+use borrow.Author.Tests.{eqb-true}
+use Rattle.num.specs.Signs.{natOf}
+use Rattle.meaning.specs.declared.Number.{Number}
+use Rattle.meaning.specs.declared.Number.the-variants.{Value, NoNumber}
+use Rattle.meaning.specs.declared.Time.{Time}
+use Rattle.meaning.specs.declared.Time.the-variants.{Seconds, Untimed, NoTime}
+use Rattle.meaning.specs.declared.Date.{Date}
+use Rattle.meaning.specs.declared.Date.the-variants.{Day, NoDate}
+use Rattle.meaning.specs.declared.Choice.{Choice}
+use Rattle.meaning.specs.declared.Choice.the-variants.{Picked, NoChoice}
+use Rattle.meaning.specs.Lists.{empty}
+use Rattle.meaning.specs.Columns.{Row}
+use Rattle.meaning.specs.Forms.{noMark, formed, digitText, choiceOf, sequenceOf}
+use Rattle.meaning.specs.Tables.{locationType, stopSequence, seconds, day, number, picked, choiceOr, orZero, orMinus, oneIf}
+use Rattle.meaning.specs.Rules.{kindOf, dayOf, given, secondsOf, isOne, valueOf, sequence}
+use Rattle.rows.specs.Cells.{timeIn}
+
+-- ---- choices
+
+-- an empty value is no choice
+pub empty-choice : (m : ℕ) (v : List ℕ) → empty v ≡ true → choiceOf m v ≡ NoChoice
+unfolding empty choiceOf formed digitText
+empty-choice m v e =
+    let z : length v ≡ 0 = eqb-true (length v) 0 e in
+    rw z (go (noMark v))
+  where
+    go : (b : Bool) → cond b NoChoice NoChoice ≡ NoChoice
+    go true = refl
+    go false = refl
+
+-- a question that the stored number answers as the choice does, where `none` answers as no choice
+stored :
+    {A : Type 0} (none : ℤ) (m : ℕ) (v : List ℕ) (f : ℤ → A) (g : Choice → A)
+    → ((c : Choice) → f (picked c) ≡ g c)
+    → f none ≡ g NoChoice
+    → f (choiceOr none m v) ≡ g (choiceOf m v)
+unfolding choiceOr
+stored none m v f g h k = go (empty v) refl
+  where
+    go : (b : Bool) → empty v ≡ b → f (cond b none (picked (choiceOf m v))) ≡ g (choiceOf m v)
+    go true e = rw (empty-choice m v e) k
+    go false e = h (choiceOf m v)
+
+pub choice-number : (m : ℕ) (v : List ℕ) → natOf (orZero m v) ≡ oneIf (choiceOf m v)
+unfolding orZero
+choice-number m v = stored _ m v natOf oneIf go refl
+  where
+    go : (c : Choice) → natOf (picked c) ≡ oneIf c
+    go (Picked n) = refl
+    go NoChoice = refl
+
+pub kind-number : (r : Row) → natOf (orZero 2 (locationType r)) ≡ kindOf r
+unfolding kindOf
+kind-number r = choice-number 2 (locationType r)
+
+-- -1, which stands for an empty value, isn't 1
+pub one-number : (m : ℕ) (v : List ℕ) → eqb (natOf (orMinus m v)) 1 ≡ isOne (choiceOf m v)
+unfolding orMinus
+one-number m v = stored _ m v (λ z. eqb (natOf z) 1) isOne go refl
+  where
+    go : (c : Choice) → eqb (natOf (picked c)) 1 ≡ isOne c
+    go (Picked n) = refl
+    go NoChoice = refl
+
+-- ---- days, sequences, times
+
+pub day-number : (d : Date) → natOf (day d) ≡ dayOf d
+day-number (Day n) = refl
+day-number NoDate = refl
+
+pub value-number : (n : Number) → natOf (number n) ≡ valueOf n
+value-number (Value n) = refl
+value-number NoNumber = refl
+
+pub sequence-number : (r : Row) → natOf (number (sequenceOf (stopSequence r))) ≡ sequence r
+unfolding sequence
+sequence-number r = value-number (sequenceOf (stopSequence r))
+
+pub given-stored : (t : Time) → given (timeIn (seconds t)) ≡ given t
+given-stored (Seconds n) = refl
+given-stored Untimed = refl
+given-stored NoTime = refl
+
+pub seconds-stored : (t : Time) → secondsOf (timeIn (seconds t)) ≡ secondsOf t
+seconds-stored (Seconds n) = refl
+seconds-stored Untimed = refl
+seconds-stored NoTime = refl

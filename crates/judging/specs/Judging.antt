@@ -1,0 +1,99 @@
+-- What the stored numbers of one line, and a few tests of its values, say of each binding rule.
+use Prim.Native.Nat.{ℕ, zero, suc}
+use mathlib.Core.List.{List, [], _∷_, _++_}
+use mathlib.Core.Bool.{Bool, false, not, _&&_, _||_}
+use lib.ListN.{getD}
+use lib.Dec.{leb, ltb, eqb}
+use Rattle.meaning.specs.declared.Time.{Time}
+use Rattle.meaning.specs.Refusals.{Test, test}
+use Rattle.meaning.specs.Rules.{given, secondsOf}
+
+-- ---- one rule
+
+-- 20: the first record with this line's id is an earlier one
+abbrev pub repeated : ℕ → ℕ → Bool
+repeated line first = ltb first line
+
+-- 21: a reference that isn't empty has no record
+abbrev pub loose : Bool → ℕ → Bool
+loose none k = not none && eqb k 0
+
+-- 22, 23: the stop that a reference resolves to is of another kind
+abbrev pub offKind : ℕ → ℕ → ℕ → Bool
+offKind wanted k kind = not (eqb k 0) && not (eqb kind wanted)
+
+-- 22: a parent where there is to be none, none where there is to be one, or one that is no station
+abbrev pub misplaced : Bool → ℕ → ℕ → ℕ → Bool
+misplaced none parent kind parentKind =
+    eqb kind 1 && not none || (eqb kind 2 && none || offKind 1 parent parentKind)
+
+-- 31: there is a line, and it isn't timed
+abbrev pub openEnd : ℕ → Bool → Bool
+openEnd line timed = not (eqb line 0) && not timed
+
+-- a line has both times
+abbrev pub bothGiven : Time → Time → Bool
+bothGiven arrival departure = given arrival && given departure
+
+-- 26: just one time given, or timepoint 1 without both
+abbrev pub halfTimed : Time → Time → ℕ → Bool
+halfTimed arrival departure timepoint =
+    not (bothGiven arrival departure) && ((given arrival || given departure) || eqb timepoint 1)
+
+-- 27, 29: the first of two times comes before the second
+abbrev pub sooner : Time → Time → Bool
+sooner a b = ltb (secondsOf a) (secondsOf b)
+
+-- 28: the nearest line's sequence isn't below this one's
+abbrev pub notAbove : ℕ → ℕ → ℕ → Bool
+notAbove near sequence nearSequence = not (eqb near 0) && leb sequence nearSequence
+
+-- 29: a timed line arrives before the nearest timed one departs
+abbrev pub overtakes : Time → Time → ℕ → Time → Bool
+overtakes arrival departure nearTimed nearDeparture =
+    bothGiven arrival departure && (not (eqb nearTimed 0) && sooner arrival nearDeparture)
+
+-- ---- the rules of a line of each file, in the order of their numbers; unused places are false
+
+unfoldable pub stopJudged : ℕ → ℕ → Bool → ℕ → ℕ → ℕ → List Bool
+stopJudged line first noParent parent kind parentKind =
+    repeated line first
+    ∷ loose noParent parent
+    ∷ misplaced noParent parent kind parentKind
+    ∷ false
+    ∷ false
+    ∷ false
+    ∷ []
+
+unfoldable pub routeJudged : ℕ → ℕ → Bool → Bool → List Bool
+routeJudged line first noShort noLong =
+    repeated line first ∷ (noShort && noLong) ∷ false ∷ false ∷ false ∷ false ∷ []
+
+unfoldable pub serviceJudged : ℕ → ℕ → ℕ → ℕ → List Bool
+serviceJudged line first start end = repeated line first ∷ ltb end start ∷ false ∷ false ∷ false ∷ false ∷ []
+
+unfoldable pub tripJudged : ℕ → ℕ → Bool → ℕ → Bool → ℕ → ℕ → ℕ → Bool → Bool → List Bool
+tripJudged line first noRoute route noService service firstLine lastLine firstTimed lastTimed =
+    repeated line first
+    ∷ (loose noRoute route || loose noService service)
+    ∷ (not (repeated line first) && eqb firstLine lastLine)
+    ∷ (not (repeated line first) && (openEnd firstLine firstTimed || openEnd lastLine lastTimed))
+    ∷ false
+    ∷ false
+    ∷ []
+
+unfoldable pub timeJudged : Bool → ℕ → Bool → ℕ → ℕ → Time → Time → ℕ → ℕ → ℕ → ℕ → ℕ → Time → List Bool
+timeJudged noTrip trip noStop stop stopKind arrival departure timepoint sequence near nearSequence nearTimed nearDeparture =
+    (loose noTrip trip || loose noStop stop)
+    ∷ offKind 0 stop stopKind
+    ∷ halfTimed arrival departure timepoint
+    ∷ (bothGiven arrival departure && sooner departure arrival)
+    ∷ notAbove near sequence nearSequence
+    ∷ overtakes arrival departure nearTimed nearDeparture
+    ∷ []
+
+-- the first n rules of a line, by their numbers, with what was judged of them
+unfoldable pub testsFrom : List ℕ → List Bool → ℕ → List Test
+testsFrom numbers broken zero = []
+testsFrom numbers broken (suc n) =
+    testsFrom numbers broken n ++ (test (getD numbers n 0) (getD broken n false) ∷ [])

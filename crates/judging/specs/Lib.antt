@@ -1,0 +1,2 @@
+-- What a line's numbers say of each rule.
+pub mod Judging

@@ -1,0 +1,4 @@
+pub mod Laws
+pub mod Marks
+pub mod Trips
+pub mod Walking

@@ -1,0 +1,21 @@
+-- `trip_order::is_of` meets its contract.
+use mathlib.Core.Path.{_≡_, refl, sym, ap, _∙_}
+use borrow.Author.Needs.{needs}
+use Rattle.trip_order.proofs.is_of.Statement.{statement}
+use Rattle.trip_order.proofs.is_of.Tie as tie
+use Rattle.trip_order.proofs.is_of.Reads as reads
+use Rattle.trip_order.proofs.is_of.Lts as lts
+use Rattle.columns.proofs.field.Reads as field-reads
+use Rattle.text.proofs.same_value.Reads as same-value-reads
+
+field-requires : tie.Need-field-requires
+field-requires c κs = search needs
+
+same-value-requires : tie.Need-same-value-requires
+same-value-requires c κs = search needs
+
+returns : tie.Need-returns
+returns c = c .same-value .ensures ∙ rw (c .before .field .ensures)
+
+pub is-of-spec : {M : Type 1} → statement M
+is-of-spec = tie.close (tie.spec field-requires same-value-requires returns)
