@@ -1,0 +1,29 @@
+-- `file_rules::count_of` meets its contract.
+use mathlib.Core.Path.{_≡_, sym, ap}
+use native.Mathlib.Omega.{arith}
+use Rattle.file_rules.specs.Lines.{ruleCount}
+use Rattle.file_rules.proofs.count_of.Statement.{statement}
+use Rattle.file_rules.proofs.count_of.Tie as tie
+
+returns : tie.Need-returns
+unfolding ruleCount
+returns c =
+    let e : c .before .args .f ≡ 1 = omega arith in (ap ruleCount (sym e), omega arith)
+
+returns-2 : tie.Need-returns-2
+unfolding ruleCount
+returns-2 c =
+    let e : c .before .args .f ≡ 2 = omega arith in (ap ruleCount (sym e), omega arith)
+
+returns-3 : tie.Need-returns-3
+unfolding ruleCount
+returns-3 c =
+    let e : c .before .args .f ≡ 3 = omega arith in (ap ruleCount (sym e), omega arith)
+
+returns-4 : tie.Need-returns-4
+unfolding ruleCount
+returns-4 c =
+    let e : c .before .args .f ≡ 4 = omega arith in (ap ruleCount (sym e), omega arith)
+
+pub count-of-spec : {M : Type 1} → statement M
+count-of-spec = tie.close (tie.spec returns returns-2 returns-3 returns-4)

@@ -1,0 +1,29 @@
+-- `file_rules::numbers_of` meets its contract.
+use mathlib.Core.Path.{_≡_, sym, ap}
+use native.Mathlib.Omega.{arith}
+use Rattle.file_rules.specs.Lines.{ruleNumbers}
+use Rattle.file_rules.proofs.numbers_of.Statement.{statement}
+use Rattle.file_rules.proofs.numbers_of.Tie as tie
+
+returns : tie.Need-returns
+unfolding ruleNumbers
+returns c =
+    let e : c .before .args .f ≡ 1 = omega arith in ap ruleNumbers (sym e)
+
+returns-2 : tie.Need-returns-2
+unfolding ruleNumbers
+returns-2 c =
+    let e : c .before .args .f ≡ 2 = omega arith in ap ruleNumbers (sym e)
+
+returns-3 : tie.Need-returns-3
+unfolding ruleNumbers
+returns-3 c =
+    let e : c .before .args .f ≡ 3 = omega arith in ap ruleNumbers (sym e)
+
+returns-4 : tie.Need-returns-4
+unfolding ruleNumbers
+returns-4 c =
+    let e : c .before .args .f ≡ 4 = omega arith in ap ruleNumbers (sym e)
+
+pub numbers-of-spec : {M : Type 1} → statement M
+numbers-of-spec = tie.close (tie.spec returns returns-2 returns-3 returns-4)

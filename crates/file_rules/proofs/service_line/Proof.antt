@@ -1,0 +1,35 @@
+-- `file_rules::service_line` meets its contract.
+use Rattle.file_rules.proofs.Seen.{service-line-is}
+use borrow.Author.Needs.{needs}
+use Rattle.file_rules.proofs.service_line.Statement.{statement}
+use Rattle.file_rules.proofs.service_line.Tie as tie
+
+add-row : tie.Need-add-row
+add-row c = search needs
+
+first-of-requires : tie.Need-first-of-requires
+first-of-requires c κs = search needs
+
+start-at-requires : tie.Need-start-at-requires
+start-at-requires c κs = search needs
+
+end-at-requires : tie.Need-end-at-requires
+end-at-requires c κs = search needs
+
+judge-service-requires : tie.Need-judge-service-requires
+judge-service-requires c κs = search needs
+
+returns : tie.Need-returns
+returns c =
+    λ w h. service-line-is h (c .before .before .before .first-of .ensures) (c .before .before .start-at .ensures) (c .before .end-at .ensures) (c .judge-service .ensures)
+
+pub service-line-spec : {M : Type 1} → statement M
+service-line-spec =
+    tie.close
+    (tie.spec
+    add-row
+    first-of-requires
+    start-at-requires
+    end-at-requires
+    judge-service-requires
+    returns)

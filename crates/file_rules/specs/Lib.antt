@@ -1,0 +1,2 @@
+-- What the findings of files 1 to 4 rest on.
+pub mod Lines

@@ -1,0 +1,2 @@
+-- What the parts give together.
+pub mod Laws

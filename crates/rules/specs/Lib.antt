@@ -1,0 +1,2 @@
+-- What the rules look at.
+pub mod Tabled

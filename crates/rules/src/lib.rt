@@ -1,0 +1,102 @@
+// All findings of a feed whose tables are filled, handed out in order.
+ghost use mathlib.Core.Path.{_≡_};
+ghost use mathlib.Core.List.{List, _++_};
+ghost use Prim.Native.Nat.{ℕ, _+_, _*_, _-_, _≤_};
+ghost use lib.ListN.{length};
+ghost use Rattle.meaning.specs.Bytes.{countLf};
+ghost use Rattle.meaning.specs.Tables.{Feed};
+ghost use Rattle.meaning.specs.Rules.{bindingsOf};
+ghost use Rattle.meaning.specs.Findings.{findingsOf};
+ghost use Rattle.listing.specs.Handing.{state, noting, handedOut};
+ghost use Rattle.file_rules.specs.Lines.{Marked};
+ghost use Rattle.rules.specs.Tabled.{Tabled};
+use listing::Sink;
+use meaning::Place;
+
+// How many records a file has: a line each, but for the header.
+fn records_of(s: &[u8]) -> usize
+    ensures { λ r. ⌜ (r ≡ countLf (now (s .entry)) - 1) × (r ≤ length (now (s .entry))) ⌝ }
+{
+    let lines = text::count_lf(s);
+    if lines == 0 {
+        return 0;
+    }
+    lines - 1
+}
+
+// The findings of files 1 to 4, the first and the last line of each trip being marked.
+fn list_four(
+    stops: &[u8],
+    routes: &[u8],
+    calendar: &[u8],
+    trips: &[u8],
+    stops_table: &[i32],
+    routes_table: &[i32],
+    calendar_table: &[i32],
+    trips_table: &[i32],
+    times: &[i32],
+    first: &[u32],
+    last: &[u32],
+    out: &mut [i32],
+    p: Place,
+) -> Sink
+    requires { ⌜ (countLf (now stops) ≤ 65536) × ((countLf (now routes) ≤ 65536) × ((countLf (now calendar) ≤ 65536) × (countLf (now trips) ≤ 65536))) ⌝ }
+    ensures { λ r. ⌜ ((w : Feed) (file : List ℕ)
+        → Tabled w (now (stops .entry)) (now (routes .entry)) (now (calendar .entry)) (now (trips .entry)) file
+        (now («stops_table» .entry)) (now («routes_table» .entry)) (now («calendar_table» .entry)) (now («trips_table» .entry)) (now (times .entry))
+        → Marked w (now (times .entry)) (now (first .entry)) (now (last .entry))
+        → state (now (out .exit)) r ≡ noting p (bindingsOf w 1 ++ (bindingsOf w 2 ++ (bindingsOf w 3 ++ bindingsOf w 4))) (state (now (out .entry)) (record { written = 0; total = 0 }))) ⌝ }
+    ensures { λ r. ⌜ r .total ≤ 16 * 65536 ⌝ }
+{
+    let none = Sink {
+        written: 0,
+        total: 0,
+    };
+    let one = file_rules::list_file(1, stops, stops_table, times, first, last, out, none, p);
+    let two = file_rules::list_file(2, routes, routes_table, times, first, last, out, one, p);
+    let three = file_rules::list_file(3, calendar, calendar_table, times, first, last, out, two, p);
+    file_rules::list_file(4, trips, trips_table, times, first, last, out, three, p)
+}
+
+// All findings: those after the starting place are written, as many as fit; the rest of the list stays.
+pub fn list_findings(
+    stops: &[u8],
+    routes: &[u8],
+    calendar: &[u8],
+    trips: &[u8],
+    stop_times: &[u8],
+    stops_table: &[i32],
+    routes_table: &[i32],
+    calendar_table: &[i32],
+    trips_table: &[i32],
+    times: &[i32],
+    out: &mut [i32],
+    p: Place,
+) -> Sink
+    requires { ⌜ (countLf (now stops) ≤ 65536) × ((countLf (now routes) ≤ 65536) × ((countLf (now calendar) ≤ 65536) × ((countLf (now trips) ≤ 65536) × (countLf (now «stop_times») ≤ 65536)))) ⌝ }
+    ensures { λ r. ⌜ ((w : Feed)
+        → Tabled w (now (stops .entry)) (now (routes .entry)) (now (calendar .entry)) (now (trips .entry)) (now («stop_times» .entry))
+        (now («stops_table» .entry)) (now («routes_table» .entry)) (now («calendar_table» .entry)) (now («trips_table» .entry)) (now (times .entry))
+        → state (now (out .exit)) r ≡ handedOut p (findingsOf w) (now (out .entry))) ⌝ }
+    ensures { λ r. ⌜ r .total ≤ 22 * 65536 ⌝ }
+{
+    let mut first = trip_order::blank();
+    let mut last = trip_order::blank();
+    trip_order::mark_ends(times, records_of(stop_times), &mut first, &mut last);
+    let k = list_four(
+        stops,
+        routes,
+        calendar,
+        trips,
+        stops_table,
+        routes_table,
+        calendar_table,
+        trips_table,
+        times,
+        &first,
+        &last,
+        out,
+        p,
+    );
+    time_rules::list_times(stop_times, times, stops_table, out, k, p)
+}

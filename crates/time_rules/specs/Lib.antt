@@ -1,0 +1,2 @@
+-- What the rules of stop_times look at.
+pub mod Context
