@@ -1,0 +1,123 @@
+-- Laws: a readable feed is ready to be filled, and a filled one to be judged.
+use Prim.Native.Nat.{ℕ, suc, _+_, _*_, _-_, _≤_, _<_}
+use mathlib.Core.Path.{_≡_, refl, sym, ap, _∙_}
+use mathlib.Core.List.{List, [], _∷_, map}
+use mathlib.Core.Bool.{Bool, true, false, cond}
+use native.Mathlib.Omega.{arith}
+use lib.IntN.{ℤ}
+use lib.ListN.{length, getD}
+use lib.Dec.{eqb}
+use Rattle.meaning.specs.declared.Refusal.{Refusal}
+use Rattle.meaning.specs.declared.Verdict.the-variants.{Readable, Unreadable}
+use Rattle.meaning.specs.declared.Place.{Place}
+use Rattle.meaning.specs.declared.Answer.{Answer}
+use Rattle.meaning.specs.declared.Answer.the-variants.{Accepted, Findings, Refused}
+use Rattle.meaning.specs.Lists.{empty}
+use Rattle.meaning.specs.Bytes.{countLf}
+use Rattle.meaning.specs.Columns.{rowsOf, schemas, schema, knownAt, columnOf, countOf, tripsColumns}
+use Rattle.meaning.specs.Tables.{Feed, fileOf, feedOf, widthOf, filled, tripId}
+use Rattle.meaning.specs.Refusals.{verdictOf, blank}
+use Rattle.meaning.specs.Rules.{row}
+use Rattle.meaning.specs.Findings.{findingsOf, answerOf, handed, page, roomOf}
+use Rattle.meaning.specs.Outcome.{Outcome, readOutcome, filledFrom, outcome}
+use Rattle.meaning.proofs.Readable.{WholeKept, whole-kept, values-kept}
+use Rattle.text.proofs.Lines.{ended-count}
+use Rattle.tables.specs.Fill.{Room}
+use Rattle.tables.proofs.Ids.{rows-count}
+use Rattle.listing.specs.Handing.{State, state, handedOut}
+use Rattle.listing.specs.declared.Sink.{Sink}
+use Rattle.held.specs.Held.{Filled}
+use Rattle.rules.specs.Tabled.{Tabled}
+
+-- what reading leaves of a file: room in its table, and few lines
+pub record Kept (f : ℕ) (s : List ℕ) (t : List ℤ) : Type 0 where
+  pub room : Room f s t
+  pub few : countLf s ≤ 65536
+
+kept : (f : ℕ) (s : List ℕ) (t : List ℤ) → WholeKept f s (length t) → Kept f s t
+kept f s t k = record {
+  room = record { lines = ended-count f s (length t) (k .ended); size = k .short; room = k .roomy };
+  few = k .few;
+}
+
+filled-of : (f : ℕ) (w : Feed) (s : List ℕ) (t t′ : List ℤ) → Kept f s t → t′ ≡ filled f w s t → Filled f w (rowsOf f s) s t′
+filled-of f w s t t′ k e = record { lent = t; is = e; roomy = k .room .room; some = k .room .lines; read = refl }
+
+module _ (s₁ s₂ s₃ s₄ s₅ : List ℕ) (t₁ t₂ t₃ t₄ t₅ : List ℤ) (read : verdictOf (s₁ ∷ s₂ ∷ s₃ ∷ s₄ ∷ s₅ ∷ []) (length t₁ ∷ length t₂ ∷ length t₃ ∷ length t₄ ∷ length t₅ ∷ []) ≡ Readable) where
+  abbrev files : List (List ℕ)
+  files = s₁ ∷ s₂ ∷ s₃ ∷ s₄ ∷ s₅ ∷ []
+
+  abbrev rooms : List ℕ
+  rooms = length t₁ ∷ length t₂ ∷ length t₃ ∷ length t₄ ∷ length t₅ ∷ []
+
+  pub stops-kept : Kept 1 s₁ t₁
+  unfolding fileOf
+  stops-kept = kept 1 s₁ t₁ (whole-kept files rooms read 1 (omega arith) (omega arith) (omega arith))
+
+  pub routes-kept : Kept 2 s₂ t₂
+  unfolding fileOf
+  routes-kept = kept 2 s₂ t₂ (whole-kept files rooms read 2 (omega arith) (omega arith) (omega arith))
+
+  pub calendar-kept : Kept 3 s₃ t₃
+  unfolding fileOf
+  calendar-kept = kept 3 s₃ t₃ (whole-kept files rooms read 3 (omega arith) (omega arith) (omega arith))
+
+  pub trips-kept : Kept 4 s₄ t₄
+  unfolding fileOf
+  trips-kept = kept 4 s₄ t₄ (whole-kept files rooms read 4 (omega arith) (omega arith) (omega arith))
+
+  pub times-kept : Kept 5 s₅ t₅
+  unfolding fileOf
+  times-kept = kept 5 s₅ t₅ (whole-kept files rooms read 5 (omega arith) (omega arith) (omega arith))
+
+  -- a readable feed has no empty trip_id
+  trip-named : (i : ℕ) → i < length (rowsOf 4 s₄) → empty (tripId (getD (rowsOf 4 s₄) i [])) ≡ false
+  unfolding fileOf blank columnOf knownAt schema schemas countOf tripsColumns
+  trip-named i h = values-kept files rooms read 4 (omega arith) (omega arith) i h 2 (omega arith) .there
+
+  -- once its tables are filled, the rules can be judged
+  pub tabled :
+      (u₁ u₂ u₃ u₄ u₅ : List ℤ)
+      → u₁ ≡ filled 1 (feedOf files) s₁ t₁
+      → u₂ ≡ filled 2 (feedOf files) s₂ t₂
+      → u₃ ≡ filled 3 (feedOf files) s₃ t₃
+      → u₄ ≡ filled 4 (feedOf files) s₄ t₄
+      → u₅ ≡ filled 5 (feedOf files) s₅ t₅
+      → Tabled (feedOf files) s₁ s₂ s₃ s₄ s₅ u₁ u₂ u₃ u₄ u₅
+  unfolding feedOf fileOf
+  tabled u₁ u₂ u₃ u₄ u₅ a b c d e = record {
+    stops = filled-of 1 (feedOf files) s₁ t₁ u₁ stops-kept a;
+    routes = filled-of 2 (feedOf files) s₂ t₂ u₂ routes-kept b;
+    calendar = filled-of 3 (feedOf files) s₃ t₃ u₃ calendar-kept c;
+    trips = filled-of 4 (feedOf files) s₄ t₄ u₄ trips-kept d;
+    times = filled-of 5 (feedOf files) s₅ t₅ u₅ times-kept e;
+    named = trip-named;
+    few = omega (arith, rows-count 4 s₄, trips-kept .few, trips-kept .room .lines);
+  }
+
+  -- and the outcome is what is answered and held
+  pub outcome-read :
+      (u₁ u₂ u₃ u₄ u₅ lent list : List ℤ) (p : Place) (k : Sink) (r : Answer)
+      → u₁ ≡ filled 1 (feedOf files) s₁ t₁
+      → u₂ ≡ filled 2 (feedOf files) s₂ t₂
+      → u₃ ≡ filled 3 (feedOf files) s₃ t₃
+      → u₄ ≡ filled 4 (feedOf files) s₄ t₄
+      → u₅ ≡ filled 5 (feedOf files) s₅ t₅
+      → state list k ≡ handedOut p (findingsOf (feedOf files)) lent
+      → r ≡ cond (eqb (k .total) 0) Accepted (Findings (k .written) (k .total))
+      → readOutcome files (t₁ ∷ t₂ ∷ t₃ ∷ t₄ ∷ t₅ ∷ []) lent p ≡ record { answer = r; tables = u₁ ∷ u₂ ∷ u₃ ∷ u₄ ∷ u₅ ∷ []; list = list }
+  unfolding readOutcome filledFrom answerOf
+  outcome-read u₁ u₂ u₃ u₄ u₅ lent list p k r a b c d e g h =
+      let o : list ≡ handed p (findingsOf (feedOf files)) lent = ap (λ (z : State). z .out) g in
+      let n : k .written ≡ length (page p (roomOf lent) (findingsOf (feedOf files))) = ap (λ (z : State). z .written) g in
+      let m : k .total ≡ length (findingsOf (feedOf files)) = ap (λ (z : State). z .total) g in
+      rw (h, n, m, o, a, b, c, d, e)
+
+module _ (files : List (List ℕ)) (tables : List (List ℤ)) (list : List ℤ) (p : Place) where
+  pub outcome-readable : (o : Outcome) → verdictOf files (map length tables) ≡ Readable → readOutcome files tables list p ≡ o → outcome files tables list p ≡ o
+  unfolding outcome
+  outcome-readable o e h = rw e h
+
+  pub outcome-refused : (r : Refusal) → verdictOf files (map length tables) ≡ Unreadable r → outcome files tables list p ≡ record { answer = Refused r; tables = tables; list = list }
+  unfolding outcome
+  outcome-refused r e = rw e

@@ -1,0 +1,4 @@
+-- What reading, the tables and the rules give together.
+pub mod Laws
+pub mod Bounds
+pub mod Demands

@@ -1,0 +1,15 @@
+-- `tusuchiy::answer_of` meets its contract.
+use borrow.Author.Tests.{eq-eqb, ne-eqb}
+use Rattle.tusuchiy.proofs.answer_of.Statement.{statement}
+use Rattle.tusuchiy.proofs.answer_of.Tie as tie
+use Rattle.tusuchiy.proofs.answer_of.Reads as reads
+use Rattle.tusuchiy.proofs.answer_of.Lts as lts
+
+returns : tie.Need-returns
+returns c = rw (eq-eqb (c .before .before .args .k .total) 0 (c .if1 .taken))
+
+returns-2 : tie.Need-returns-2
+returns-2 c = rw (ne-eqb (c .before .before .args .k .total) 0 (c .if1 .left))
+
+pub answer-of-spec : {M : Type 1} → statement M
+answer-of-spec = tie.close (tie.spec returns returns-2)

@@ -1,0 +1,67 @@
+-- `tusuchiy::check` meets its contract.
+use mathlib.Core.Path.{_≡_, refl, sym, _∙_}
+use native.Mathlib.Omega.{arith}
+use Rattle.tusuchiy.proofs.Bounds.{small-refusal}
+use Rattle.tusuchiy.proofs.Laws.{outcome-readable, outcome-refused}
+use borrow.Author.Needs.{needs}
+use Rattle.tusuchiy.proofs.check.Statement.{statement}
+use Rattle.tusuchiy.proofs.check.Tie as tie
+use Rattle.tusuchiy.proofs.check.Reads as reads
+use Rattle.tusuchiy.proofs.check.Lts as lts
+use Rattle.reading.proofs.verdict.Reads as verdict-reads
+use Rattle.tusuchiy.proofs.checked.Reads as checked-reads
+
+verdict-requires : tie.Need-verdict-requires
+verdict-requires c κs = search needs
+
+enum-told : tie.Need-enum-told
+enum-told c = search needs
+
+checked-requires : tie.Need-checked-requires
+checked-requires c κs = sym (c .before .before .before .before .before .before .before .before .verdict .ensures) ∙ c .before .before .before .before .before .before .enum-told .given .1
+
+enum-known-r : tie.Need-enum-known-r
+enum-known-r c = search needs
+
+same-length : tie.Need-same-length
+same-length c = search needs
+
+same-length-2 : tie.Need-same-length-2
+same-length-2 c = search needs
+
+same-length-3 : tie.Need-same-length-3
+same-length-3 c = search needs
+
+same-length-4 : tie.Need-same-length-4
+same-length-4 c = search needs
+
+same-length-5 : tie.Need-same-length-5
+same-length-5 c = search needs
+
+same-length-6 : tie.Need-same-length-6
+same-length-6 c = search needs
+
+returns : tie.Need-returns
+returns c = (outcome-readable _ _ _ _ _ (sym (c .before .before .before .before .before .before .before .before .before .before .before .before .before .before .before .verdict .ensures) ∙ c .before .before .before .before .before .before .before .before .before .before .before .before .before .enum-told .given .1) (c .before .before .before .before .before .before .checked .ensures .0), c .before .before .before .before .before .before .checked .ensures .1)
+
+returns-2 : tie.Need-returns-2
+returns-2 c =
+    let e = sym (c .before .before .before .verdict .ensures) ∙ c .before .r .given .1 in
+    (outcome-refused _ _ _ _ _ e, small-refusal _ _ _ e (omega arith) (omega arith))
+
+pub check-spec : {M : Type 1} → statement M
+check-spec =
+    tie.close
+    (tie.spec
+    verdict-requires
+    enum-told
+    checked-requires
+    enum-known-r
+    same-length
+    same-length-2
+    same-length-3
+    same-length-4
+    same-length-5
+    same-length-6
+    returns
+    returns-2)

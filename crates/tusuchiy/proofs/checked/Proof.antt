@@ -1,0 +1,92 @@
+-- `tusuchiy::checked` meets its contract.
+use Rattle.tusuchiy.proofs.Bounds.{small-findings}
+use Rattle.tusuchiy.proofs.Laws.{stops-kept, routes-kept, calendar-kept, trips-kept, times-kept, tabled, outcome-read}
+use borrow.Author.Needs.{needs}
+use Rattle.tusuchiy.proofs.checked.Statement.{statement}
+use Rattle.tusuchiy.proofs.checked.Tie as tie
+use Rattle.tusuchiy.proofs.checked.Reads as reads
+use Rattle.tusuchiy.proofs.checked.Lts as lts
+use Rattle.rules.proofs.list_findings.Reads as list-findings-reads
+use Rattle.tables.proofs.fill_all.Reads as fill-all-reads
+use Rattle.tusuchiy.proofs.answer_of.Reads as answer-of-reads
+
+fill-all-requires : tie.Need-fill-all-requires
+fill-all-requires c κs =
+    let z = c .before .before .before .before .before .before .before .before .before .before in (
+      stops-kept (z .args .stops .now) (z .args .routes .now) (z .args .calendar .now) (z .args .trips .now) (z .args .stop-times .now) (z .args .stops-table .now) (z .args .routes-table .now) (z .args .calendar-table .now) (z .args .trips-table .now) (z .args .stop-times-table .now) (z .pre) .room,
+      (
+        routes-kept (z .args .stops .now) (z .args .routes .now) (z .args .calendar .now) (z .args .trips .now) (z .args .stop-times .now) (z .args .stops-table .now) (z .args .routes-table .now) (z .args .calendar-table .now) (z .args .trips-table .now) (z .args .stop-times-table .now) (z .pre) .room,
+        (
+          calendar-kept (z .args .stops .now) (z .args .routes .now) (z .args .calendar .now) (z .args .trips .now) (z .args .stop-times .now) (z .args .stops-table .now) (z .args .routes-table .now) (z .args .calendar-table .now) (z .args .trips-table .now) (z .args .stop-times-table .now) (z .pre) .room,
+          (
+            trips-kept (z .args .stops .now) (z .args .routes .now) (z .args .calendar .now) (z .args .trips .now) (z .args .stop-times .now) (z .args .stops-table .now) (z .args .routes-table .now) (z .args .calendar-table .now) (z .args .trips-table .now) (z .args .stop-times-table .now) (z .pre) .room,
+            times-kept (z .args .stops .now) (z .args .routes .now) (z .args .calendar .now) (z .args .trips .now) (z .args .stop-times .now) (z .args .stops-table .now) (z .args .routes-table .now) (z .args .calendar-table .now) (z .args .trips-table .now) (z .args .stop-times-table .now) (z .pre) .room,
+          ),
+        ),
+      ),
+    )
+
+list-findings-requires : tie.Need-list-findings-requires
+list-findings-requires c κs =
+    let z = c .before .before .before .before .before .before .before .before .before .before .before .before .before .before .before .before .before .before .before .before .before .before in (
+      stops-kept (z .args .stops .now) (z .args .routes .now) (z .args .calendar .now) (z .args .trips .now) (z .args .stop-times .now) (z .args .stops-table .now) (z .args .routes-table .now) (z .args .calendar-table .now) (z .args .trips-table .now) (z .args .stop-times-table .now) (z .pre) .few,
+      (
+        routes-kept (z .args .stops .now) (z .args .routes .now) (z .args .calendar .now) (z .args .trips .now) (z .args .stop-times .now) (z .args .stops-table .now) (z .args .routes-table .now) (z .args .calendar-table .now) (z .args .trips-table .now) (z .args .stop-times-table .now) (z .pre) .few,
+        (
+          calendar-kept (z .args .stops .now) (z .args .routes .now) (z .args .calendar .now) (z .args .trips .now) (z .args .stop-times .now) (z .args .stops-table .now) (z .args .routes-table .now) (z .args .calendar-table .now) (z .args .trips-table .now) (z .args .stop-times-table .now) (z .pre) .few,
+          (
+            trips-kept (z .args .stops .now) (z .args .routes .now) (z .args .calendar .now) (z .args .trips .now) (z .args .stop-times .now) (z .args .stops-table .now) (z .args .routes-table .now) (z .args .calendar-table .now) (z .args .trips-table .now) (z .args .stop-times-table .now) (z .pre) .few,
+            times-kept (z .args .stops .now) (z .args .routes .now) (z .args .calendar .now) (z .args .trips .now) (z .args .stop-times .now) (z .args .stops-table .now) (z .args .routes-table .now) (z .args .calendar-table .now) (z .args .trips-table .now) (z .args .stop-times-table .now) (z .pre) .few,
+          ),
+        ),
+      ),
+    )
+
+answer-of-requires : tie.Need-answer-of-requires
+answer-of-requires c κs = search needs
+
+same-length : tie.Need-same-length
+same-length c = search needs
+
+same-length-2 : tie.Need-same-length-2
+same-length-2 c = search needs
+
+same-length-3 : tie.Need-same-length-3
+same-length-3 c = search needs
+
+same-length-4 : tie.Need-same-length-4
+same-length-4 c = search needs
+
+same-length-5 : tie.Need-same-length-5
+same-length-5 c = search needs
+
+same-length-6 : tie.Need-same-length-6
+same-length-6 c = search needs
+
+returns : tie.Need-returns
+returns c =
+    let z = c .before .before .before .before .before .before .before .before .before .before .before .before .before .before .before .before .before .before .before .before .before .before .before .before .before in
+    let f = c .before .before .before .before .before .before .before .before .before .before .before .before .before .before .fill-all .ensures in
+    let k = c .before .before .list-findings .ensures in
+    let h = k .0 _ (tabled (z .args .stops .now) (z .args .routes .now) (z .args .calendar .now) (z .args .trips .now) (z .args .stop-times .now) (z .args .stops-table .now) (z .args .routes-table .now) (z .args .calendar-table .now) (z .args .trips-table .now) (z .args .stop-times-table .now) (z .pre) _ _ _ _ _ (f .0) (f .1 .0) (f .1 .1 .0) (f .1 .1 .1 .0) (f .1 .1 .1 .1)) in (
+      outcome-read (z .args .stops .now) (z .args .routes .now) (z .args .calendar .now) (z .args .trips .now) (z .args .stop-times .now) (z .args .stops-table .now) (z .args .routes-table .now) (z .args .calendar-table .now) (z .args .trips-table .now) (z .args .stop-times-table .now) (z .pre) _ _ _ _ _ (z .args .findings .now) _ (z .args .from) (c .before .before .list-findings .result) _
+          (f .0) (f .1 .0) (f .1 .1 .0) (f .1 .1 .1 .0) (f .1 .1 .1 .1)
+          h
+          (c .answer-of .ensures),
+      small-findings (z .args .from) _ (z .args .findings .now) _ (c .before .before .list-findings .result) _ h (k .1) (c .answer-of .ensures),
+    )
+
+pub checked-spec : {M : Type 1} → statement M
+checked-spec =
+    tie.close
+    (tie.spec
+    fill-all-requires
+    list-findings-requires
+    answer-of-requires
+    same-length
+    same-length-2
+    same-length-3
+    same-length-4
+    same-length-5
+    same-length-6
+    returns)

@@ -1,0 +1,3 @@
+-- What the check says besides the outcome.
+pub mod Small
+pub mod Demands

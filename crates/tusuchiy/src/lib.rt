@@ -1,0 +1,128 @@
+// The whole check.
+ghost use mathlib.Core.Path.{_≡_};
+ghost use mathlib.Core.List.{_∷_, []};
+ghost use mathlib.Core.Bool.{cond};
+ghost use lib.Dec.{eqb};
+ghost use lib.ListN.{length};
+ghost use Rattle.meaning.specs.Refusals.{verdictOf};
+ghost use Rattle.meaning.specs.Outcome.{readOutcome, outcome};
+ghost use Rattle.tusuchiy.specs.Small.{Small};
+use listing::Sink;
+use meaning::Answer;
+use meaning::Place;
+use meaning::Verdict;
+use reading::Rooms;
+
+// Accepted exactly when there is no finding; else how many are written, and how many there are.
+fn answer_of(k: Sink) -> Answer
+    ensures { λ r. ⌜ r ≡ cond (eqb (k .total) 0) Answer.Accepted (Answer.Findings (k .written) (k .total)) ⌝ }
+{
+    if k.total == 0 {
+        return Answer::Accepted;
+    }
+    Answer::Findings {
+        written: k.written,
+        total: k.total,
+    }
+}
+
+// A readable feed: its tables are filled and its findings handed out.
+fn checked(
+    stops: &[u8],
+    routes: &[u8],
+    calendar: &[u8],
+    trips: &[u8],
+    stop_times: &[u8],
+    stops_table: &mut [i32],
+    routes_table: &mut [i32],
+    calendar_table: &mut [i32],
+    trips_table: &mut [i32],
+    stop_times_table: &mut [i32],
+    findings: &mut [i32],
+    from: Place,
+) -> Answer
+    requires { ⌜ verdictOf (now stops ∷ now routes ∷ now calendar ∷ now trips ∷ now «stop_times» ∷ [])
+        (length (now «stops_table») ∷ length (now «routes_table») ∷ length (now «calendar_table») ∷ length (now «trips_table») ∷ length (now «stop_times_table») ∷ []) ≡ Verdict.Readable ⌝ }
+    ensures { λ r. ⌜ readOutcome
+        (now (stops .entry) ∷ now (routes .entry) ∷ now (calendar .entry) ∷ now (trips .entry) ∷ now («stop_times» .entry) ∷ [])
+        (now («stops_table» .entry) ∷ now («routes_table» .entry) ∷ now («calendar_table» .entry) ∷ now («trips_table» .entry) ∷ now («stop_times_table» .entry) ∷ [])
+        (now (findings .entry)) from
+        ≡ record { answer = r; tables = now («stops_table» .exit) ∷ now («routes_table» .exit) ∷ now («calendar_table» .exit) ∷ now («trips_table» .exit) ∷ now («stop_times_table» .exit) ∷ []; list = now (findings .exit) } ⌝ }
+    ensures { λ r. ⌜ Small r ⌝ }
+{
+    tables::fill_all(
+        stops,
+        routes,
+        calendar,
+        trips,
+        stop_times,
+        stops_table,
+        routes_table,
+        calendar_table,
+        trips_table,
+        stop_times_table,
+    );
+    let k = rules::list_findings(
+        stops,
+        routes,
+        calendar,
+        trips,
+        stop_times,
+        stops_table,
+        routes_table,
+        calendar_table,
+        trips_table,
+        stop_times_table,
+        findings,
+        from,
+    );
+    answer_of(k)
+}
+
+// The check: from five files, five tables and a list as lent, and a starting place, to the answer and what all six hold.
+pub fn check(
+    stops: &[u8],
+    routes: &[u8],
+    calendar: &[u8],
+    trips: &[u8],
+    stop_times: &[u8],
+    stops_table: &mut [i32],
+    routes_table: &mut [i32],
+    calendar_table: &mut [i32],
+    trips_table: &mut [i32],
+    stop_times_table: &mut [i32],
+    findings: &mut [i32],
+    from: Place,
+) -> Answer
+    ensures { λ r. ⌜ outcome
+        (now (stops .entry) ∷ now (routes .entry) ∷ now (calendar .entry) ∷ now (trips .entry) ∷ now («stop_times» .entry) ∷ [])
+        (now («stops_table» .entry) ∷ now («routes_table» .entry) ∷ now («calendar_table» .entry) ∷ now («trips_table» .entry) ∷ now («stop_times_table» .entry) ∷ [])
+        (now (findings .entry)) from
+        ≡ record { answer = r; tables = now («stops_table» .exit) ∷ now («routes_table» .exit) ∷ now («calendar_table» .exit) ∷ now («trips_table» .exit) ∷ now («stop_times_table» .exit) ∷ []; list = now (findings .exit) } ⌝ }
+    ensures { λ r. ⌜ Small r ⌝ }
+{
+    let rooms = Rooms {
+        stops: stops_table.len(),
+        routes: routes_table.len(),
+        calendar: calendar_table.len(),
+        trips: trips_table.len(),
+        stop_times: stop_times_table.len(),
+    };
+    match reading::verdict(stops, routes, calendar, trips, stop_times, rooms) {
+        Verdict::Readable => checked(
+            stops,
+            routes,
+            calendar,
+            trips,
+            stop_times,
+            stops_table,
+            routes_table,
+            calendar_table,
+            trips_table,
+            stop_times_table,
+            findings,
+            from,
+        ),
+        Verdict::Unreadable(r) => Answer::Refused(r),
+    }
+}
