@@ -1,0 +1,2 @@
+-- What C is told, by what the check answers.
+pub mod Laws

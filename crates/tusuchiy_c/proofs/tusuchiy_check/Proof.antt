@@ -1,0 +1,61 @@
+-- `tusuchiy_c::tusuchiy_check` meets its contract.
+use mir.ValLaws.{toZ-ofZ}
+use mir.Syntax.{w32}
+use Rattle.tusuchiy_c.proofs.Laws.{told-answer, told-tables, told-list}
+use borrow.Author.Needs.{needs}
+use Rattle.tusuchiy_c.proofs.tusuchiy_check.Statement.{statement}
+use Rattle.tusuchiy_c.proofs.tusuchiy_check.Tie as tie
+use Rattle.tusuchiy_c.proofs.tusuchiy_check.Reads as reads
+use Rattle.tusuchiy_c.proofs.tusuchiy_check.Lts as lts
+use Rattle.tusuchiy.proofs.check.Reads as check-reads
+use Rattle.tusuchiy_c.proofs.place_of.Reads as place-of-reads
+use Rattle.tusuchiy_c.proofs.told.Reads as told-reads
+
+place-of-requires : tie.Need-place-of-requires
+place-of-requires c κs = search needs
+
+check-requires : tie.Need-check-requires
+check-requires c κs = search needs
+
+told-requires : tie.Need-told-requires
+told-requires c κs = search needs
+
+same-length : tie.Need-same-length
+same-length c = search needs
+
+same-length-2 : tie.Need-same-length-2
+same-length-2 c = search needs
+
+same-length-3 : tie.Need-same-length-3
+same-length-3 c = search needs
+
+same-length-4 : tie.Need-same-length-4
+same-length-4 c = search needs
+
+same-length-5 : tie.Need-same-length-5
+same-length-5 c = search needs
+
+same-length-6 : tie.Need-same-length-6
+same-length-6 c = search needs
+
+returns : tie.Need-returns
+returns c =
+    let k = c .before .before .before .before .before .before .before .check .ensures .0 in
+    let z = c .before .before .before .before .before .before .before .before .before .before .before .before .before .before .before .before .before .before .before .before in
+    let is = simp (toZ-ofZ w32 (z .args .after-file) (z .fits .after-file), toZ-ofZ w32 (z .args .after-line) (z .fits .after-line), toZ-ofZ w32 (z .args .after-rule) (z .fits .after-rule)) at (c .before .before .before .before .before .before .before .before .before .before .before .before .before .before .place-of .ensures) in
+    (told-answer _ _ _ _ _ _ is k _ (c .told .ensures), (told-tables _ _ _ _ _ _ is k, told-list _ _ _ _ _ _ is k))
+
+pub tusuchiy-check-spec : {M : Type 1} → statement M
+tusuchiy-check-spec =
+    tie.close
+    (tie.spec
+    place-of-requires
+    check-requires
+    told-requires
+    same-length
+    same-length-2
+    same-length-3
+    same-length-4
+    same-length-5
+    same-length-6
+    returns)

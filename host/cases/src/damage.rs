@@ -1,0 +1,131 @@
+//! Damage: a file that breaks one of the refusal rules on purpose, bytes changed at random, files cut short.
+
+use crate::feeds::Grid;
+use crate::random::Random;
+use model::columns::Column;
+use model::forms::Form;
+
+/// Breaks rule 8, 9, 11, 12 or 13 in the values of a file, if it has the line for it.
+pub fn break_values(grid: &mut Grid, known: &[Column], rule: usize, random: &mut Random) {
+    let present: Vec<&Column> =
+        known.iter().filter(|column| grid.header.contains(&column.name.as_bytes().to_vec())).collect();
+    let wanted = |column: &&&Column| match rule {
+        8 => true,
+        9 => column.present,
+        11 => column.is_id(),
+        12 => column.needed(),
+        _ => !matches!(column.form, Form::Text),
+    };
+    let columns: Vec<&Column> = present.iter().filter(wanted).copied().collect();
+    let Some(column) = (!columns.is_empty()).then(|| *random.pick(&columns)) else { return };
+    match rule {
+        8 => repeat_name(grid, column, random),
+        9 => {
+            let place = grid.column(column.name);
+            grid.header[place] = random.pick(&[&b"gone"[..], b"", b"STOP_ID"]).to_vec();
+        }
+        _ if grid.rows.is_empty() => {}
+        _ => {
+            let row = random.below(grid.rows.len());
+            let value = bad_value(rule, column, random);
+            grid.set(row, column.name, value);
+        }
+    }
+}
+
+/// A known name that stands twice, in place of another column or besides.
+fn repeat_name(grid: &mut Grid, column: &Column, random: &mut Random) {
+    if random.once_in(2) {
+        let place = random.below(grid.header.len());
+        grid.header[place] = column.name.as_bytes().to_vec();
+    } else {
+        grid.header.push(column.name.as_bytes().to_vec());
+        grid.rows.iter_mut().for_each(|row| row.push(b"1".to_vec()));
+    }
+}
+
+/// A value that breaks rule 11, 12 or 13 under a column.
+fn bad_value(rule: usize, column: &Column, random: &mut Random) -> Vec<u8> {
+    let from: &[&str] = match (rule, column.form) {
+        (11, _) => return vec![*random.pick(b"x\"\xFF"); random.between(64, 67)],
+        (12, _) => return Vec::new(),
+        (_, Form::Time) => &["10:5:00", "9:60:00", "100:00:00", "8:00", "-1:00:00", "08:00:60", ":00:00", "8 :00:00"],
+        (_, Form::Date) => {
+            &["20230229", "19000229", "00000101", "20240431", "2024010", "202401011", "20241301", "2024O101"]
+        }
+        (_, Form::Coordinate(90)) => {
+            &["90.00000001", "-90.00000000000000000001", ".5", "5.", "+5", "0007", "1e1", "--1"]
+        }
+        (_, Form::Coordinate(_)) => &["180.000000001", "181", "-999", "1.000000000000000000000", " 1", "-", "1.-1"],
+        (_, Form::Sequence) => &["1000000000", "-1", "1.0", " 1", "0x1", "a"],
+        _ => &["01", " 1", "9", "10", "13", "-1", "1 ", "a", "100"],
+    };
+    random.pick(from).as_bytes().to_vec()
+}
+
+/// Breaks rule 1, 2, 4, 5, 6, 7 or 10 in the bytes of a file.
+pub fn break_bytes(file: &mut Vec<u8>, rule: usize, random: &mut Random) {
+    match rule {
+        1 => file.resize(16_777_217, b'\n'),
+        2 => file.extend(vec![b'\n'; 65_537]),
+        4 if random.once_in(3) => file.clear(),
+        4 if random.once_in(2) => drop(file.pop()),
+        4 => file.extend(random.pick(&[&b"x"[..], b"\r", b"\xEF\xBB\xBF"]).iter()),
+        _ => break_line(file, rule, random),
+    }
+}
+
+/// Breaks rule 5, 6, 7 or 10 on a random line.
+fn break_line(file: &mut Vec<u8>, rule: usize, random: &mut Random) {
+    let ends: Vec<usize> = (0..file.len()).filter(|&place| file[place] == b'\n').collect();
+    let Some(line) = (!ends.is_empty()).then(|| random.below(ends.len())) else { return };
+    let from = if line == 0 { 0 } else { ends[line - 1] + 1 };
+    let place = random.between(from, ends[line]);
+    let more: &[&str] = match rule {
+        5 => &["\t", "\r", "\r\r"],
+        6 => &["\"", "a\"b", "\"a\"b", ",\""],
+        7 => &[",,,,,,,,,,,,,,,,,,,,,,,,,,,,,,,,"],
+        _ => &[",", ",,", ",x", "\n"],
+    };
+    file.splice(place..place, random.pick(more).bytes());
+}
+
+/// Bytes that matter to some rule.
+const TELLING: &[u8] = b",\"\t\r\n 0123456789-.:aA_\x00\xEF\xBB\xBF\xFF";
+
+/// Changes a few bytes of a file at random.
+pub fn mutate(file: &mut Vec<u8>, random: &mut Random) {
+    for _ in 0..random.between(1, 3) {
+        let place = random.below(file.len() + 1);
+        let byte = *random.pick(TELLING);
+        match random.below(4) {
+            0 => file.insert(place, byte),
+            1 if place < file.len() => file[place] = byte,
+            2 if place < file.len() => drop(file.remove(place)),
+            _ => move_piece(file, place, random),
+        }
+    }
+}
+
+/// Copies a piece of a file to a place of it, or takes it out.
+fn move_piece(file: &mut Vec<u8>, place: usize, random: &mut Random) {
+    let end = (place + random.below(30)).min(file.len());
+    if random.once_in(2) {
+        let to = random.below(file.len() + 1);
+        let piece = file[place..end].to_vec();
+        file.splice(to..to, piece);
+    } else {
+        drop(file.drain(place..end));
+    }
+}
+
+/// Cuts a file short, at the end of a line half of the time.
+pub fn truncate(file: &mut Vec<u8>, random: &mut Random) {
+    let mut end = random.below(file.len() + 1);
+    if random.once_in(2) {
+        while end > 0 && file[end - 1] != b'\n' {
+            end -= 1;
+        }
+    }
+    file.truncate(end);
+}

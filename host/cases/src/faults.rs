@@ -1,0 +1,161 @@
+//! Breaks binding rules in a feed of values; the feed stays readable.
+
+use crate::feeds::{sequence_text, time_text, Feed};
+use crate::random::Random;
+
+const IDS: [&str; 4] = ["stop_id", "route_id", "service_id", "trip_id"];
+
+/// The references of the feed: file and column, and the file and column that it names.
+const REFERENCES: [(usize, &str, usize, &str); 5] = [
+    (0, "parent_station", 0, "stop_id"),
+    (3, "route_id", 1, "route_id"),
+    (3, "service_id", 2, "service_id"),
+    (4, "trip_id", 3, "trip_id"),
+    (4, "stop_id", 0, "stop_id"),
+];
+
+/// Breaks something, usually, at a random place.
+pub fn break_one(feed: &mut Feed, random: &mut Random) {
+    match random.below(14) {
+        0 | 1 => repeat_id(feed, random),
+        2 | 3 => lose_reference(feed, random),
+        4 => move_reference(feed, random),
+        5 => own_parent(feed, random),
+        6 => edit(feed, random, 0, "location_type", |random| random.pick(&["", "0", "1", "2"]).to_string()),
+        7 => clear_names(feed, random),
+        8 => turn_dates(feed, random),
+        9 => clear_times(feed, random),
+        10 => edit(feed, random, 4, "timepoint", |_| "1".to_string()),
+        11 => move_time(feed, random),
+        12 => move_sequence(feed, random),
+        _ => move_lines(feed, random),
+    }
+}
+
+/// A random row of a file that has one.
+fn row(feed: &Feed, random: &mut Random, file: usize) -> Option<usize> {
+    let rows = feed[file].rows.len();
+    (rows > 0).then(|| random.below(rows))
+}
+
+/// Puts a new value under a column of a random row.
+fn edit(feed: &mut Feed, random: &mut Random, file: usize, name: &str, value: fn(&mut Random) -> String) {
+    if let Some(row) = row(feed, random, file) {
+        let value = value(random);
+        feed[file].set(row, name, value);
+    }
+}
+
+/// A line whose id another line has: a copy of a line, or only of its id.
+fn repeat_id(feed: &mut Feed, random: &mut Random) {
+    let file = random.below(4);
+    let (Some(from), Some(to)) = (row(feed, random, file), row(feed, random, file)) else { return };
+    if random.once_in(2) {
+        let copy = feed[file].rows[from].clone();
+        feed[file].rows.insert(to, copy);
+    } else {
+        let id = feed[file].get(from, IDS[file]).to_vec();
+        feed[file].set(to, IDS[file], id);
+    }
+}
+
+/// A reference that names no line, at times one that differs by case or a space only.
+fn lose_reference(feed: &mut Feed, random: &mut Random) {
+    let (file, name, _, _) = *random.pick(&REFERENCES);
+    let Some(row) = row(feed, random, file) else { return };
+    let mut id = feed[file].get(row, name).to_ascii_lowercase();
+    match random.below(3) {
+        0 => id = b"nowhere".to_vec(),
+        1 => id.push(b' '),
+        _ => {}
+    }
+    id.truncate(64);
+    feed[file].set(row, name, id);
+}
+
+/// A reference that names some other line.
+fn move_reference(feed: &mut Feed, random: &mut Random) {
+    let (file, name, to, id) = *random.pick(&REFERENCES);
+    if let (Some(row), Some(target)) = (row(feed, random, file), row(feed, random, to)) {
+        let id = feed[to].get(target, id).to_vec();
+        feed[file].set(row, name, id);
+    }
+}
+
+/// A stop that is its own parent.
+fn own_parent(feed: &mut Feed, random: &mut Random) {
+    if let Some(row) = row(feed, random, 0) {
+        let id = feed[0].get(row, "stop_id").to_vec();
+        feed[0].set(row, "parent_station", id);
+    }
+}
+
+fn clear_names(feed: &mut Feed, random: &mut Random) {
+    if let Some(row) = row(feed, random, 1) {
+        feed[1].set(row, "route_short_name", "");
+        feed[1].set(row, "route_long_name", "");
+    }
+}
+
+/// The two dates of a service change places.
+fn turn_dates(feed: &mut Feed, random: &mut Random) {
+    if let Some(row) = row(feed, random, 2) {
+        let dates = [feed[2].get(row, "start_date").to_vec(), feed[2].get(row, "end_date").to_vec()];
+        feed[2].set(row, "start_date", &dates[1]);
+        feed[2].set(row, "end_date", &dates[0]);
+    }
+}
+
+/// One time or both are gone.
+fn clear_times(feed: &mut Feed, random: &mut Random) {
+    let Some(row) = row(feed, random, 4) else { return };
+    let which = random.below(3);
+    if which != 1 {
+        feed[4].set(row, "arrival_time", "");
+    }
+    if which != 0 {
+        feed[4].set(row, "departure_time", "");
+    }
+}
+
+/// A time that falls or rises, to midnight at times, or to the end of what can be written.
+fn move_time(feed: &mut Feed, random: &mut Random) {
+    let Some(row) = row(feed, random, 4) else { return };
+    let time = match random.below(4) {
+        0 => 0,
+        1 => 359_999,
+        2 => 86_400,
+        _ => random.below(360_000),
+    };
+    let name = *random.pick(&["arrival_time", "departure_time"]);
+    let text = time_text(random, time);
+    feed[4].set(row, name, text);
+}
+
+/// A sequence that is some other line's, or any.
+fn move_sequence(feed: &mut Feed, random: &mut Random) {
+    let Some(row) = row(feed, random, 4) else { return };
+    let most = *random.pick(&[2, 6, 1_000_000_000]);
+    let sequence = random.below(most);
+    let text = sequence_text(random, sequence);
+    feed[4].set(row, "stop_sequence", text);
+}
+
+/// Lines of stop_times that change places, or are gone.
+fn move_lines(feed: &mut Feed, random: &mut Random) {
+    let (Some(one), Some(other)) = (row(feed, random, 4), row(feed, random, 4)) else { return };
+    match random.below(3) {
+        0 => feed[4].rows.swap(one, other),
+        1 => drop(feed[4].rows.remove(one)),
+        _ => {
+            let trip = feed[4].get(one, "trip_id").to_vec();
+            let keep = random.below(2);
+            let column = feed[4].column("trip_id");
+            let mut seen = 0;
+            feed[4].rows.retain(|row| {
+                seen += usize::from(row[column] == trip);
+                row[column] != trip || seen <= keep
+            });
+        }
+    }
+}

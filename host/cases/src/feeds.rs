@@ -1,0 +1,270 @@
+//! Makes well-formed feeds as grids of values: readable, and by construction without a finding.
+
+use crate::random::Random;
+
+/// A file as values: the names of its columns, and its record lines.
+#[derive(Clone, Debug, Default)]
+pub struct Grid {
+    pub header: Vec<Vec<u8>>,
+    pub rows: Vec<Vec<Vec<u8>>>,
+}
+
+/// The five files as values.
+pub type Feed = [Grid; 5];
+
+impl Grid {
+    /// A grid of these columns without rows.
+    pub fn new(names: &[&str]) -> Self {
+        Grid { header: names.iter().map(|name| name.as_bytes().to_vec()).collect(), rows: Vec::new() }
+    }
+
+    /// The place of a column that is there.
+    pub fn column(&self, name: &str) -> usize {
+        let place = self.header.iter().position(|have| have == name.as_bytes());
+        place.expect("a column of the grid")
+    }
+
+    /// The value of a row under a column.
+    pub fn get(&self, row: usize, name: &str) -> &[u8] {
+        &self.rows[row][self.column(name)]
+    }
+
+    /// Puts a value into a row under a column.
+    pub fn set(&mut self, row: usize, name: &str, value: impl AsRef<[u8]>) {
+        let column = self.column(name);
+        self.rows[row][column] = value.as_ref().to_vec();
+    }
+
+    /// All values under a column.
+    pub fn values(&self, name: &str) -> Vec<Vec<u8>> {
+        (0..self.rows.len()).map(|row| self.get(row, name).to_vec()).collect()
+    }
+
+    fn push<V: AsRef<[u8]>>(&mut self, values: &[V]) {
+        self.rows.push(values.iter().map(|value| value.as_ref().to_vec()).collect());
+    }
+}
+
+/// Ids that only an exact comparison by value tells apart.
+const IDS: [&str; 16] =
+    ["A", "a", "B", "C", "1", "01", "0", " A", "A ", "A,B", "\"A\"", "\"", "AB", "é", "\u{feff}A", "nowhere?"];
+
+/// So many different ids.
+fn ids(random: &mut Random, count: usize) -> Vec<Vec<u8>> {
+    let mut ids: Vec<Vec<u8>> = IDS.iter().map(|id| id.as_bytes().to_vec()).collect();
+    ids.push(vec![b'x'; 64]);
+    ids.push(vec![0xFF, 0x00, b'"']);
+    random.shuffle(&mut ids);
+    let more = (0..count).map(|number| format!("id-{number}").into_bytes());
+    ids.extend(more);
+    ids.truncate(count);
+    ids
+}
+
+const NAMES: [&str; 8] = ["Alder", "Birch, north", "say \"hi\"", " ", "0", "ä", "\u{feff}x", "\0"];
+
+const PLACES: [&str; 14] = [
+    "0",
+    "1.5",
+    "-0",
+    "90",
+    "-90.0",
+    "90.00000000000000000000",
+    "-33.86749999",
+    "007.25",
+    "-0.00000009",
+    "45.12345678",
+    "000",
+    "89.99999999999999999999",
+    "-89.9999999",
+    "12.3",
+];
+
+const LONGITUDES: [&str; 4] = ["180", "-180.000", "-179.99999999999999999999", "123.456789012345"];
+
+/// How many rows, mostly few.
+fn count(random: &mut Random, most: usize) -> usize {
+    if random.once_in(12) {
+        random.between(0, most * 6)
+    } else {
+        random.between(1, most)
+    }
+}
+
+/// A readable feed without a finding.
+pub fn clean(random: &mut Random) -> Feed {
+    let stops = stops(random);
+    let routes = routes(random);
+    let services = services(random);
+    let mut trips = trips(random, &routes, &services);
+    let platforms = platforms(&stops);
+    if platforms.is_empty() {
+        trips.rows.clear();
+    }
+    let stop_times = stop_times(random, &trips, &platforms);
+    [stops, routes, services, trips, stop_times]
+}
+
+fn stops(random: &mut Random) -> Grid {
+    let names = ["stop_id", "stop_name", "stop_lat", "stop_lon", "location_type", "parent_station"];
+    let mut grid = Grid::new(&names);
+    let plain = random.once_in(3);
+    let kinds: Vec<usize> = (0..count(random, 6)).map(|_| if plain { 0 } else { random.below(3) }).collect();
+    let ids = ids(random, kinds.len());
+    let stations: Vec<usize> = (0..kinds.len()).filter(|&stop| kinds[stop] == 1).collect();
+    for (id, &kind) in ids.iter().zip(&kinds) {
+        // An entrance needs a station; without one the stop becomes a plain stop.
+        let kind = if kind == 2 && stations.is_empty() { 0 } else { kind };
+        let child = kind == 2 || kind == 0 && !stations.is_empty() && random.once_in(2);
+        let parent = if child { ids[*random.pick(&stations)].clone() } else { Vec::new() };
+        let written = if kind == 0 && (plain || random.once_in(2)) { String::new() } else { kind.to_string() };
+        let wide = random.once_in(3);
+        let longitude = if wide { random.pick(&LONGITUDES) } else { random.pick(&PLACES) };
+        let row: [&[u8]; 6] = [
+            id,
+            random.pick(&NAMES).as_bytes(),
+            random.pick(&PLACES).as_bytes(),
+            longitude.as_bytes(),
+            written.as_bytes(),
+            &parent,
+        ];
+        grid.push(&row);
+    }
+    grid
+}
+
+fn routes(random: &mut Random) -> Grid {
+    let mut grid = Grid::new(&["route_id", "route_type", "route_short_name", "route_long_name"]);
+    let named = random.below(3);
+    let number = count(random, 3);
+    for id in ids(random, number) {
+        // Which of the two names stand: one column may stay empty throughout.
+        let which = if named == 2 { random.below(3) } else { named };
+        let short = if which != 1 { *random.pick(&NAMES) } else { "" };
+        let long = if which != 0 { *random.pick(&NAMES) } else { "" };
+        let kind = random.pick(&["0", "1", "2", "3", "4", "5", "6", "7", "11", "12"]);
+        let row: [&[u8]; 4] = [&id, kind.as_bytes(), short.as_bytes(), long.as_bytes()];
+        grid.push(&row);
+    }
+    grid
+}
+
+const DATES: [&str; 8] =
+    ["00010101", "15821010", "19000228", "20000229", "20240101", "20240229", "20241231", "99991231"];
+
+fn services(random: &mut Random) -> Grid {
+    let days = ["monday", "tuesday", "wednesday", "thursday", "friday", "saturday", "sunday"];
+    let names = [&["service_id"], &days[..], &["start_date", "end_date"]].concat();
+    let mut grid = Grid::new(&names);
+    let number = count(random, 3);
+    for id in ids(random, number) {
+        let first = random.below(DATES.len());
+        let last = random.between(first, DATES.len() - 1);
+        let mut row = vec![id];
+        row.extend((0..7).map(|_| random.pick(&[b"0", b"1"]).to_vec()));
+        row.push(DATES[first].as_bytes().to_vec());
+        row.push(DATES[last].as_bytes().to_vec());
+        grid.push(&row);
+    }
+    grid
+}
+
+fn trips(random: &mut Random, routes: &Grid, services: &Grid) -> Grid {
+    let names = ["route_id", "service_id", "trip_id", "direction_id", "wheelchair_accessible", "bikes_allowed"];
+    let mut grid = Grid::new(&names);
+    let (routes, services) = (routes.values("route_id"), services.values("service_id"));
+    if routes.is_empty() || services.is_empty() {
+        return grid;
+    }
+    let bare = random.once_in(4);
+    let number = count(random, 4);
+    for id in ids(random, number) {
+        let choices: [&[&str]; 3] = [&["", "0", "1"], &["", "0", "1", "2"], &["", "0", "1", "2"]];
+        let mut row = vec![random.pick(&routes).clone(), random.pick(&services).clone(), id];
+        row.extend(choices.map(|from| choice(random, from, bare)));
+        grid.push(&row);
+    }
+    grid
+}
+
+/// One of the choices, or the empty value.
+fn choice(random: &mut Random, choices: &[&str], empty: bool) -> Vec<u8> {
+    if empty {
+        Vec::new()
+    } else {
+        random.pick(choices).as_bytes().to_vec()
+    }
+}
+
+/// The stops where a trip may call: those of type 0.
+fn platforms(stops: &Grid) -> Vec<Vec<u8>> {
+    let plain = |row: &usize| matches!(stops.get(*row, "location_type"), b"" | b"0");
+    let rows = (0..stops.rows.len()).filter(plain);
+    rows.map(|row| stops.get(row, "stop_id").to_vec()).collect()
+}
+
+fn stop_times(random: &mut Random, trips: &Grid, platforms: &[Vec<u8>]) -> Grid {
+    let names = [
+        "trip_id",
+        "arrival_time",
+        "departure_time",
+        "stop_id",
+        "stop_sequence",
+        "pickup_type",
+        "drop_off_type",
+        "timepoint",
+    ];
+    let mut grid = Grid::new(&names);
+    let bare = random.once_in(4);
+    let mut queues = Vec::new();
+    for trip in trips.values("trip_id") {
+        let calls = random.between(2, 6);
+        queues.push(calls_of(random, &trip, calls, bare));
+    }
+    // Interleaved or not, each trip keeps its own order.
+    let together = random.once_in(2);
+    while !queues.is_empty() {
+        let queue = if together { 0 } else { random.below(queues.len()) };
+        let mut row = queues[queue].remove(0);
+        row[3] = random.pick(platforms).clone();
+        grid.push(&row);
+        queues.retain(|queue| !queue.is_empty());
+    }
+    grid
+}
+
+/// The lines of one trip, in order, without their stops: times never fall, sequences rise.
+fn calls_of(random: &mut Random, trip: &[u8], calls: usize, bare: bool) -> Vec<Vec<Vec<u8>>> {
+    let mut now = random.below(90 * 3600);
+    let mut sequence = random.below(3);
+    let mut rows = Vec::new();
+    for call in 0..calls {
+        let timed = call == 0 || call == calls - 1 || !random.once_in(3);
+        let arrival = now + random.below(3) * random.below(400);
+        let departure = arrival + random.below(2) * random.below(400);
+        now = if timed { departure } else { now };
+        let written = |random: &mut Random, time| if timed { time_text(random, time) } else { Vec::new() };
+        let (arrival, departure) = (written(random, arrival), written(random, departure));
+        let exact = if timed { &["", "0", "1"][..] } else { &["", "0"] };
+        let choices = [&["", "0", "1", "2", "3"][..], &["", "0", "1", "2", "3"], exact];
+        let mut row = vec![trip.to_vec(), arrival, departure, Vec::new(), sequence_text(random, sequence)];
+        row.extend(choices.map(|from| choice(random, from, bare)));
+        rows.push(row);
+        sequence += if random.once_in(20) { 100_000_000 } else { random.between(1, 3) };
+    }
+    rows
+}
+
+/// A time with one or two hour digits.
+pub fn time_text(random: &mut Random, time: usize) -> Vec<u8> {
+    let (hours, minutes, seconds) = (time / 3600, time / 60 % 60, time % 60);
+    let short = random.once_in(2);
+    let hours = if short { format!("{hours}") } else { format!("{hours:02}") };
+    format!("{hours}:{minutes:02}:{seconds:02}").into_bytes()
+}
+
+/// A sequence, with leading zeros at times.
+pub fn sequence_text(random: &mut Random, sequence: usize) -> Vec<u8> {
+    let width = if random.once_in(4) { random.between(1, 9) } else { 1 };
+    format!("{sequence:0width$}").into_bytes()
+}

@@ -1,0 +1,34 @@
+//! Large feeds, for the benchmark and for the limits: so many lines of stop_times, without a finding.
+
+/// A readable feed with this many lines of stop_times, twenty to a trip or a few more, and a stop for each trip.
+pub fn feed(calls: usize) -> [Vec<u8>; 5] {
+    let trips = (calls / 20).max(1);
+    let mut files: [Vec<u8>; 5] = [
+        b"stop_id,stop_name,stop_lat,stop_lon\n".to_vec(),
+        b"route_id,route_short_name,route_type\nR,7,3\n".to_vec(),
+        b"service_id,monday,tuesday,wednesday,thursday,friday,saturday,sunday,start_date,end_date\n\
+          W,1,1,1,1,1,0,0,20240101,20241231\n"
+            .to_vec(),
+        b"route_id,service_id,trip_id\n".to_vec(),
+        b"trip_id,arrival_time,departure_time,stop_id,stop_sequence\n".to_vec(),
+    ];
+    for trip in 0..trips {
+        files[0].extend(format!("stop-{trip},Stop {trip},{}.5,2\n", trip % 90).bytes());
+        files[3].extend(format!("R,W,trip-{trip}\n").bytes());
+    }
+    for call in 0..calls {
+        let trip = (call / 20).min(trips - 1);
+        let minutes = (call - trip * 20) * 10;
+        let (hour, minute) = (5 + minutes / 60, minutes % 60);
+        let time = format!("{hour:02}:{minute:02}:00");
+        let stop = (call * 7) % trips;
+        files[4].extend(format!("trip-{trip},{time},{time},stop-{stop},{}\n", call + 1).bytes());
+    }
+    files
+}
+
+/// Tables of just the length that rule 3 asks for, all of one number.
+pub fn tables(files: &[Vec<u8>; 5], filled: i32) -> [Vec<i32>; 5] {
+    let length = |file: usize| model::columns::WIDTHS[file] * model::fields::line_ends(&files[file]);
+    [0, 1, 2, 3, 4].map(|file| vec![filled; length(file)])
+}

@@ -1,0 +1,61 @@
+//! Test cases for the check: vectors from a file, and feeds made from fixed seeds.
+#![forbid(unsafe_code)]
+
+pub mod damage;
+pub mod edges;
+pub mod faults;
+pub mod feeds;
+pub mod generate;
+pub mod large;
+pub mod random;
+pub mod render;
+pub mod vectors;
+
+use model::Answer;
+
+/// Everything that goes into one check.
+#[derive(Clone, Debug, Default, PartialEq, Eq)]
+pub struct Case {
+    pub name: String,
+    pub files: [Vec<u8>; 5],
+    pub tables: [Vec<i32>; 5],
+    pub list: Vec<i32>,
+    pub start: [i32; 3],
+}
+
+/// Everything that comes out of one check: the answer, and tables and list whole.
+#[derive(Clone, Debug, PartialEq, Eq)]
+pub struct Outcome {
+    pub answer: Answer,
+    pub tables: [Vec<i32>; 5],
+    pub list: Vec<i32>,
+}
+
+/// What the model makes of a case.
+pub fn by_model(case: &Case) -> Outcome {
+    let mut tables = case.tables.clone();
+    let mut list = case.list.clone();
+    let answer = model::check(&case.files, &mut tables, &mut list, case.start);
+    Outcome { answer, tables, list }
+}
+
+/// Says in a line where two outcomes of a case differ, without printing whole tables; none if they agree.
+pub fn difference(wanted: &Outcome, got: &Outcome) -> Option<String> {
+    if wanted.answer != got.answer {
+        return Some(format!("wanted {:?}, got {:?}", wanted.answer, got.answer));
+    }
+    for table in 0..5 {
+        if let Some(place) = first_difference(&wanted.tables[table], &got.tables[table]) {
+            return Some(format!("table {} differs {place}", table + 1));
+        }
+    }
+    first_difference(&wanted.list, &got.list).map(|place| format!("the list differs {place}"))
+}
+
+fn first_difference(wanted: &[i32], got: &[i32]) -> Option<String> {
+    if wanted.len() != got.len() {
+        return Some(format!("in length: wanted {}, got {}", wanted.len(), got.len()));
+    }
+    let place = (0..wanted.len()).find(|&place| wanted[place] != got[place])?;
+    Some(format!("at {place}: wanted {}, got {}", wanted[place], got[place]))
+}

@@ -1,0 +1,110 @@
+//! Reads vector files; their form is explained at the top of vectors/base.txt.
+
+use crate::{Case, Outcome};
+use model::Answer;
+
+/// The cases of vectors/base.txt with what each must give.
+pub fn base() -> Vec<(Case, Outcome)> {
+    read(include_str!("../vectors/base.txt")).expect("vectors/base.txt is well-formed")
+}
+
+/// The cases of a vector file, or what is wrong with it and where.
+pub fn read(text: &str) -> Result<Vec<(Case, Outcome)>, String> {
+    let mut cases = Vec::new();
+    let mut open: Option<Vec<Vec<&str>>> = None;
+    for (place, line) in text.lines().enumerate() {
+        let words: Vec<&str> = line.split_ascii_whitespace().collect();
+        let at = |what: String| format!("line {}: {what}", place + 1);
+        match (words.first().copied().unwrap_or("#"), &mut open) {
+            (word, _) if word.starts_with('#') => {}
+            ("case", None) => open = Some(vec![words]),
+            ("case", Some(_)) => return Err(at("a case inside a case".into())),
+            (_, None) => return Err(at("a line outside any case".into())),
+            ("end", Some(_)) => cases.push(case(&open.take().unwrap_or_default()).map_err(at)?),
+            (_, Some(lines)) => lines.push(words),
+        }
+    }
+    match open {
+        None => Ok(cases),
+        Some(_) => Err("the last case has no end".into()),
+    }
+}
+
+/// One case from its lines; what is held is as lent where the file is silent.
+fn case(lines: &[Vec<&str>]) -> Result<(Case, Outcome), String> {
+    let mut case = Case::default();
+    let mut answer = None;
+    let mut held: Vec<(usize, Vec<i32>)> = Vec::new();
+    for words in lines {
+        match words[..] {
+            ["case", name] => case.name = name.to_string(),
+            ["file", file, bytes] => *file_slot(&mut case.files, number(file)?)? = hex(bytes)?,
+            ["lent", table, count, base, step] => {
+                let lent = lent(number(count)?, number(base)?, number(step)?)?;
+                *slot(&mut case.tables, &mut case.list, number(table)?)? = lent;
+            }
+            ["start", file, line, rule] => case.start = [number(file)?, number(line)?, number(rule)?],
+            ["answer", ref words @ ..] => answer = Some(read_answer(words)?),
+            ["held", table, ref numbers @ ..] => held.push((number(table)?, all(numbers)?)),
+            _ => return Err(format!("unknown words: {words:?}")),
+        }
+    }
+    let answer = answer.ok_or("a case without an answer")?;
+    let mut outcome = Outcome { answer, tables: case.tables.clone(), list: case.list.clone() };
+    for (table, numbers) in held {
+        *slot(&mut outcome.tables, &mut outcome.list, table)? = numbers;
+    }
+    Ok((case, outcome))
+}
+
+/// File K.
+fn file_slot(files: &mut [Vec<u8>; 5], file: usize) -> Result<&mut Vec<u8>, String> {
+    files.get_mut(file.wrapping_sub(1)).ok_or_else(|| format!("no file {file}"))
+}
+
+/// Table K, or the list for 0.
+fn slot<'a>(tables: &'a mut [Vec<i32>; 5], list: &'a mut Vec<i32>, place: usize) -> Result<&'a mut Vec<i32>, String> {
+    match place {
+        0 => Ok(list),
+        _ => tables.get_mut(place - 1).ok_or_else(|| format!("no table {place}")),
+    }
+}
+
+fn number<N: std::str::FromStr>(word: &str) -> Result<N, String> {
+    word.parse().map_err(|_| format!("not a number: {word}"))
+}
+
+fn all(words: &[&str]) -> Result<Vec<i32>, String> {
+    words.iter().map(|word| number(word)).collect()
+}
+
+/// Bytes from pairs of hex digits; "-" means none.
+fn hex(digits: &str) -> Result<Vec<u8>, String> {
+    if digits == "-" {
+        return Ok(Vec::new());
+    }
+    if digits.len() % 2 != 0 || !digits.is_ascii() {
+        return Err("hex digits must come in pairs".into());
+    }
+    let byte = |place| u8::from_str_radix(&digits[place..place + 2], 16);
+    let bytes: Result<Vec<u8>, _> = (0..digits.len()).step_by(2).map(byte).collect();
+    bytes.map_err(|_| "not hex digits".into())
+}
+
+/// COUNT numbers, the one at place i is BASE + STEP * i.
+fn lent(count: usize, base: i64, step: i64) -> Result<Vec<i32>, String> {
+    let at = |place| i32::try_from(base + step * place as i64);
+    let numbers: Result<Vec<i32>, _> = (0..count).map(at).collect();
+    numbers.map_err(|_| "a lent number past 32 bits".into())
+}
+
+fn read_answer(words: &[&str]) -> Result<Answer, String> {
+    match *words {
+        ["accepted"] => Ok(Answer::Accepted),
+        ["findings", written, total] => Ok(Answer::Findings { written: number(written)?, total: number(total)? }),
+        ["refused", rule, file, line] => {
+            Ok(Answer::Refused { number: number(rule)?, file: number(file)?, line: number(line)? })
+        }
+        _ => Err(format!("unknown answer: {words:?}")),
+    }
+}

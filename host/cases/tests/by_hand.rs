@@ -1,0 +1,213 @@
+//! The model against answers written by hand from document 01 and from the readings of its open points.
+
+use cases::edges::BASE;
+use model::Answer;
+
+/// The base feed, with some files in other words.
+fn feed(changes: &[(usize, &str)]) -> [Vec<u8>; 5] {
+    let mut files = BASE.map(|file| file.as_bytes().to_vec());
+    for (file, text) in changes {
+        files[file - 1] = text.as_bytes().to_vec();
+    }
+    files
+}
+
+/// The answer and the findings of a feed, with tables as long as rule 3 asks for.
+fn check(files: &[Vec<u8>; 5]) -> (Answer, Vec<[i32; 3]>) {
+    let mut list = vec![0; 300];
+    let answer = model::check(files, &mut cases::large::tables(files, 0), &mut list, [0, 0, 0]);
+    let written = if let Answer::Findings { written, .. } = answer { written } else { 0 };
+    (answer, list.chunks(3).take(written).map(|found| [found[0], found[1], found[2]]).collect())
+}
+
+#[track_caller]
+fn refused(changes: &[(usize, &str)], number: usize, file: usize, line: usize) {
+    assert_eq!(check(&feed(changes)).0, Answer::Refused { number, file, line });
+}
+
+#[track_caller]
+fn findings(changes: &[(usize, &str)], wanted: &[[i32; 3]]) {
+    let (answer, list) = check(&feed(changes));
+    assert!(!matches!(answer, Answer::Refused { .. }), "{answer:?}");
+    assert_eq!(list, wanted);
+    assert_eq!(answer == Answer::Accepted, wanted.is_empty());
+}
+
+/// The files of a base feed with lines added or one line put in the place of another.
+fn more(file: usize, lines: &str) -> String {
+    format!("{}{lines}", BASE[file - 1])
+}
+
+fn instead(file: usize, old: &str, new: &str) -> String {
+    assert_eq!(BASE[file - 1].matches(old).count(), 1, "{old}");
+    BASE[file - 1].replace(old, new)
+}
+
+/// Document 01, "One feed in full".
+#[test]
+fn the_feed_of_document_01() {
+    let files = feed(&[
+        (1, "stop_id,stop_name,stop_lat,stop_lon\nA,Alder,1.5,2\nB,Birch,1.6,2\n"),
+        (2, "route_id,route_short_name,route_type\nR,7,3\n"),
+        (4, "route_id,service_id,trip_id\nR,W,T\nR,X,U\n"),
+        (5, "trip_id,arrival_time,departure_time,stop_id,stop_sequence\nT,08:00:00,08:00:00,A,1\nT,07:59:59,08:05:00,B,2\nT,,,C,2\n"),
+    ]);
+    let (answer, list) = check(&files);
+    assert_eq!(answer, Answer::Findings { written: 6, total: 6 });
+    assert_eq!(list, [[4, 2, 31], [4, 3, 21], [4, 3, 30], [5, 3, 29], [5, 4, 21], [5, 4, 28]]);
+    let mut tables = cases::large::tables(&files, 99);
+    model::check(&files, &mut tables, &mut [], [0, 0, 0]);
+    assert_eq!(tables[0], [0, 0, 0, 0, 0, 0, 36, 37, 15000000, 20000000, 0, 0, 50, 51, 16000000, 20000000, 0, 0]);
+    assert_eq!(tables[1], [0, 0, 0, 37, 38, 3]);
+    assert_eq!(tables[2], [0, 0, 0, 0, 0, 88, 89, 31, 20240101, 20241231]);
+    assert_eq!(tables[3], [0, 0, 0, 0, 0, 0, 0, 32, 33, 1, 1, -1, 0, 0, 38, 39, 1, 0, -1, 0, 0]);
+    assert_eq!(tables[4][8..24], [1, 1, 1, 28800, 28800, 0, 0, -1, 1, 2, 2, 28799, 29100, 0, 0, -1]);
+    assert_eq!(tables[4][24..], [1, 0, 2, -1, -1, 0, 0, -1]);
+}
+
+#[test]
+fn the_base_feed_is_accepted() {
+    findings(&[], &[]);
+}
+
+/// Readings A6 to A12: the mark, endings, lines of no bytes.
+#[test]
+fn marks_and_endings() {
+    let good = BASE[1];
+    findings(&[(2, &format!("\u{feff}{good}"))], &[]);
+    refused(&[(2, &format!("\u{feff}\u{feff}{good}"))], 9, 2, 1);
+    refused(&[(2, "\u{feff}")], 4, 2, 0);
+    refused(&[(2, "\u{feff}\n")], 9, 2, 1);
+    refused(&[(2, "\u{feff}\r\n")], 9, 2, 1);
+    findings(&[(2, &good.replace('\n', "\r\n"))], &[]);
+    refused(&[(2, &good.replace('\n', "\r\r\n"))], 5, 2, 1);
+    refused(&[(2, &more(2, "\"R2\r\n"))], 6, 2, 3);
+    refused(&[(2, &more(2, "R2,3,\"a\nb\",\n"))], 6, 2, 3);
+    refused(&[(2, &more(2, "\n"))], 10, 2, 3);
+    refused(&[(2, &more(2, "\r\n"))], 10, 2, 3);
+    refused(&[(2, "\n")], 9, 2, 1);
+}
+
+/// Rules 3 and 4, and their order over the files (A23, A24).
+#[test]
+fn whole_files_go_rule_by_rule() {
+    refused(&[(1, "a\tb\n"), (5, "")], 4, 5, 0);
+    let files = feed(&[(3, &BASE[2][..BASE[2].len() - 1]), (1, "x")]);
+    let mut tables = cases::large::tables(&files, 0);
+    tables[2].pop();
+    let answer = model::check(&files, &mut tables, &mut [], [0, 0, 0]);
+    assert_eq!(answer, Answer::Refused { number: 3, file: 3, line: 0 });
+    tables[2].push(0);
+    tables[0].clear();
+    let answer = model::check(&files, &mut tables, &mut [], [0, 0, 0]);
+    assert_eq!(answer, Answer::Refused { number: 4, file: 1, line: 0 });
+}
+
+/// On one line the lowest number speaks (A25, A30), and line goes before number.
+#[test]
+fn the_lowest_number_speaks() {
+    refused(&[(2, &more(2, "\t\"x\"y\n"))], 5, 2, 3);
+    refused(&[(2, &more(2, &format!("{}a\"b\n", ",".repeat(40))))], 6, 2, 3);
+    refused(&[(2, &more(2, &format!("{}\n", ",".repeat(32))))], 7, 2, 3);
+    refused(&[(2, &more(2, &format!("{}\n", ",".repeat(31))))], 10, 2, 3);
+    refused(&[(2, "route_id,route_id\n")], 8, 2, 1);
+    refused(&[(2, "route_id,\"route_id\",route_type\n")], 8, 2, 1);
+    refused(&[(2, "route_id,stop_id,stop_id,,\n")], 9, 2, 1);
+    refused(&[(1, &more(1, "D,,x,2,0,\n"))], 12, 1, 5);
+    refused(&[(1, &more(1, &format!("{},,x,2,0,\n", "i".repeat(65))))], 11, 1, 5);
+    refused(&[(1, &more(1, "D,Dogwood,x,2,0,\n\t\n"))], 13, 1, 5);
+}
+
+/// Rule 11: direction_id too (A26), measured by value (A27).
+#[test]
+fn ids_of_64_bytes() {
+    let trip = |id: &str| instead(4, "R,W,T,0", &format!("R,W,T,{id}"));
+    refused(&[(4, &trip(&"1".repeat(65)))], 11, 4, 2);
+    refused(&[(4, &trip(&"1".repeat(64)))], 13, 4, 2);
+    let route = |id: &str| more(2, &format!("{id},3,7,\n"));
+    findings(&[(2, &route(&"i".repeat(64)))], &[]);
+    findings(&[(2, &route(&format!("\"{}\"", "\"\"".repeat(64))))], &[]);
+    refused(&[(2, &route(&"ä".repeat(33)))], 11, 2, 3);
+    refused(&[(2, &route(&format!("\"{}\"", "\"\"".repeat(65))))], 11, 2, 3);
+}
+
+/// Rule 20, by value (A32), and references to the first line (A34).
+#[test]
+fn repeated_ids() {
+    findings(&[(2, &more(2, "\"R\",3,7,\nr,3,7,\nR,3,7,\n"))], &[[2, 3, 20], [2, 5, 20]]);
+    // A second A of another type changes nothing for the trip that calls there.
+    findings(&[(1, &more(1, "A,Alder,1,2,1,\n"))], &[[1, 5, 20]]);
+}
+
+/// Rules 21 and 22: parents (A20, A35, A36).
+#[test]
+fn parents() {
+    findings(&[(1, &more(1, "D,Dogwood,1,2,0,D\n"))], &[[1, 5, 22]]);
+    findings(&[(1, &more(1, "D,Dogwood,1,2,1,D\n"))], &[[1, 5, 22]]);
+    findings(&[(1, &more(1, "D,Dogwood,1,2,2,nowhere\n"))], &[[1, 5, 21]]);
+    findings(&[(1, &more(1, "D,Dogwood,1,2,1,nowhere\n"))], &[[1, 5, 21], [1, 5, 22]]);
+    findings(&[(1, &more(1, "D,Dogwood,1,2,2,\n"))], &[[1, 5, 22]]);
+    findings(&[(1, &more(1, "D,Dogwood,1,2,2,S\n"))], &[]);
+    findings(&[(1, &more(1, "D,Dogwood,1,2,0,B\n"))], &[[1, 5, 22]]);
+    // A later line of a repeated id that names that id refers to the first line, a station.
+    findings(&[(1, &more(1, "S,Station,1,2,0,S\n"))], &[[1, 5, 20]]);
+}
+
+/// Rules 23 to 27.
+#[test]
+fn single_lines() {
+    let last = "T,08:05:00,08:06:00,B,2,3,0,";
+    let with = |line: &str| instead(5, last, line);
+    findings(&[(5, &with("T,08:05:00,08:06:00,S,2,3,0,"))], &[[5, 3, 23]]);
+    findings(&[(5, &with("T,08:05:00,08:04:00,B,2,3,0,"))], &[[5, 3, 27]]);
+    findings(&[(5, &with("T,08:05:00,,B,2,3,0,1\nT,9:00:00,9:00:00,B,3,,,"))], &[[5, 3, 26]]);
+    findings(&[(5, &with("T,,,B,2,3,0,1\nT,9:00:00,9:00:00,B,3,,,"))], &[[5, 3, 26]]);
+    findings(&[(5, &with("T,,,B,2,3,0,0\nT,9:00:00,9:00:00,B,3,,,"))], &[]);
+    findings(&[(3, &instead(3, "20240101,20241231", "20240102,20240101"))], &[[3, 2, 24]]);
+    findings(&[(3, &instead(3, "20240101,20241231", "20240101,20240101"))], &[]);
+    findings(&[(2, &instead(2, "R,3,7,Seven", "R,3,,\"\""))], &[[2, 2, 25]]);
+    findings(&[(2, "route_id,route_type\nR,3\n")], &[[2, 2, 25]]);
+}
+
+/// Rules 28 and 29 go by the nearest earlier line of the same trip, in file 4 or not (A39).
+#[test]
+fn the_order_within_a_trip() {
+    let lines = |lines: &str| instead(5, "T,08:05:00,08:06:00,B,2,3,0,\n", lines);
+    let unresolved = lines("T,9:00:00,9:00:00,B,2,,,\nX,,,A,5,,,\nX,,,A,3,,,\nX,,,A,4,,,\n");
+    findings(&[(5, &unresolved)], &[[5, 4, 21], [5, 5, 21], [5, 5, 28], [5, 6, 21]]);
+    // Another trip's line, and one with a single time, stand between the two that count.
+    let between = lines("X,7:00:00,7:00:00,A,1,,,\nT,,7:30:00,B,2,,,\nT,7:59:59,9:00:00,B,3,,,\n");
+    findings(&[(5, &between)], &[[5, 3, 21], [5, 4, 26], [5, 5, 29]]);
+    findings(&[(5, &lines("T,8:05:00,8:05:00,B,01,,,\n"))], &[[5, 3, 28]]);
+}
+
+/// Rules 30 and 31: the first line of each trip_id, lines counted by value (A41, A42).
+#[test]
+fn trips_as_a_whole() {
+    findings(&[(4, &more(4, "R,W,T,,,\nR,W,U,,,\nR,W,U,,,\n"))], &[[4, 3, 20], [4, 4, 30], [4, 5, 20]]);
+    let one = |line: &str| more(5, line);
+    let trip = more(4, "R,W,U,,,\n");
+    findings(&[(4, &trip), (5, &one("U,9:00:00,9:00:00,A,1,,,\n"))], &[[4, 3, 30]]);
+    findings(&[(4, &trip), (5, &one("U,,,A,1,,,\n"))], &[[4, 3, 30], [4, 3, 31]]);
+    findings(&[(4, &trip), (5, &one("\"U\",9:00:00,9:00:00,A,1,,,\nU,,,nowhere,2,,,\n"))], &[[4, 3, 31], [5, 5, 21]]);
+}
+
+/// The list: starting places, room, and the verdict by the total (A44 to A46).
+#[test]
+fn the_list_and_its_start() {
+    let files = feed(&[(2, &more(2, "R,3,,\nR,3,,\n"))]);
+    let whole = [[2, 3, 20], [2, 3, 25], [2, 4, 20], [2, 4, 25]];
+    assert_eq!(check(&files).1, whole);
+    let page = |start, length| {
+        let mut list = vec![-1; length];
+        let answer = model::check(&files, &mut cases::large::tables(&files, 0), &mut list, start);
+        (answer, list)
+    };
+    let told = |written| Answer::Findings { written, total: 4 };
+    assert_eq!(page([2, 3, 25], 8), (told(2), vec![2, 4, 20, 2, 4, 25, -1, -1]));
+    assert_eq!(page([2, 3, 24], 4), (told(1), vec![2, 3, 25, -1]));
+    assert_eq!(page([-1, 99, 99], 3), (told(1), vec![2, 3, 20]));
+    assert_eq!(page([2, 4, 25], 3), (told(0), vec![-1, -1, -1]));
+    assert_eq!(page([0, 0, 0], 2), (told(0), vec![-1, -1]));
+    assert_eq!(page([i32::MAX, 0, 0], 0), (told(0), vec![]));
+}

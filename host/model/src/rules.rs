@@ -1,0 +1,129 @@
+//! The binding rules 20 to 31 over a feed that was read: all findings, in order.
+
+use crate::reading::{Feed, Row};
+use crate::records::{first_records, First, IDS};
+use std::collections::HashMap;
+
+/// A finding: file, line, rule.
+pub type Finding = [i32; 3];
+
+/// All findings of a feed, ordered by file, line and rule.
+pub fn findings(feed: &Feed) -> Vec<Finding> {
+    let first = first_records(feed);
+    let mut findings = Vec::new();
+    repeated_ids(feed, &first, &mut findings);
+    stops(feed, &first, &mut findings);
+    routes_and_services(feed, &mut findings);
+    trips(feed, &first, &mut findings);
+    stop_times(feed, &first, &mut findings);
+    trip_order(feed, &mut findings);
+    findings.sort();
+    findings
+}
+
+/// Adds the finding where the rule is broken; `place` counts record lines from 0, so line 2 is 0.
+fn add(findings: &mut Vec<Finding>, file: i32, place: usize, rule: i32, broken: bool) {
+    if broken {
+        findings.push([file, place as i32 + 2, rule]);
+    }
+}
+
+/// Rule 20: the id stands on an earlier line of its file.
+fn repeated_ids(feed: &Feed, first: &[First; 4], findings: &mut Vec<Finding>) {
+    for file in 0..4 {
+        for (place, row) in feed[file].rows().enumerate() {
+            let earlier = first[file].record(row.value(IDS[file])) < place + 1;
+            add(findings, file as i32 + 1, place, 20, earlier);
+        }
+    }
+}
+
+/// A non-empty reference that names no line.
+fn unresolved(row: Row, name: &str, first: &First) -> bool {
+    !row.value(name).is_empty() && first.record(row.value(name)) == 0
+}
+
+/// Rules 21 and 22 on stops.
+fn stops(feed: &Feed, first: &[First; 4], findings: &mut Vec<Finding>) {
+    for (place, row) in feed[0].rows().enumerate() {
+        add(findings, 1, place, 21, unresolved(row, "parent_station", &first[0]));
+        let kind = row.number("location_type");
+        let has_parent = !row.value("parent_station").is_empty();
+        let parent = if has_parent { first[0].record(row.value("parent_station")) } else { 0 };
+        let station_with_parent = kind == 1 && has_parent;
+        let entrance_without = kind == 2 && !has_parent;
+        let parent_no_station = parent > 0 && feed[0].record(parent).number("location_type") != 1;
+        add(findings, 1, place, 22, station_with_parent || entrance_without || parent_no_station);
+    }
+}
+
+/// Rule 24 on calendar: end before start. Rule 25 on routes: both names empty.
+fn routes_and_services(feed: &Feed, findings: &mut Vec<Finding>) {
+    for (place, row) in feed[2].rows().enumerate() {
+        add(findings, 3, place, 24, row.number("end_date") < row.number("start_date"));
+    }
+    for (place, row) in feed[1].rows().enumerate() {
+        let names = [row.value("route_short_name"), row.value("route_long_name")];
+        add(findings, 2, place, 25, names.iter().all(|name| name.is_empty()));
+    }
+}
+
+/// Both times are given.
+fn timed(row: Row) -> bool {
+    !row.value("arrival_time").is_empty() && !row.value("departure_time").is_empty()
+}
+
+/// Rules 21, 30 and 31 on trips; 30 and 31 concern only the first line of each trip_id.
+fn trips(feed: &Feed, first: &[First; 4], findings: &mut Vec<Finding>) {
+    let mut lines: HashMap<&[u8], Vec<Row>> = HashMap::new();
+    for row in feed[4].rows() {
+        lines.entry(row.value("trip_id")).or_default().push(row);
+    }
+    for (place, row) in feed[3].rows().enumerate() {
+        let unresolved = unresolved(row, "route_id", &first[1]) || unresolved(row, "service_id", &first[2]);
+        add(findings, 4, place, 21, unresolved);
+        if first[3].record(row.value("trip_id")) != place + 1 {
+            continue;
+        }
+        let own = lines.get(row.value("trip_id")).map_or(&[][..], |rows| rows);
+        add(findings, 4, place, 30, own.len() < 2);
+        let untimed_end = own.first().into_iter().chain(own.last()).any(|&row| !timed(row));
+        add(findings, 4, place, 31, untimed_end);
+    }
+}
+
+/// Rules 21, 23, 26 and 27 on stop_times: what one line shows.
+fn stop_times(feed: &Feed, first: &[First; 4], findings: &mut Vec<Finding>) {
+    for (place, row) in feed[4].rows().enumerate() {
+        let unresolved = unresolved(row, "trip_id", &first[3]) || unresolved(row, "stop_id", &first[0]);
+        add(findings, 5, place, 21, unresolved);
+        let stop = first[0].record(row.value("stop_id"));
+        add(findings, 5, place, 23, stop > 0 && feed[0].record(stop).number("location_type") != 0);
+        let no_arrival = row.value("arrival_time").is_empty();
+        let no_departure = row.value("departure_time").is_empty();
+        let exact = row.number("timepoint") == 1;
+        add(findings, 5, place, 26, no_arrival != no_departure || exact && !timed(row));
+        let falls = row.number("departure_time") < row.number("arrival_time");
+        add(findings, 5, place, 27, timed(row) && falls);
+    }
+}
+
+/// Rules 28 and 29 on stop_times: against the nearest earlier line, or timed line, of the same trip.
+fn trip_order(feed: &Feed, findings: &mut Vec<Finding>) {
+    let mut nearest: HashMap<&[u8], Row> = HashMap::new();
+    let mut nearest_timed: HashMap<&[u8], Row> = HashMap::new();
+    for (place, row) in feed[4].rows().enumerate() {
+        let trip = row.value("trip_id");
+        if let Some(earlier) = nearest.insert(trip, row) {
+            let rises = row.number("stop_sequence") > earlier.number("stop_sequence");
+            add(findings, 5, place, 28, !rises);
+        }
+        if !timed(row) {
+            continue;
+        }
+        if let Some(earlier) = nearest_timed.insert(trip, row) {
+            let before = row.number("arrival_time") < earlier.number("departure_time");
+            add(findings, 5, place, 29, before);
+        }
+    }
+}

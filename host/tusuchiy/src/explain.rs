@@ -1,0 +1,61 @@
+//! The clerk's page: docs/RULES.md, a section for each refusal and each rule, found by its heading.
+
+const RULES: &str = include_str!("../../../docs/RULES.md");
+
+/// The headings' first words: `## Refusal 4: ..` and `## Rule 20: ..`.
+const WORDS: [&str; 2] = ["## Refusal ", "## Rule "];
+
+/// The place of a section, and its heading without number and marks.
+fn find(number: usize) -> Option<(usize, &'static str)> {
+    let mut place = 0;
+    for line in RULES.split_inclusive('\n') {
+        let heading = WORDS.iter().find_map(|word| line.strip_prefix(word));
+        if let Some(meaning) = heading.and_then(|rest| rest.strip_prefix(&format!("{number}: "))) {
+            return Some((place, meaning.trim_end()));
+        }
+        place += line.len();
+    }
+    None
+}
+
+/// What a refusal or a rule means, in one line.
+pub fn meaning(number: usize) -> &'static str {
+    find(number).map_or("a rule that docs/RULES.md doesn't know", |(_, meaning)| meaning)
+}
+
+/// The section of a refusal or a rule, from its heading to the next one.
+pub fn page(number: usize) -> Option<&'static str> {
+    let (start, _) = find(number)?;
+    let body = &RULES[start..];
+    let end = ["\n# ", "\n## "].iter().filter_map(|heading| body.find(heading)).min();
+    Some(body[..end.unwrap_or(body.len())].trim_end())
+}
+
+/// What to say for a number that has no section.
+pub fn no_such(number: usize) -> String {
+    format!("there is no refusal or rule {number}: refusals are 1 to 13, rules 20 to 31")
+}
+
+#[cfg(test)]
+mod tests {
+    use super::*;
+
+    #[test]
+    fn every_number_has_its_section() {
+        for number in (1..=13).chain(20..=31) {
+            let page = page(number).unwrap_or_else(|| panic!("no section {number}"));
+            for part in ["**What it means.**", "**Example.**", "**How to mend it.**"] {
+                assert_eq!(page.matches(part).count(), 1, "section {number}, {part}");
+            }
+            assert_eq!(page.matches("\n#").count(), 0, "section {number} runs on");
+            assert!(!meaning(number).is_empty());
+        }
+    }
+
+    #[test]
+    fn other_numbers_have_none() {
+        for number in [0, 14, 19, 32, 60] {
+            assert_eq!(page(number), None);
+        }
+    }
+}

@@ -1,0 +1,82 @@
+//! The proved check, called from Rust: one safe function over the function that the archive exports.
+#![deny(unsafe_code)]
+
+/// How many numbers a record of each file has, stops first: a table needs its width times its file's LF count.
+pub const WIDTHS: [usize; 5] = [6, 3, 5, 7, 8];
+
+/// The answer as the archive gives it; include/tusuchiy.h says what each number means.
+#[repr(C)]
+#[derive(Clone, Copy, Debug, PartialEq, Eq)]
+pub struct Answer {
+    pub verdict: i32,
+    pub number: i32,
+    pub file: i32,
+    pub line: i32,
+    pub column: i32,
+    pub written: i32,
+    pub total: i32,
+}
+
+/// The answer in words.
+#[derive(Clone, Copy, Debug, PartialEq, Eq)]
+pub enum Verdict {
+    /// The feed can be read and has no finding.
+    Accepted,
+    /// How many findings were written to the list, and how many the whole feed has.
+    Findings { written: usize, total: usize },
+    /// The rule broken (1 to 13), the file (1 to 5) and the line (0 for a whole file).
+    Refused { number: usize, file: usize, line: usize },
+}
+
+impl Answer {
+    /// The answer in words; none for numbers that no answer has.
+    pub fn verdict(&self) -> Option<Verdict> {
+        let size = |number: i32| usize::try_from(number).ok();
+        match self.verdict {
+            0 => Some(Verdict::Accepted),
+            1 => Some(Verdict::Findings { written: size(self.written)?, total: size(self.total)? }),
+            2 => {
+                let (number, file, line) = (size(self.number)?, size(self.file)?, size(self.line)?);
+                (1..=5).contains(&file).then_some(Verdict::Refused { number, file, line })
+            }
+            _ => None,
+        }
+    }
+}
+
+#[allow(unsafe_code)]
+#[rustfmt::skip]
+mod archive {
+    use super::Answer;
+
+    extern "C" {
+        fn tusuchiy_check(
+            stops: *const u8, stops_len: usize, routes: *const u8, routes_len: usize,
+            calendar: *const u8, calendar_len: usize, trips: *const u8, trips_len: usize,
+            stop_times: *const u8, stop_times_len: usize,
+            stops_table: *mut i32, stops_table_len: usize, routes_table: *mut i32, routes_table_len: usize,
+            calendar_table: *mut i32, calendar_table_len: usize, trips_table: *mut i32, trips_table_len: usize,
+            stop_times_table: *mut i32, stop_times_table_len: usize,
+            findings: *mut i32, findings_len: usize,
+            after_file: i32, after_line: i32, after_rule: i32,
+        ) -> Answer;
+    }
+
+    /// One check: files, tables, the list of findings and the place after which findings are handed out.
+    pub fn check(files: [&[u8]; 5], tables: [&mut [i32]; 5], list: &mut [i32], after: [i32; 3]) -> Answer {
+        let [f1, f2, f3, f4, f5] = files;
+        let [t1, t2, t3, t4, t5] = tables;
+        // SAFETY: the check asks for nothing but valid slices, and slices are what is lent: each pointer comes
+        // with its own length, and the borrows keep what is written apart from everything else.
+        unsafe {
+            tusuchiy_check(
+                f1.as_ptr(), f1.len(), f2.as_ptr(), f2.len(), f3.as_ptr(), f3.len(), f4.as_ptr(), f4.len(),
+                f5.as_ptr(), f5.len(), t1.as_mut_ptr(), t1.len(), t2.as_mut_ptr(), t2.len(),
+                t3.as_mut_ptr(), t3.len(), t4.as_mut_ptr(), t4.len(), t5.as_mut_ptr(), t5.len(),
+                list.as_mut_ptr(), list.len(), after[0], after[1], after[2],
+            )
+        }
+    }
+}
+
+pub use archive::check;

@@ -1,0 +1,80 @@
+/* tusuchiy.h: the proved check of GTFS feeds, for C and C++. Link with libtusuchiy_c.a (x86-64 Linux). */
+#ifndef TUSUCHIY_H
+#define TUSUCHIY_H
+
+#include <stddef.h>
+#include <stdint.h>
+
+#ifdef __cplusplus
+extern "C" {
+#endif
+
+/* The five files have numbers: 1 stops.txt, 2 routes.txt, 3 calendar.txt, 4 trips.txt, 5 stop_times.txt.
+ *
+ * A record has so many numbers in the table of its file. Lend each table at least its width times the number of
+ * LF bytes in its file, else the feed is refused with number 3. A longer table does no harm. */
+enum {
+    TUSUCHIY_STOPS_WIDTH = 6,      /* id start, id end, latitude, longitude, location_type, parent record */
+    TUSUCHIY_ROUTES_WIDTH = 3,     /* id start, id end, route_type */
+    TUSUCHIY_CALENDAR_WIDTH = 5,   /* id start, id end, days (Monday is bit 0), start_date, end_date (YYYYMMDD) */
+    TUSUCHIY_TRIPS_WIDTH = 7,      /* id start, id end, route record, service record, direction_id,
+                                      wheelchair_accessible, bikes_allowed */
+    TUSUCHIY_STOP_TIMES_WIDTH = 8  /* trip record, stop record, stop_sequence, arrival, departure (seconds, -1 where
+                                      empty), pickup_type, drop_off_type, timepoint */
+};
+/* Line n of a file (the header is line 1) has record n - 1. Record 0 is all zero, so a reference of 0 means none.
+ * Record r of a table t of width w is t[r * w] to t[r * w + w - 1]. Ids are places in the file: start, and the end
+ * behind the last byte, quotes included, counted from the file's first byte. Latitude and longitude are in
+ * ten-millionths of a degree. An empty direction_id or timepoint is -1, any other empty choice 0. */
+
+/* Values of `verdict`. */
+enum {
+    TUSUCHIY_ACCEPTED = 0, /* the files can be read, and no binding rule is broken */
+    TUSUCHIY_FINDINGS = 1, /* the files can be read, and `total` findings exist */
+    TUSUCHIY_REFUSED = 2   /* the files can't be read: see number, file, line */
+};
+
+typedef struct {
+    int32_t verdict;            /* 0 accepted, 1 findings, 2 refused */
+    int32_t number, file, line; /* of a refusal (1 to 13; 1 to 5; 0 for a whole file), else 0 */
+    int32_t column;             /* always 0 for now */
+    int32_t written, total;     /* of the findings, else 0: how many this call wrote, how many the feed has */
+} tusuchiy_answer;
+
+/* Checks a feed.
+ *
+ * Files: five pairs of a pointer and a length in bytes, only read. Any bytes may stand in them.
+ * Tables: five pairs of a pointer and a length in numbers, filled for every feed that isn't refused; numbers past the
+ *   last record stay as they were.
+ * findings: room for findings_len / 3 findings of three numbers each: file, line, rule (20 to 31; docs/RULES.md).
+ *   Those after the place (after_file, after_line, after_rule) are written, in rising order, as many as fit; the rest
+ *   of the list stays as it was. Start with 0, 0, 0. For the next page give the last finding written; once a call
+ *   writes none, you have had them all. The verdict and the total don't depend on the place or on the room.
+ *
+ * A refusal leaves all tables and the list as they were.
+ *
+ * What you owe: each pointer is valid for its length, aligned, and not NULL, even where the length is 0; no table
+ * and no list overlaps another or a file; nobody else writes any of them during the call. Nothing else is asked of
+ * the contents, and no call fails otherwise.
+ *
+ * The call keeps nothing: it allocates no memory, opens no file, holds no state between calls, so several threads may
+ * call it at a time on memory of their own. Give a thread that calls it as much stack as a main thread has (8 MiB). */
+tusuchiy_answer tusuchiy_check(
+    const uint8_t *stops, size_t stops_len,
+    const uint8_t *routes, size_t routes_len,
+    const uint8_t *calendar, size_t calendar_len,
+    const uint8_t *trips, size_t trips_len,
+    const uint8_t *stop_times, size_t stop_times_len,
+    int32_t *stops_table, size_t stops_table_len,
+    int32_t *routes_table, size_t routes_table_len,
+    int32_t *calendar_table, size_t calendar_table_len,
+    int32_t *trips_table, size_t trips_table_len,
+    int32_t *stop_times_table, size_t stop_times_table_len,
+    int32_t *findings, size_t findings_len,
+    int32_t after_file, int32_t after_line, int32_t after_rule);
+
+#ifdef __cplusplus
+}
+#endif
+
+#endif
