@@ -1,9 +1,10 @@
 // A type per file that knows its width and number, a row type per file, and the records that they place.
 ghost use mathlib.Core.Path.{_≡_};
 ghost use mathlib.Core.List.{_∷_, []};
-ghost use Prim.Native.Nat.{_+_, _*_, _^_, _<_, _≤_};
+ghost use Prim.Native.Nat.{_+_, _*_, _^_, _/_, _%_, _<_, _≤_};
 ghost use lib.IntN.{pos};
 ghost use lib.ListN.{length};
+ghost use Rattle.meaning.specs.Bytes.{bounds};
 ghost use Rattle.meaning.specs.Tables.{widthOf};
 ghost use Rattle.rows.specs.Cells.{putAt, natAt, boundsAt, timeAt};
 use meaning::Bounds;
@@ -42,7 +43,7 @@ impl Stops {
         row.0 * Stops::WIDTH
     }
 
-    // The record of a line.
+    // The record of a line. Where the field of its parent lies waits in it: the end, four times, beside the kind, and the start.
     pub fn put(
         t: &mut [i32],
         row: StopRow,
@@ -50,22 +51,45 @@ impl Stops {
         latitude: i32,
         longitude: i32,
         kind: u32,
-        parent: StopRow,
+        parent: Bounds,
     )
         requires { ⌜ row .0 * 6 + 6 ≤ length (now t) ⌝ }
-        requires { ⌜ (id .start < 2 ^ 31) × ((id .end < 2 ^ 31) × ((kind < 2 ^ 31) × (parent .0 < 2 ^ 31))) ⌝ }
+        requires { ⌜ (id .start < 2 ^ 31) × ((id .end < 2 ^ 31) × ((kind < 4) × ((parent .start < 2 ^ 31) × (parent .end < 2 ^ 29)))) ⌝ }
         ensures { λ _. ⌜ now (t .exit) ≡ putAt (now (t .entry)) (row .0 * 6)
-            (pos (id .start) ∷ pos (id .end) ∷ latitude ∷ longitude ∷ pos kind ∷ pos (parent .0) ∷ []) ⌝ }
+            (pos (id .start) ∷ pos (id .end) ∷ latitude ∷ longitude ∷ pos (kind + 4 * parent .end) ∷ pos (parent .start) ∷ []) ⌝ }
     {
+        let packed = kind as usize + 4 * parent.end;
         let r = [
             id.start as i32,
             id.end as i32,
             latitude,
             longitude,
-            kind as i32,
-            parent.0 as i32,
+            packed as i32,
+            parent.start as i32,
         ];
         cells::store(t, Stops::place(row), &r);
+    }
+
+    // Where the field of a parent that waits lies.
+    pub fn waiting_at(t: &[i32], row: StopRow) -> Bounds
+        ensures { λ r. ⌜ r ≡ bounds (natAt (now (t .entry)) (row .0 * 6 + 5)) (natAt (now (t .entry)) (row .0 * 6 + 4) / 4) ⌝ }
+    {
+        let start = cells::nat_of(t, row.0, Stops::WIDTH, 5);
+        let packed = cells::nat_of(t, row.0, Stops::WIDTH, 4);
+        Bounds {
+            start,
+            end: packed / 4,
+        }
+    }
+
+    // The parent's record where its field waited; the kind stays by itself.
+    pub fn settle(t: &mut [i32], row: StopRow, parent: StopRow)
+        requires { ⌜ (row .0 * 6 + 6 ≤ length (now t)) × (parent .0 < 2 ^ 31) ⌝ }
+        ensures { λ _. ⌜ now (t .exit) ≡ putAt (now (t .entry)) (row .0 * 6 + 4) (pos (natAt (now (t .entry)) (row .0 * 6 + 4) % 4) ∷ pos (parent .0) ∷ []) ⌝ }
+    {
+        let packed = cells::nat_of(t, row.0, Stops::WIDTH, 4);
+        let r = [(packed % 4) as i32, parent.0 as i32];
+        cells::store(t, Stops::place(row) + 4, &r);
     }
 
     // Where the id of a record stands in the file.
