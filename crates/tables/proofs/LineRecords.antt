@@ -1,27 +1,17 @@
 -- The record of a line from its located fields.
-use mathlib.Core.Path.{_≡_, refl, _∙_}
-use mathlib.Core.Bool.{Bool, true, false, cond}
+use mathlib.Core.Path.{_≡_, _∙_}
 use mathlib.Core.List.{List, [], _∷_}
-use Prim.Native.Nat.{ℕ, _+_, _≤_}
+use Prim.Native.Nat.{ℕ, _+_, _*_, _≤_}
 use lib.IntN.{ℤ, pos}
 use lib.ListN.{length, getD, List·getD-map}
-use Rattle.meaning.specs.Lists.{empty, find}
 use Rattle.meaning.specs.Bytes.{value}
 use Rattle.meaning.specs.Columns.{fieldAt, cell, rowOf}
 use Rattle.meaning.specs.Forms.{latitudeOf, longitudeOf, timeOf, dateOf, sequenceOf, routeTypeOf}
-use Rattle.meaning.specs.Tables.{Feed, degrees, day, number, seconds, picked, orZero, orMinus, refer, packedDays, stopIds, routeIds, serviceIds, tripIds, idPlace, idColumn, recordOf, numbersOf, stopNumbers, routeNumbers, serviceNumbers, tripNumbers, timeNumbers}
+use Rattle.meaning.specs.Tables.{Feed, degrees, day, number, seconds, picked, orZero, orMinus, refer, packedDays, stopIds, routeIds, serviceIds, tripIds, idPlace, idColumn, recordOf, numbersOf, routeNumbers, serviceNumbers, tripNumbers, timeNumbers}
 use Rattle.columns.specs.Columns.{startsOf, endsOf}
 use Rattle.columns.proofs.Laws.{row-at, located-inside}
 use Rattle.tables.specs.Fill.{line, valueIn, Located, Within, Lies}
-
--- nothing refers to a stop of no stops
-refer-none : (v : List ℕ) (w : Feed) → w .stops ≡ [] → refer v (stopIds w) ≡ 0
-unfolding refer stopIds find
-refer-none v w e = rw e (go (empty v))
-  where
-    go : (b : Bool) → _≡_ {A = ℕ} (cond b 0 0) 0
-    go true = refl
-    go false = refl
+use Rattle.tables.specs.Walk.{waiting}
 
 -- the value under a column is the row's
 pub in-row :
@@ -29,35 +19,36 @@ pub in-row :
 unfolding cell
 in-row ps l st en loc k = row-at ps l k ∙ rw (loc k)
 
-module _ (w : Feed) (ps l : List ℕ) (at : ℕ) (st en : List ℕ) (loc : Located l ps st en) where
+module _ (ps l : List ℕ) (at : ℕ) (st en : List ℕ) (loc : Located l ps st en) where
   id-in : (k a e : ℕ) → a ≡ at + getD st k 0 → e ≡ at + getD en k 0 → idPlace (getD ps k 0) (line at l) ≡ pos a ∷ pos e ∷ []
   unfolding idPlace
   id-in k a e p q = rw (← loc k, p, q)
 
-  pub stop-record :
-      (a e kind : ℕ) (lat lon : ℤ)
-      → w .stops ≡ []
+  pub waiting-record :
+      (a e kind from to : ℕ) (lat lon : ℤ)
       → a ≡ at + getD st 0 0
       → e ≡ at + getD en 0 0
       → lat ≡ degrees (latitudeOf (valueIn l st en 2))
       → lon ≡ degrees (longitudeOf (valueIn l st en 3))
       → pos kind ≡ orZero 2 (valueIn l st en 4)
-      → pos a ∷ pos e ∷ lat ∷ lon ∷ pos kind ∷ pos 0 ∷ [] ≡ recordOf 1 w ps (line at l)
-  unfolding recordOf idColumn numbersOf stopNumbers
-  stop-record a e kind lat lon none p q x y z =
-      rw (id-in 0 a e p q, in-row ps l st en loc 2, in-row ps l st en loc 3, in-row ps l st en loc 4, refer-none (getD (rowOf ps l) 5 []) w none, ← x, ← y, ← z)
+      → from ≡ at + getD st 5 0
+      → to ≡ at + getD en 5 0
+      → pos a ∷ pos e ∷ lat ∷ lon ∷ pos (kind + 4 * to) ∷ pos from ∷ [] ≡ waiting ps (line at l)
+  unfolding waiting
+  waiting-record a e kind from to lat lon p q x y z g h =
+      rw (id-in 0 a e p q, in-row ps l st en loc 2, in-row ps l st en loc 3, in-row ps l st en loc 4, ← loc 5, ← x, ← y, ← z, g, h)
 
   pub route-record :
-      (a e kind : ℕ)
+      (w : Feed) (a e kind : ℕ)
       → a ≡ at + getD st 0 0
       → e ≡ at + getD en 0 0
       → pos kind ≡ picked (routeTypeOf (valueIn l st en 1))
       → pos a ∷ pos e ∷ pos kind ∷ [] ≡ recordOf 2 w ps (line at l)
   unfolding recordOf idColumn numbersOf routeNumbers
-  route-record a e kind p q x = rw (id-in 0 a e p q, in-row ps l st en loc 1, ← x)
+  route-record w a e kind p q x = rw (id-in 0 a e p q, in-row ps l st en loc 1, ← x)
 
   pub service-record :
-      (a e days from to : ℕ)
+      (w : Feed) (a e days from to : ℕ)
       → a ≡ at + getD st 0 0
       → e ≡ at + getD en 0 0
       → days ≡ packedDays (rowOf ps l)
@@ -65,10 +56,10 @@ module _ (w : Feed) (ps l : List ℕ) (at : ℕ) (st en : List ℕ) (loc : Locat
       → pos to ≡ day (dateOf (valueIn l st en 9))
       → pos a ∷ pos e ∷ pos days ∷ pos from ∷ pos to ∷ [] ≡ recordOf 3 w ps (line at l)
   unfolding recordOf idColumn numbersOf serviceNumbers
-  service-record a e days from to p q x y z = rw (id-in 0 a e p q, in-row ps l st en loc 8, in-row ps l st en loc 9, x, ← y, ← z)
+  service-record w a e days from to p q x y z = rw (id-in 0 a e p q, in-row ps l st en loc 8, in-row ps l st en loc 9, x, ← y, ← z)
 
   pub trip-record :
-      (a e route service wheelchair bikes : ℕ) (direction : ℤ)
+      (w : Feed) (a e route service wheelchair bikes : ℕ) (direction : ℤ)
       → a ≡ at + getD st 2 0
       → e ≡ at + getD en 2 0
       → route ≡ refer (valueIn l st en 0) (routeIds w)
@@ -79,11 +70,11 @@ module _ (w : Feed) (ps l : List ℕ) (at : ℕ) (st en : List ℕ) (loc : Locat
       → pos a ∷ pos e ∷ pos route ∷ pos service ∷ direction ∷ pos wheelchair ∷ pos bikes ∷ []
       ≡ recordOf 4 w ps (line at l)
   unfolding recordOf idColumn numbersOf tripNumbers
-  trip-record a e route service wheelchair bikes direction p q r s x y z =
+  trip-record w a e route service wheelchair bikes direction p q r s x y z =
       rw (id-in 2 a e p q, in-row ps l st en loc 0, in-row ps l st en loc 1, in-row ps l st en loc 3, in-row ps l st en loc 4, in-row ps l st en loc 5, r, s, ← x, ← y, ← z)
 
   pub time-record :
-      (trip stop sequence pickup dropOff : ℕ) (arrival departure timepoint : ℤ)
+      (w : Feed) (trip stop sequence pickup dropOff : ℕ) (arrival departure timepoint : ℤ)
       → trip ≡ refer (valueIn l st en 0) (tripIds w)
       → stop ≡ refer (valueIn l st en 3) (stopIds w)
       → pos sequence ≡ number (sequenceOf (valueIn l st en 4))
@@ -95,7 +86,7 @@ module _ (w : Feed) (ps l : List ℕ) (at : ℕ) (st en : List ℕ) (loc : Locat
       → pos trip ∷ pos stop ∷ pos sequence ∷ arrival ∷ departure ∷ pos pickup ∷ pos dropOff ∷ timepoint ∷ []
       ≡ recordOf 5 w ps (line at l)
   unfolding recordOf idColumn numbersOf timeNumbers
-  time-record trip stop sequence pickup dropOff arrival departure timepoint p q r a d x y z =
+  time-record w trip stop sequence pickup dropOff arrival departure timepoint p q r a d x y z =
       rw (in-row ps l st en loc 0, in-row ps l st en loc 1, in-row ps l st en loc 2, in-row ps l st en loc 3, in-row ps l st en loc 4, in-row ps l st en loc 5, in-row ps l st en loc 6, in-row ps l st en loc 7, p, q, ← r, a, d, ← x, ← y, ← z)
 
 -- the fields that `locate` gives under columns

@@ -6,10 +6,12 @@ use Prim.Native.Nat.{ℕ, suc, _+_, _*_, _-_, _^_, _≤_, _<_}
 use native.Mathlib.Omega.{arith}
 use native.Mathlib.Nat.{pow-le-pow-right, pow-succ', zero-lt-suc}
 use lib.IntN.{ℤ, pos}
+use lib.ListN.{length}
+use Rattle.meaning.specs.declared.Bounds.{Bounds}
 use Rattle.meaning.specs.declared.Choice.{Choice}
 use Rattle.meaning.specs.declared.Choice.the-variants.{Picked, NoChoice}
 use Rattle.meaning.specs.Lists.{empty}
-use Rattle.meaning.specs.Bytes.{value, Line}
+use Rattle.meaning.specs.Bytes.{bounds, part, value, Line}
 use Rattle.meaning.specs.Columns.{rowOf}
 use Rattle.meaning.specs.Forms.{choiceOf}
 use Rattle.meaning.specs.Tables.{Feed, widthOf, recordOf, picked, oneIf, choiceOr, refer, packFrom, packedDays}
@@ -17,7 +19,9 @@ use Rattle.rows.specs.Cells.{putAt}
 use Rattle.resolve.specs.First.{First, names}
 use Rattle.resolve.proofs.Laws.{refer-held}
 use Rattle.tables.specs.Fill.{valueIn, Located, Lists}
+use Rattle.tables.specs.Walk.{waiting, written}
 use Rattle.tables.proofs.LineRecords.{in-row}
+use Rattle.tables.proofs.Written.{written-record}
 
 -- a form read from the raw field under a column
 pub through : {A : Type 0} (f : List ℕ → A) (x : A) (r p : List ℕ) → x ≡ f (value r) → r ≡ p → x ≡ f (value p)
@@ -80,10 +84,28 @@ pub referred :
 referred s t width n ids raw p r h f e =
     refer-held s t width ids (value p) (h .held) r (rw (← e, ← h .count) f)
 
+-- a parent that was looked up by the bytes at the place that waits
+pub waited :
+    (s : List ℕ) (t : List ℤ) (n : ℕ) (ids : List (List ℕ)) (raw : List ℕ) (p : Bounds) (r a e : ℕ)
+    → Lists s t 6 n ids
+    → First (names s t 6 (value raw)) n r
+    → (p .start ≤ p .end → p .end ≤ length s → raw ≡ part s p)
+    → {x y : ℕ}
+    → p ≡ bounds x y
+    → x ≡ a
+    → y ≡ e
+    → a ≤ e
+    → e ≤ length s
+    → r ≡ refer (value (part s (bounds a e))) ids
+waited s t n ids raw p r a e h f bytes is from to low high =
+    let q : p ≡ bounds a e = rw (is, from, to) in
+    let raw-is : raw ≡ part s (bounds a e) = rw q at bytes low high in
+    referred s t 6 n ids raw (part s (bounds a e)) r h f raw-is
+
 -- a record that was written is another's equal
-pub written :
+pub put-as :
     (t t′ : List ℤ) (at : ℕ) (u v : List ℤ) → t′ ≡ putAt t at u → u ≡ v → t′ ≡ putAt t at v
-written t t′ at u v e g = e ∙ ap (putAt t at) g
+put-as t t′ at u v e g = e ∙ ap (putAt t at) g
 
 -- the same for a file that is known by its number
 pub file-room : (f k r n : ℕ) → f ≡ k → r * widthOf f + widthOf f ≤ n → r * widthOf k + widthOf k ≤ n
@@ -92,9 +114,18 @@ file-room f k r n e h = rw e at h
 pub file-put :
     (f k r : ℕ) (w : Feed) (ps : List ℕ) (x : Line) (t t′ : List ℤ)
     → f ≡ k
+    → 2 ≤ k
     → t′ ≡ putAt t (r * widthOf k) (recordOf k w ps x)
-    → t′ ≡ putAt t (r * widthOf f) (recordOf f w ps x)
-file-put f k r w ps x t t′ e p = rw e p
+    → t′ ≡ putAt t (r * widthOf f) (written f w ps x)
+file-put f k r w ps x t t′ e h p = rw (e, written-record k h w ps x) p
+
+pub stop-put :
+    (f r : ℕ) (w : Feed) (ps : List ℕ) (x : Line) (t t′ : List ℤ)
+    → f ≡ 1
+    → t′ ≡ putAt t (r * widthOf 1) (waiting ps x)
+    → t′ ≡ putAt t (r * widthOf f) (written f w ps x)
+unfolding written
+stop-put f r w ps x t t′ e p = rw e p
 
 pub fifth : (f : ℕ) → 1 ≤ f → f ≤ 5 → (f ≡ 1 → ⊥) → (f ≡ 2 → ⊥) → (f ≡ 3 → ⊥) → (f ≡ 4 → ⊥) → f ≡ 5
 fifth f h k a b c d =

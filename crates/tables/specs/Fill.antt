@@ -39,9 +39,8 @@ pub record Lists (s : List ℕ) (t : List ℤ) (width n : ℕ) (ids : List (List
   pub held : Held s t width ids
   pub count : n ≡ length ids + 1
 
--- what a file refers to: two files with their tables and their numbers of records. Parents are none at first.
+-- what a file refers to: two files with their tables and their numbers of records
 pub record Refers (f : ℕ) (w : Feed) (a : List ℕ) (at : List ℤ) (an : ℕ) (b : List ℕ) (bt : List ℤ) (bn : ℕ) : Type 0 where
-  pub parents : f ≡ 1 → w .stops ≡ []
   pub routes : f ≡ 4 → Lists a at 3 an (routeIds w)
   pub services : f ≡ 4 → Lists b bt 5 bn (serviceIds w)
   pub trips : f ≡ 5 → Lists a at 7 an (tripIds w)

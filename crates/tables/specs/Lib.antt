@@ -1,2 +1,3 @@
--- What a located line and the tables that a file refers to hold.
+-- What a located line, a walk along a file and the tables that it refers to hold.
 pub mod Fill
+pub mod Walk

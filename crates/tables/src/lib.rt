@@ -3,12 +3,13 @@ ghost use mathlib.Core.Path.{_≡_};
 ghost use mathlib.Core.List.{List, [], _∷_};
 ghost use Prim.Native.Nat.{_+_, _<_, _≤_};
 ghost use lib.IntN.{ℤ};
-ghost use lib.ListN.{length, take};
+ghost use lib.ListN.{take};
 ghost use Rattle.meaning.specs.Lists.{flat, laid};
 ghost use Rattle.meaning.specs.Bytes.{countLf};
 ghost use Rattle.meaning.specs.Columns.{rowsOf};
-ghost use Rattle.meaning.specs.Tables.{Feed, feedOf, recordsOf, filled};
+ghost use Rattle.meaning.specs.Tables.{Feed, feedOf, filled};
 ghost use Rattle.tables.specs.Fill.{Heading, Refers, Room};
+ghost use Rattle.tables.specs.Walk.{walkedOf, walked};
 use rows::Calendar;
 use rows::Routes;
 use rows::StopTimes;
@@ -18,7 +19,7 @@ use text::LineStep;
 
 pub mod values; // values.rt: the numbers that the fields of one located line say
 mod records; // records.rt: the record of one located line, written into its table
-mod parents; // parents.rt: the parents of stops, which may stand on later lines
+mod parents; // parents.rt: the parents of stops, once every stop is in the table
 
 // What a file's header tells: the columns of its known names, and where the next line starts.
 struct Header {
@@ -45,7 +46,7 @@ fn read_header(f: usize, s: &[u8]) -> Header
     }
 }
 
-// The records of the lines from `at` on, the first of which has record 1.
+// What is written for the lines from `at` on, the first of which has record 1; how many records there are.
 fn fill_lines(
     f: usize,
     s: &[u8],
@@ -58,14 +59,15 @@ fn fill_lines(
     b: &[u8],
     b_table: &[i32],
     b_count: usize,
-)
+) -> usize
     requires { ⌜ (1 ≤ f) × ((f ≤ 5) × Room f (now s) (now t)) ⌝ }
     requires { ⌜ Heading f (now s) known at ⌝ }
     requires { ⌜ («a_count» ≤ 16777216) × («b_count» ≤ 16777216) ⌝ }
     ensures { λ _. ⌜ ((w : Feed) (lent : List ℤ)
         → Refers f w (now (a .entry)) (now («a_table» .entry)) «a_count» (now (b .entry)) (now («b_table» .entry)) «b_count»
-        → now (t .entry) ≡ laid (flat (take 1 (recordsOf f w (now (s .entry))))) lent
-        → now (t .exit) ≡ filled f w (now (s .entry)) lent) ⌝ }
+        → now (t .entry) ≡ laid (flat (take 1 (walkedOf f w (now (s .entry))))) lent
+        → now (t .exit) ≡ walked f w (now (s .entry)) lent) ⌝ }
+    ensures { λ r. ⌜ r ≡ countLf (now (s .entry)) ⌝ }
 {
     let mut here = at;
     let mut r = 1;
@@ -90,24 +92,33 @@ fn fill_lines(
                 r += 1;
             }
             LineStep::Done => {
-                return;
+                return r;
             }
         }
     }
 }
 
-// A file's table: record 0, then a record for each line; references go to the records of files a and b.
-fn fill(f: usize, s: &[u8], t: &mut [i32], a: &[u8], a_table: &[i32], b: &[u8], b_table: &[i32])
+// One walk along a file: record 0, then what is written for each line; references go to the records of files a and b.
+fn fill(
+    f: usize,
+    s: &[u8],
+    t: &mut [i32],
+    a: &[u8],
+    a_table: &[i32],
+    a_count: usize,
+    b: &[u8],
+    b_table: &[i32],
+    b_count: usize,
+) -> usize
     requires { ⌜ (1 ≤ f) × ((f ≤ 5) × Room f (now s) (now t)) ⌝ }
-    requires { ⌜ (length (now a) ≤ 16777216) × (length (now b) ≤ 16777216) ⌝ }
+    requires { ⌜ («a_count» ≤ 16777216) × («b_count» ≤ 16777216) ⌝ }
     ensures { λ _. ⌜ ((w : Feed)
-        → Refers f w (now (a .entry)) (now («a_table» .entry)) (countLf (now (a .entry))) (now (b .entry)) (now («b_table» .entry)) (countLf (now (b .entry)))
-        → now (t .exit) ≡ filled f w (now (s .entry)) (now (t .entry))) ⌝ }
+        → Refers f w (now (a .entry)) (now («a_table» .entry)) «a_count» (now (b .entry)) (now («b_table» .entry)) «b_count»
+        → now (t .exit) ≡ walked f w (now (s .entry)) (now (t .entry))) ⌝ }
+    ensures { λ r. ⌜ (r ≡ countLf (now (s .entry))) × (r ≤ 16777216) ⌝ }
 {
     let h = read_header(f, s);
     rows::cells::zero_record(t, rows::width_of(f));
-    let a_count = text::count_lf(a);
-    let b_count = text::count_lf(b);
     let known = h.known;
     let next = h.next;
     fill_lines(
@@ -122,29 +133,28 @@ fn fill(f: usize, s: &[u8], t: &mut [i32], a: &[u8], a_table: &[i32], b: &[u8], 
         b,
         b_table,
         b_count,
-    );
+    )
 }
 
-// A table whose references are none, or not looked up yet.
-fn fill_alone(f: usize, s: &[u8], t: &mut [i32])
+// A table that refers to no other.
+fn fill_alone(f: usize, s: &[u8], t: &mut [i32]) -> usize
     requires { ⌜ (1 ≤ f) × ((f ≤ 3) × Room f (now s) (now t)) ⌝ }
-    ensures { λ _. ⌜ ((w : Feed) → (f ≡ 1 → w .stops ≡ []) → now (t .exit) ≡ filled f w (now (s .entry)) (now (t .entry))) ⌝ }
+    ensures { λ _. ⌜ ((w : Feed) → now (t .exit) ≡ walked f w (now (s .entry)) (now (t .entry))) ⌝ }
+    ensures { λ r. ⌜ (r ≡ countLf (now (s .entry))) × (r ≤ 16777216) ⌝ }
 {
     let none = [0i32; 1];
-    fill(f, s, t, s, &none, s, &none);
+    fill(f, s, t, s, &none, 0, s, &none, 0)
 }
 
-// The table of stops: without parents first, since a parent may stand on a later line.
-fn fill_stops(s: &[u8], t: &mut [i32])
+// The table of stops: a parent may stand on a later line, so it waits until all ids are there.
+fn fill_stops(s: &[u8], t: &mut [i32]) -> usize
     requires { ⌜ Room 1 (now s) (now t) ⌝ }
     ensures { λ _. ⌜ ((w : Feed) → w .stops ≡ rowsOf 1 (now (s .entry)) → now (t .exit) ≡ filled 1 w (now (s .entry)) (now (t .entry))) ⌝ }
+    ensures { λ r. ⌜ (r ≡ countLf (now (s .entry))) × (r ≤ 16777216) ⌝ }
 {
-    fill_alone(Stops::FILE, s, t);
-    let h = read_header(Stops::FILE, s);
-    let known = h.known;
-    let next = h.next;
-    let count = text::count_lf(s);
-    parents::set_parents(s, next, known, count, t);
+    let count = fill_alone(Stops::FILE, s, t);
+    parents::set_parents(s, count, t);
+    count
 }
 
 // The five tables of five files.
@@ -176,17 +186,19 @@ pub fn fill_all(
     ensures { λ _. ⌜ now («stop_times_table» .exit) ≡ filled 5 (feedOf (now (stops .entry) ∷ now (routes .entry) ∷ now (calendar .entry) ∷ now (trips .entry) ∷ now («stop_times» .entry) ∷ []))
         (now («stop_times» .entry)) (now («stop_times_table» .entry)) ⌝ }
 {
-    fill_stops(stops, stops_table);
-    fill_alone(Routes::FILE, routes, routes_table);
-    fill_alone(Calendar::FILE, calendar, calendar_table);
-    fill(
+    let stops_count = fill_stops(stops, stops_table);
+    let routes_count = fill_alone(Routes::FILE, routes, routes_table);
+    let services_count = fill_alone(Calendar::FILE, calendar, calendar_table);
+    let trips_count = fill(
         Trips::FILE,
         trips,
         trips_table,
         routes,
         routes_table,
+        routes_count,
         calendar,
         calendar_table,
+        services_count,
     );
     fill(
         StopTimes::FILE,
@@ -194,7 +206,9 @@ pub fn fill_all(
         stop_times_table,
         trips,
         trips_table,
+        trips_count,
         stops,
         stops_table,
+        stops_count,
     );
 }

@@ -1,60 +1,58 @@
-// The parents of stops, which may stand on later lines.
+// The parents of stops, once every stop is in the table.
 ghost use mathlib.Core.Path.{_≡_};
-ghost use mathlib.Core.List.{List, [], _∷_};
-ghost use Prim.Native.Nat.{ℕ, _+_, _*_, _≤_};
-ghost use lib.IntN.{ℤ, pos};
-ghost use lib.ListN.{length, getD};
-ghost use Rattle.meaning.specs.Bytes.{countLf};
-ghost use Rattle.meaning.specs.Columns.{rowOf, rowsOf};
+ghost use mathlib.Core.List.{List};
+ghost use Prim.Native.Nat.{ℕ, _+_, _*_, _/_, _≤_};
+ghost use lib.IntN.{ℤ};
+ghost use lib.ListN.{length};
+ghost use Rattle.meaning.specs.Bytes.{bounds, part, value, countLf};
+ghost use Rattle.meaning.specs.Columns.{rowsOf};
 ghost use Rattle.meaning.specs.Tables.{Feed, refer, filled};
-ghost use Rattle.rows.specs.Cells.{putAt};
-ghost use Rattle.tables.specs.Fill.{Lists, Room, Heading};
-use crate::values;
+ghost use Rattle.rows.specs.Cells.{natAt};
+ghost use Rattle.tables.specs.Fill.{Lists, Room};
+ghost use Rattle.tables.specs.Walk.{walked};
+use meaning::Bounds;
 use rows::StopRow;
 use rows::Stops;
-use text::LineStep;
 
-// The stop that the parent_station of a line names.
-fn parent_of(s: &[u8], t: &[i32], count: usize, l: &[u8], known: [usize; 10]) -> StopRow
-    ensures { λ r. ⌜ ((ps : List ℕ) (ids : List (List ℕ)) → ((k : ℕ) → getD known k 0 ≡ getD ps k 0)
-        → Lists (now (s .entry)) (now (t .entry)) 6 count ids
-        → r .0 ≡ refer (getD (rowOf ps (now (l .entry))) 5 []) ids) ⌝ }
+// The bytes at a place in a file; none where it lies outside.
+fn bytes_at(s: &[u8], p: Bounds) -> &[u8]
+    ensures { λ r. ⌜ (p .start ≤ p .end → p .end ≤ length (now (s .entry)) → now r ≡ part (now (s .entry)) p) ⌝ }
+{
+    let a = p.start;
+    let e = p.end;
+    if e < a {
+        return &s[0..0];
+    }
+    if s.len() < e {
+        return &s[0..0];
+    }
+    &s[a..e]
+}
+
+// The stop that the field waiting in a stop's record names.
+fn waiting_parent(s: &[u8], t: &[i32], count: usize, row: StopRow) -> StopRow
+    ensures { λ r. ⌜ ((ids : List (List ℕ)) (a e : ℕ) → Lists (now (s .entry)) (now (t .entry)) 6 count ids
+        → natAt (now (t .entry)) (row .0 * 6 + 5) ≡ a → natAt (now (t .entry)) (row .0 * 6 + 4) / 4 ≡ e
+        → a ≤ e → e ≤ length (now (s .entry))
+        → r .0 ≡ refer (value (part (now (s .entry)) (bounds a e))) ids) ⌝ }
     ensures { λ r. ⌜ r .0 ≤ count ⌝ }
 {
-    let q = columns::locate(l, known);
-    resolve::find_stop(s, t, count, values::raw(l, q, 5))
+    let p = Stops::waiting_at(t, row);
+    resolve::find_stop(s, t, count, bytes_at(s, p))
 }
 
-// A stop's parent, stored.
-fn put_parent(t: &mut [i32], row: StopRow, parent: StopRow)
-    requires { ⌜ (row .0 * 6 + 6 ≤ length (now t)) × (parent .0 ≤ 16777216) ⌝ }
-    ensures { λ _. ⌜ now (t .exit) ≡ putAt (now (t .entry)) (row .0 * 6 + 5) (pos (parent .0) ∷ []) ⌝ }
-{
-    let cell = [parent.0 as i32];
-    rows::cells::store(t, Stops::place(row) + 5, &cell);
-}
-
-// The parents of the lines from `at` on, the first of which has record 1.
-pub fn set_parents(s: &[u8], at: usize, known: [usize; 10], count: usize, t: &mut [i32])
-    requires { ⌜ Room 1 (now s) (now t) × Heading 1 (now s) known at ⌝ }
+// Each stop's parent where its field waited.
+pub fn set_parents(s: &[u8], count: usize, t: &mut [i32])
+    requires { ⌜ Room 1 (now s) (now t) ⌝ }
     requires { ⌜ (count ≡ countLf (now s)) × (count ≤ 16777216) ⌝ }
-    ensures { λ _. ⌜ ((w w₀ : Feed) (lent : List ℤ) → w .stops ≡ rowsOf 1 (now (s .entry))
-        → now (t .entry) ≡ filled 1 w₀ (now (s .entry)) lent
+    ensures { λ _. ⌜ ((w : Feed) (lent : List ℤ) → w .stops ≡ rowsOf 1 (now (s .entry))
+        → now (t .entry) ≡ walked 1 w (now (s .entry)) lent
         → now (t .exit) ≡ filled 1 w (now (s .entry)) lent) ⌝ }
 {
-    let mut here = at;
     let mut r = 1;
-    loop {
-        match text::next_line(s, here) {
-            LineStep::Line { start, end, next } => {
-                let parent = parent_of(s, t, count, &s[start..end], known);
-                put_parent(t, StopRow(r), parent);
-                here = next;
-                r += 1;
-            }
-            LineStep::Done => {
-                return;
-            }
-        }
+    while r < count {
+        let parent = waiting_parent(s, t, count, StopRow(r));
+        Stops::settle(t, StopRow(r), parent);
+        r += 1;
     }
 }

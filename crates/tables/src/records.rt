@@ -1,11 +1,12 @@
 // The record of one located line, written into its table.
 ghost use mathlib.Core.Path.{_≡_};
-ghost use mathlib.Core.List.{List, []};
+ghost use mathlib.Core.List.{List};
 ghost use Prim.Native.Nat.{ℕ, _+_, _*_, _<_, _≤_};
 ghost use lib.ListN.{length, getD};
 ghost use Rattle.meaning.specs.Tables.{Feed, widthOf, recordOf, routeIds, serviceIds, tripIds, stopIds};
 ghost use Rattle.rows.specs.Cells.{putAt};
 ghost use Rattle.tables.specs.Fill.{line, Lies, Located, Lists, Refers};
+ghost use Rattle.tables.specs.Walk.{waiting, written};
 use crate::values;
 use columns::Cells;
 use meaning::Bounds;
@@ -20,8 +21,8 @@ use rows::TimeRow;
 use rows::TripRow;
 use rows::Trips;
 
-// The place of an id in its file.
-fn id_place(l: &[u8], at: usize, q: Cells, k: usize) -> Bounds
+// The place in the file of the field under known column k.
+fn field_place(l: &[u8], at: usize, q: Cells, k: usize) -> Bounds
     requires { ⌜ (k < 10) × Lies (now l) at (q .start) (q .end) ⌝ }
     ensures { λ r. ⌜ (r .start ≡ at + getD (q .start) k 0) × (r .end ≡ at + getD (q .end) k 0) ⌝ }
     ensures { λ r. ⌜ (r .start ≤ 16777216) × (r .end ≤ 16777216) ⌝ }
@@ -36,18 +37,18 @@ fn id_place(l: &[u8], at: usize, q: Cells, k: usize) -> Bounds
     }
 }
 
-// A stop, with no parent yet.
+// A stop, whose parent waits.
 pub fn put_stop(l: &[u8], at: usize, q: Cells, t: &mut [i32], row: StopRow)
     requires { ⌜ Lies (now l) at (q .start) (q .end) × (row .0 * 6 + 6 ≤ length (now t)) ⌝ }
-    ensures { λ _. ⌜ ((w : Feed) (ps : List ℕ) → Located (now (l .entry)) ps (q .start) (q .end)
-        → w .stops ≡ []
-        → now (t .exit) ≡ putAt (now (t .entry)) (row .0 * 6) (recordOf 1 w ps (line at (now (l .entry))))) ⌝ }
+    ensures { λ _. ⌜ ((ps : List ℕ) → Located (now (l .entry)) ps (q .start) (q .end)
+        → now (t .exit) ≡ putAt (now (t .entry)) (row .0 * 6) (waiting ps (line at (now (l .entry))))) ⌝ }
 {
-    let id = id_place(l, at, q, 0);
+    let id = field_place(l, at, q, 0);
     let latitude = values::latitude(l, q, 2);
     let longitude = values::longitude(l, q, 3);
     let kind = values::choice_or_zero(l, q, 4, 2);
-    Stops::put(t, row, id, latitude, longitude, kind, StopRow(0));
+    let parent = field_place(l, at, q, 5);
+    Stops::put(t, row, id, latitude, longitude, kind, parent);
 }
 
 // A route.
@@ -56,7 +57,7 @@ pub fn put_route(l: &[u8], at: usize, q: Cells, t: &mut [i32], row: RouteRow)
     ensures { λ _. ⌜ ((w : Feed) (ps : List ℕ) → Located (now (l .entry)) ps (q .start) (q .end)
         → now (t .exit) ≡ putAt (now (t .entry)) (row .0 * 3) (recordOf 2 w ps (line at (now (l .entry))))) ⌝ }
 {
-    let id = id_place(l, at, q, 0);
+    let id = field_place(l, at, q, 0);
     let kind = values::route_type(l, q, 1);
     Routes::put(t, row, id, kind);
 }
@@ -67,7 +68,7 @@ pub fn put_service(l: &[u8], at: usize, q: Cells, t: &mut [i32], row: ServiceRow
     ensures { λ _. ⌜ ((w : Feed) (ps : List ℕ) → Located (now (l .entry)) ps (q .start) (q .end)
         → now (t .exit) ≡ putAt (now (t .entry)) (row .0 * 5) (recordOf 3 w ps (line at (now (l .entry))))) ⌝ }
 {
-    let id = id_place(l, at, q, 0);
+    let id = field_place(l, at, q, 0);
     let days = values::packed_days(l, q);
     let start = values::date(l, q, 8);
     let end = values::date(l, q, 9);
@@ -96,7 +97,7 @@ pub fn put_trip(
 {
     let route = resolve::find_route(a, a_table, a_count, values::raw(l, q, 0));
     let service = resolve::find_service(b, b_table, b_count, values::raw(l, q, 1));
-    let id = id_place(l, at, q, 2);
+    let id = field_place(l, at, q, 2);
     let direction = values::choice_or_minus(l, q, 3, 1);
     let wheelchair = values::choice_or_zero(l, q, 4, 2);
     let bikes = values::choice_or_zero(l, q, 5, 2);
@@ -145,7 +146,7 @@ pub fn put_time(
     );
 }
 
-// The record of a line of file f, with known columns in the columns `places`; a and b are the files that it refers to.
+// What the walk writes for a line of file f, with known columns in the columns `places`; a and b are the files that it refers to.
 pub fn put_record(
     f: usize,
     l: &[u8],
@@ -165,7 +166,7 @@ pub fn put_record(
     requires { ⌜ («a_count» ≤ 16777216) × («b_count» ≤ 16777216) ⌝ }
     ensures { λ _. ⌜ ((w : Feed) (ps : List ℕ) → ((k : ℕ) → getD places k 0 ≡ getD ps k 0)
         → Refers f w (now (a .entry)) (now («a_table» .entry)) «a_count» (now (b .entry)) (now («b_table» .entry)) «b_count»
-        → now (t .exit) ≡ putAt (now (t .entry)) (r * widthOf f) (recordOf f w ps (line at (now (l .entry))))) ⌝ }
+        → now (t .exit) ≡ putAt (now (t .entry)) (r * widthOf f) (written f w ps (line at (now (l .entry))))) ⌝ }
 {
     let q = columns::locate(l, places);
     if f == Stops::FILE {

@@ -114,7 +114,7 @@ pub fn mark(l: &[u8], q: Cells, k: usize) -> u32
 // A choice, 0 to m; empty means 0.
 pub fn choice_or_zero(l: &[u8], q: Cells, k: usize, m: u8) -> u32
     requires { ⌜ (k < 10) × Within (length (now l)) (q .start) (q .end) ⌝ }
-    ensures { λ r. ⌜ (pos r ≡ orZero m (valueIn (now (l .entry)) (q .start) (q .end) k)) × (r < 2 ^ 31) ⌝ }
+    ensures { λ r. ⌜ (pos r ≡ orZero m (valueIn (now (l .entry)) (q .start) (q .end) k)) × (r ≤ m) ⌝ }
 {
     let v = raw(l, q, k);
     if text::is_empty_value(v) {

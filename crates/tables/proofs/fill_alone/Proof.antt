@@ -17,7 +17,9 @@ same-length : tie.Need-same-length
 same-length c = search needs
 
 returns : tie.Need-returns
-returns c = λ w e. c .before .fill .ensures w (refers-none _ w _ _ _ _ _ _ (c .before .before .before .before .before .before .pre .1 .0) e)
+returns c =
+    let s = c .before .before .before .before .before .before .pre in
+    (λ w. c .before .fill .ensures .0 w (refers-none _ w _ _ _ _ _ _ (s .1 .0)), c .before .fill .ensures .1)
 
 pub fill-alone-spec : {M : Type 1} → statement M
 fill-alone-spec =

@@ -1,10 +1,13 @@
 -- `tables::fill_lines` meets its contract.
 use Rattle.meaning.specs.Lists.{flat, laid}
-use Rattle.meaning.specs.Bytes.{part, linesFrom, linesOf}
-use Rattle.meaning.specs.Tables.{Feed, widthOf, recordsOf}
+use Rattle.meaning.specs.Bytes.{part, countLf, linesFrom, linesOf}
+use Rattle.meaning.specs.Columns.{places, headerOf}
+use Rattle.meaning.specs.Tables.{Feed, widthOf}
 use Rattle.text.proofs.Lines.{line-found, line-none}
 use Rattle.tables.specs.Fill.{Refers}
-use Rattle.tables.proofs.Turns.{two-wide, walk-room, walk-count, walk-size, walk-on, walk-turn, walk-end}
+use Rattle.tables.specs.Walk.{written, walkedOf}
+use Rattle.tables.proofs.Turns.{two-wide, walk-inside, walk-room, walk-count, walk-size, walk-on, walk-turn, walk-past, walk-end}
+use Rattle.tables.proofs.Written.{written-wide}
 use lib.IntN.{ℤ}
 use mathlib.Core.Path.{_≡_, refl, sym, _∙_}
 use mathlib.Core.List.{List}
@@ -16,13 +19,13 @@ use Rattle.tables.proofs.fill_lines.Statement.{statement}
 use Rattle.tables.proofs.fill_lines.Tie as tie
 
 abbrev Inv-loop : tie.InvT-loop
-Inv-loop f s at known t₀ a a-table a-count b b-table b-count here₀ r₀ t here r = (1 ≤ r) × ((linesFrom s here ≡ drop r (linesOf s)) × ((length t ≡ length t₀) × ((w : Feed) (lent : List ℤ) → Refers f w a a-table a-count b b-table b-count → t₀ ≡ laid (flat (take 1 (recordsOf f w s))) lent → t ≡ laid (flat (take r (recordsOf f w s))) lent)))
+Inv-loop f s at known t₀ a a-table a-count b b-table b-count here₀ r₀ t here r = ((1 ≤ r) × (r ≤ countLf s)) × ((linesFrom s here ≡ drop r (linesOf s)) × ((length t ≡ length t₀) × ((w : Feed) (lent : List ℤ) → Refers f w a a-table a-count b b-table b-count → t₀ ≡ laid (flat (take 1 (walkedOf f w s))) lent → t ≡ laid (flat (take r (walkedOf f w s))) lent)))
 
 abbrev μ-loop : tie.MeasureT-loop
 μ-loop f s at known t₀ a a-table a-count b b-table b-count here₀ r₀ t here r = length s - here
 
 loop-holds : tie.Need-loop-holds Inv-loop μ-loop
-loop-holds c = (omega arith, (c .before .before .before .pre .1 .0 .after, (refl, λ w lent refs e. e)))
+loop-holds c = ((omega arith, c .before .before .before .pre .0 .1 .1 .lines), (c .before .before .before .pre .1 .0 .after, (refl, λ w lent refs e. e)))
 
 next-line-requires : tie.Need-next-line-requires Inv-loop μ-loop
 next-line-requires c κs = search needs
@@ -67,12 +70,14 @@ loop-again c =
     let s = c .before .before .before .before .before .before .before .before .before .before .before .before in
     let l = c .before .before .before .before .before .before .before .before .loop in
     let h = line-found _ _ _ _ _ (sym (c .before .before .before .before .before .before .before .next-line .ensures) ∙ c .before .before .before .before .before .start .given .1) in (
-      omega arith,
+      (omega arith, omega (arith, walk-inside (s .args .s .now) (l .here) (l .r) (l .inv .1 .0) _ _ _ h)),
       (
         walk-on (s .args .s .now) (l .here) (l .r) (l .inv .1 .0) _ _ _ h,
         (
           omega arith,
-          λ w lent refs e. walk-turn (s .args .s .now) (l .here) (l .r) (l .inv .1 .0) _ _ _ h (s .args .f) (s .pre .0 .0) (s .pre .0 .1 .0) w _ _ lent (l .inv .0) (l .inv .1 .1 .1 w lent refs e) (c .before .put-record .ensures w _ (s .pre .1 .0 .columns) refs),
+          λ w lent refs e.
+              let g = written (s .args .f) w (places (s .args .f) (headerOf (linesOf (s .args .s .now)))) in
+              walk-turn (s .args .s .now) (l .here) (l .r) (l .inv .1 .0) _ _ _ h (s .args .f) g (written-wide (s .args .f) (s .pre .0 .0) (s .pre .0 .1 .0) w _) _ _ lent (l .inv .0 .0) (l .inv .1 .1 .1 w lent refs e) (c .before .put-record .ensures w _ (s .pre .1 .0 .columns) refs),
         ),
       ),
     )
@@ -87,7 +92,12 @@ returns : tie.Need-returns Inv-loop μ-loop
 returns c =
     let s = c .before .before .before .before .before .before .before in
     let l = c .before .before .before .loop in
-    λ w lent refs e. walk-end (s .args .s .now) (l .here) (l .r) (l .inv .1 .0) (s .args .f) (s .pre .0 .0) (s .pre .0 .1 .0) w _ lent (s .pre .0 .1 .1 .lines) (line-none _ _ (sym (c .before .before .next-line .ensures) ∙ c .enum-told .given .1)) (l .inv .1 .1 .1 w lent refs e)
+    let none = line-none _ _ (sym (c .before .before .next-line .ensures) ∙ c .enum-told .given .1) in (
+      (λ w lent refs e.
+          let g = written (s .args .f) w (places (s .args .f) (headerOf (linesOf (s .args .s .now)))) in
+          walk-end (s .args .s .now) (l .here) (l .r) (l .inv .1 .0) (s .args .f) g (written-wide (s .args .f) (s .pre .0 .0) (s .pre .0 .1 .0) w _) _ lent (s .pre .0 .1 .1 .lines) none (l .inv .1 .1 .1 w lent refs e)),
+      omega (arith, walk-past (s .args .s .now) (l .here) (l .r) (l .inv .1 .0) none, l .inv .0 .1),
+    )
 
 pub fill-lines-spec : {M : Type 1} → statement M
 fill-lines-spec =

@@ -1,6 +1,4 @@
 -- `tables::fill_stops` meets its contract.
-use Rattle.tables.proofs.Feeds.{noStops}
-use mathlib.Core.Path.{refl}
 use native.Mathlib.Omega.{arith}
 use borrow.Author.Needs.{needs}
 use Rattle.tables.proofs.fill_stops.Statement.{statement}
@@ -9,30 +7,18 @@ use Rattle.tables.proofs.fill_stops.Tie as tie
 fill-alone-requires : tie.Need-fill-alone-requires
 fill-alone-requires c κs = search needs
 
-read-header-requires : tie.Need-read-header-requires
-read-header-requires c κs = search needs
-
-count-lf-requires : tie.Need-count-lf-requires
-count-lf-requires c κs = search needs
-
 set-parents-requires : tie.Need-set-parents-requires
 set-parents-requires c κs =
-    let s = c .before .before .before .before .before .before .before .before .pre in
-    ((record { lines = s .lines; size = s .size; room = omega (arith, s .room) }, c .before .before .before .read-header .ensures), (c .before .count-lf .ensures .0, omega (arith, c .before .count-lf .ensures .1, s .size)))
+    let s = c .before .before .before .before .before .pre in
+    (record { lines = s .lines; size = s .size; room = omega (arith, s .room) }, c .before .before .fill-alone .ensures .1)
 
 same-length : tie.Need-same-length
 same-length c = search needs
 
 returns : tie.Need-returns
-returns c = λ w e. c .before .set-parents .ensures w noStops _ e (c .before .before .before .before .before .before .before .fill-alone .ensures noStops (λ _. refl))
+returns c =
+    let f = c .before .before .before .before .fill-alone .ensures in
+    (λ w e. c .before .set-parents .ensures w _ e (f .0 w), f .1)
 
 pub fill-stops-spec : {M : Type 1} → statement M
-fill-stops-spec =
-    tie.close
-    (tie.spec
-    fill-alone-requires
-    read-header-requires
-    count-lf-requires
-    set-parents-requires
-    same-length
-    returns)
+fill-stops-spec = tie.close (tie.spec fill-alone-requires set-parents-requires same-length returns)

@@ -1,7 +1,8 @@
 -- `tables::records::put_record` meets its contract.
 use Rattle.meaning.specs.Tables.{widths, widthOf}
 use Rattle.tables.proofs.LineRecords.{located, lies}
-use Rattle.tables.proofs.Readings.{file-room, file-put, fifth}
+use Rattle.tables.proofs.Readings.{file-room, file-put, stop-put, fifth}
+use native.Mathlib.Omega.{arith}
 use borrow.Author.Needs.{needs}
 use Rattle.tables.proofs.records.put_record.Statement.{statement}
 use Rattle.tables.proofs.records.put_record.Tie as tie
@@ -25,7 +26,7 @@ returns c =
     let s = c .before .before .before .before .before .before .before .before in
     let x = c .before .before .before .before .locate in
     let k = c .before .before .before .if1 .taken in
-    λ w ps e refs. file-put _ 1 _ _ _ _ _ _ k (c .before .put-stop .ensures w ps (located (s .args .l .now) (s .args .places) _ _ (x .ensures .0) (x .ensures .1) ps e) (refs .parents k))
+    λ w ps e refs. stop-put _ _ w _ _ _ _ k (c .before .put-stop .ensures ps (located (s .args .l .now) (s .args .places) _ _ (x .ensures .0) (x .ensures .1) ps e))
 
 put-route-requires : tie.Need-put-route-requires
 unfolding widthOf widths
@@ -43,7 +44,7 @@ returns-2 c =
     let s = c .before .before .before .before .before .before .before .before .before in
     let x = c .before .before .before .before .before .locate in
     let k = c .before .before .before .if2 .taken in
-    λ w ps e refs. file-put _ 2 _ _ _ _ _ _ k (c .before .put-route .ensures w ps (located (s .args .l .now) (s .args .places) _ _ (x .ensures .0) (x .ensures .1) ps e))
+    λ w ps e refs. file-put _ 2 _ _ _ _ _ _ k (omega arith) (c .before .put-route .ensures w ps (located (s .args .l .now) (s .args .places) _ _ (x .ensures .0) (x .ensures .1) ps e))
 
 put-service-requires : tie.Need-put-service-requires
 unfolding widthOf widths
@@ -61,7 +62,7 @@ returns-3 c =
     let s = c .before .before .before .before .before .before .before .before .before .before in
     let x = c .before .before .before .before .before .before .locate in
     let k = c .before .before .before .if3 .taken in
-    λ w ps e refs. file-put _ 3 _ _ _ _ _ _ k (c .before .put-service .ensures w ps (located (s .args .l .now) (s .args .places) _ _ (x .ensures .0) (x .ensures .1) ps e))
+    λ w ps e refs. file-put _ 3 _ _ _ _ _ _ k (omega arith) (c .before .put-service .ensures w ps (located (s .args .l .now) (s .args .places) _ _ (x .ensures .0) (x .ensures .1) ps e))
 
 put-trip-requires : tie.Need-put-trip-requires
 unfolding widthOf widths
@@ -79,7 +80,7 @@ returns-4 c =
     let s = c .before .before .before .before .before .before .before .before .before .before .before in
     let x = c .before .before .before .before .before .before .before .locate in
     let k = c .before .before .before .if4 .taken in
-    λ w ps e refs. file-put _ 4 _ _ _ _ _ _ k (c .before .put-trip .ensures w ps (located (s .args .l .now) (s .args .places) _ _ (x .ensures .0) (x .ensures .1) ps e) (refs .routes k) (refs .services k))
+    λ w ps e refs. file-put _ 4 _ _ _ _ _ _ k (omega arith) (c .before .put-trip .ensures w ps (located (s .args .l .now) (s .args .places) _ _ (x .ensures .0) (x .ensures .1) ps e) (refs .routes k) (refs .services k))
 
 put-time-requires : tie.Need-put-time-requires
 unfolding widthOf widths
@@ -97,7 +98,7 @@ returns-5 c =
     let s = c .before .before .before .before .before .before .before .before .before .before .before in
     let x = c .before .before .before .before .before .before .before .locate in
     let k = fifth _ (s .pre .0 .0) (s .pre .0 .1 .0) (c .before .before .before .before .before .before .if1 .left) (c .before .before .before .before .before .if2 .left) (c .before .before .before .before .if3 .left) (c .before .before .before .if4 .left) in
-    λ w ps e refs. file-put _ 5 _ _ _ _ _ _ k (c .before .put-time .ensures w ps (located (s .args .l .now) (s .args .places) _ _ (x .ensures .0) (x .ensures .1) ps e) (refs .trips k) (refs .stops k))
+    λ w ps e refs. file-put _ 5 _ _ _ _ _ _ k (omega arith) (c .before .put-time .ensures w ps (located (s .args .l .now) (s .args .places) _ _ (x .ensures .0) (x .ensures .1) ps e) (refs .trips k) (refs .stops k))
 
 pub put-record-spec : {M : Type 1} → statement M
 put-record-spec =

@@ -1,12 +1,12 @@
 -- `tables::records::put_route` meets its contract.
 use Rattle.tables.proofs.LineRecords.{route-record}
-use Rattle.tables.proofs.Readings.{written}
+use Rattle.tables.proofs.Readings.{put-as}
 use borrow.Author.Needs.{needs}
 use Rattle.tables.proofs.records.put_route.Statement.{statement}
 use Rattle.tables.proofs.records.put_route.Tie as tie
 
-id-place-requires : tie.Need-id-place-requires
-id-place-requires c κs = search needs
+field-place-requires : tie.Need-field-place-requires
+field-place-requires c κs = search needs
 
 route-type-requires : tie.Need-route-type-requires
 route-type-requires c κs = search needs
@@ -20,10 +20,10 @@ same-length c = search needs
 returns : tie.Need-returns
 returns c =
     let s = c .before .before .before .before .before .before .args in
-    let i = c .before .before .before .before .id-place .ensures .0 in
-    λ w ps loc. written _ _ _ _ _ (c .before .put .ensures)
-    (route-record w ps (s .l .now) _ (s .q .start) (s .q .end) loc _ _ _ (i .0) (i .1) (c .before .before .before .route-type .ensures .0))
+    let i = c .before .before .before .before .field-place .ensures .0 in
+    λ w ps loc. put-as _ _ _ _ _ (c .before .put .ensures)
+    (route-record ps (s .l .now) _ (s .q .start) (s .q .end) loc w _ _ _ (i .0) (i .1) (c .before .before .before .route-type .ensures .0))
 
 pub put-route-spec : {M : Type 1} → statement M
 put-route-spec =
-    tie.close (tie.spec id-place-requires route-type-requires put-requires same-length returns)
+    tie.close (tie.spec field-place-requires route-type-requires put-requires same-length returns)

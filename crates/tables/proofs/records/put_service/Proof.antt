@@ -1,12 +1,12 @@
 -- `tables::records::put_service` meets its contract.
 use Rattle.tables.proofs.LineRecords.{service-record}
-use Rattle.tables.proofs.Readings.{written}
+use Rattle.tables.proofs.Readings.{put-as}
 use borrow.Author.Needs.{needs}
 use Rattle.tables.proofs.records.put_service.Statement.{statement}
 use Rattle.tables.proofs.records.put_service.Tie as tie
 
-id-place-requires : tie.Need-id-place-requires
-id-place-requires c κs = search needs
+field-place-requires : tie.Need-field-place-requires
+field-place-requires c κs = search needs
 
 packed-days-requires : tie.Need-packed-days-requires
 packed-days-requires c κs = search needs
@@ -26,15 +26,15 @@ same-length c = search needs
 returns : tie.Need-returns
 returns c =
     let s = c .before .before .before .before .before .before .before .before .args in
-    let i = c .before .before .before .before .before .before .id-place .ensures .0 in
-    λ w ps loc. written _ _ _ _ _ (c .before .put .ensures)
-    (service-record w ps (s .l .now) _ (s .q .start) (s .q .end) loc _ _ _ _ _ (i .0) (i .1) (c .before .before .before .before .before .packed-days .ensures .0 ps loc) (c .before .before .before .before .date .ensures .0) (c .before .before .before .date2 .ensures .0))
+    let i = c .before .before .before .before .before .before .field-place .ensures .0 in
+    λ w ps loc. put-as _ _ _ _ _ (c .before .put .ensures)
+    (service-record ps (s .l .now) _ (s .q .start) (s .q .end) loc w _ _ _ _ _ (i .0) (i .1) (c .before .before .before .before .before .packed-days .ensures .0 ps loc) (c .before .before .before .before .date .ensures .0) (c .before .before .before .date2 .ensures .0))
 
 pub put-service-spec : {M : Type 1} → statement M
 put-service-spec =
     tie.close
     (tie.spec
-    id-place-requires
+    field-place-requires
     packed-days-requires
     date-requires
     date-requires-2

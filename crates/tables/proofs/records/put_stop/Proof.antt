@@ -1,13 +1,13 @@
 -- `tables::records::put_stop` meets its contract.
-use Rattle.tables.proofs.LineRecords.{stop-record}
-use Rattle.tables.proofs.Readings.{written}
+use Rattle.tables.proofs.LineRecords.{waiting-record}
+use Rattle.tables.proofs.Readings.{put-as}
 use Rattle.num.proofs.Laws.{kept-is}
 use borrow.Author.Needs.{needs}
 use Rattle.tables.proofs.records.put_stop.Statement.{statement}
 use Rattle.tables.proofs.records.put_stop.Tie as tie
 
-id-place-requires : tie.Need-id-place-requires
-id-place-requires c κs = search needs
+field-place-requires : tie.Need-field-place-requires
+field-place-requires c κs = search needs
 
 latitude-requires : tie.Need-latitude-requires
 latitude-requires c κs = search needs
@@ -18,6 +18,9 @@ longitude-requires c κs = search needs
 choice-or-zero-requires : tie.Need-choice-or-zero-requires
 choice-or-zero-requires c κs = search needs
 
+field-place-requires-2 : tie.Need-field-place-requires-2
+field-place-requires-2 c κs = search needs
+
 put-requires : tie.Need-put-requires
 put-requires c κs = search needs
 
@@ -26,21 +29,25 @@ same-length c = search needs
 
 returns : tie.Need-returns
 returns c =
-    let s = c .before .before .before .before .before .before .before .before .args in
-    let i = c .before .before .before .before .before .before .id-place .ensures .0 in
-    let x = c .before .before .before .before .before .latitude in
-    let y = c .before .before .before .before .longitude in
-    λ w ps loc none. written _ _ _ _ _ (c .before .put .ensures)
-    (stop-record w ps (s .l .now) _ (s .q .start) (s .q .end) loc _ _ _ _ _ none (i .0) (i .1) (kept-is _ _ (x .ok) (x .ensures)) (kept-is _ _ (y .ok) (y .ensures)) (c .before .before .before .choice-or-zero .ensures .0))
+    let p = c .before .before .before in
+    let y = p .before .before in
+    let x = y .before in
+    let i = x .before in
+    let s = i .before .before .args in
+    let from = i .field-place .ensures .0 in
+    let to = p .field-place2 .ensures .0 in
+    λ ps loc. put-as _ _ _ _ _ (c .before .put .ensures)
+    (waiting-record ps (s .l .now) _ (s .q .start) (s .q .end) loc _ _ _ _ _ _ _ (from .0) (from .1) (kept-is _ _ (x .latitude .ok) (x .latitude .ensures)) (kept-is _ _ (y .longitude .ok) (y .longitude .ensures)) (p .before .choice-or-zero .ensures .0) (to .0) (to .1))
 
 pub put-stop-spec : {M : Type 1} → statement M
 put-stop-spec =
     tie.close
     (tie.spec
-    id-place-requires
+    field-place-requires
     latitude-requires
     longitude-requires
     choice-or-zero-requires
+    field-place-requires-2
     put-requires
     same-length
     returns)

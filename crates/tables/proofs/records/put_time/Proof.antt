@@ -1,6 +1,6 @@
 -- `tables::records::put_time` meets its contract.
 use Rattle.tables.proofs.LineRecords.{time-record}
-use Rattle.tables.proofs.Readings.{written, referred}
+use Rattle.tables.proofs.Readings.{put-as, referred}
 use Rattle.num.proofs.Laws.{kept-is}
 use native.Mathlib.Omega.{arith}
 use borrow.Author.Needs.{needs}
@@ -53,8 +53,8 @@ returns c =
     let x = c .before .before .before .before .before .before .before .clock in
     let y = c .before .before .before .before .before .before .clock2 in
     let z = c .before .before .before .choice-or-minus in
-    λ w ps loc trips stops. written _ _ _ _ _ (c .before .put .ensures)
-    (time-record w ps (s .l .now) _ (s .q .start) (s .q .end) loc _ _ _ _ _ _ _ _
+    λ w ps loc trips stops. put-as _ _ _ _ _ (c .before .put .ensures)
+    (time-record ps (s .l .now) _ (s .q .start) (s .q .end) loc w _ _ _ _ _ _ _ _
     (referred _ _ _ _ _ _ _ _ trips (c .before .before .before .before .before .before .before .before .before .before .before .find-trip .ensures .0) (c .before .before .before .before .before .before .before .before .before .before .before .before .raw .ensures))
     (referred _ _ _ _ _ _ _ _ stops (c .before .before .before .before .before .before .before .before .before .find-stop .ensures .0) (c .before .before .before .before .before .before .before .before .before .before .raw2 .ensures))
     (c .before .before .before .before .before .before .before .before .sequence .ensures .0) (kept-is _ _ (x .ok) (x .ensures)) (kept-is _ _ (y .ok) (y .ensures))

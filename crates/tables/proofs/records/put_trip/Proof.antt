@@ -1,6 +1,6 @@
 -- `tables::records::put_trip` meets its contract.
 use Rattle.tables.proofs.LineRecords.{trip-record}
-use Rattle.tables.proofs.Readings.{written, referred}
+use Rattle.tables.proofs.Readings.{put-as, referred}
 use Rattle.num.proofs.Laws.{kept-is}
 use native.Mathlib.Omega.{arith}
 use borrow.Author.Needs.{needs}
@@ -19,8 +19,8 @@ raw-requires-2 c κs = search needs
 find-service-requires : tie.Need-find-service-requires
 find-service-requires c κs = search needs
 
-id-place-requires : tie.Need-id-place-requires
-id-place-requires c κs = search needs
+field-place-requires : tie.Need-field-place-requires
+field-place-requires c κs = search needs
 
 choice-or-minus-requires : tie.Need-choice-or-minus-requires
 choice-or-minus-requires c κs = search needs
@@ -46,10 +46,10 @@ same-length c = search needs
 returns : tie.Need-returns
 returns c =
     let s = c .before .before .before .before .before .before .before .before .before .before .before .before .before .before .args in
-    let i = c .before .before .before .before .before .before .id-place .ensures .0 in
+    let i = c .before .before .before .before .before .before .field-place .ensures .0 in
     let d = c .before .before .before .before .before .choice-or-minus in
-    λ w ps loc routes services. written _ _ _ _ _ (c .before .put .ensures)
-    (trip-record w ps (s .l .now) _ (s .q .start) (s .q .end) loc _ _ _ _ _ _ _ (i .0) (i .1)
+    λ w ps loc routes services. put-as _ _ _ _ _ (c .before .put .ensures)
+    (trip-record ps (s .l .now) _ (s .q .start) (s .q .end) loc w _ _ _ _ _ _ _ (i .0) (i .1)
     (referred _ _ _ _ _ _ _ _ routes (c .before .before .before .before .before .before .before .before .before .find-route .ensures .0) (c .before .before .before .before .before .before .before .before .before .before .raw .ensures))
     (referred _ _ _ _ _ _ _ _ services (c .before .before .before .before .before .before .before .find-service .ensures .0) (c .before .before .before .before .before .before .before .before .raw2 .ensures))
     (kept-is _ _ (d .ok) (d .ensures)) (c .before .before .before .before .choice-or-zero .ensures .0) (c .before .before .before .choice-or-zero2 .ensures .0))
@@ -62,7 +62,7 @@ put-trip-spec =
     find-route-requires
     raw-requires-2
     find-service-requires
-    id-place-requires
+    field-place-requires
     choice-or-minus-requires
     choice-or-zero-requires
     choice-or-zero-requires-2

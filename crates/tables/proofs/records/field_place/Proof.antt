@@ -1,9 +1,9 @@
--- `tables::records::id_place` meets its contract.
+-- `tables::records::field_place` meets its contract.
 use mathlib.Core.Path.{refl}
 use native.Mathlib.Omega.{arith}
 use borrow.Author.Needs.{needs}
-use Rattle.tables.proofs.records.id_place.Statement.{statement}
-use Rattle.tables.proofs.records.id_place.Tie as tie
+use Rattle.tables.proofs.records.field_place.Statement.{statement}
+use Rattle.tables.proofs.records.field_place.Tie as tie
 
 mul-a : tie.Need-mul-a
 mul-a c = search needs
@@ -29,5 +29,5 @@ returns c =
     let h = s .pre .1 .0 (s .args .k) in
     ((refl, refl), (omega arith, omega arith))
 
-pub id-place-spec : {M : Type 1} → statement M
-id-place-spec = tie.close (tie.spec mul-a array-read-a mul-e array-read-e add-t9 add-t12 returns)
+pub field-place-spec : {M : Type 1} → statement M
+field-place-spec = tie.close (tie.spec mul-a array-read-a mul-e array-read-e add-t9 add-t12 returns)
