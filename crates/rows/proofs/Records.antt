@@ -4,14 +4,12 @@ use mathlib.Core.List.{List, [], _∷_, _++_, append-assoc, append-nil, map}
 use Prim.Native.Nat.{ℕ, zero, suc, _+_, _*_, _≤_, _<_}
 use native.Mathlib.Numerals.{add-one}
 use native.Mathlib.Omega.{arith}
-use lib.IntN.{ℤ, pos}
-use lib.ListN.{length, take, drop, getD, length-append, length-drop, length-replicate, List·getD-append}
+use lib.IntN.{ℤ}
+use lib.ListN.{length, take, drop, getD, length-append, length-drop, List·getD-append}
 use lib.Seq.{take-suc, take-at, drop-append-add, drop-drop, getD-append-add, length-take-le}
 use Rattle.meaning.specs.Lists.{flat, laid}
-use Rattle.meaning.specs.Bytes.{Line, linesOf}
-use Rattle.meaning.specs.Columns.{places, headerOf}
-use Rattle.meaning.specs.Tables.{Feed, widths, widthOf, idPlace, numbersOf, stopNumbers, routeNumbers, serviceNumbers, tripNumbers, timeNumbers, recordOf, recordsOf}
-use Rattle.meaning.proofs.Readable.{getD-map-in}
+use Rattle.meaning.specs.Bytes.{Line}
+use Rattle.meaning.specs.Tables.{Feed, widths, widthOf, idPlace, numbersOf, stopNumbers, routeNumbers, serviceNumbers, tripNumbers, timeNumbers, recordOf}
 use Rattle.rows.specs.Cells.{putAt}
 
 -- every record has width w
@@ -72,11 +70,6 @@ module _ {A : Type 0} where
   unfolding laid
   laid-length xs t h = simp (length-append, length-drop) (omega arith)
 
-  -- nothing laid
-  pub laid-none : (t : List A) → laid [] t ≡ t
-  unfolding laid
-  laid-none t = refl
-
 -- more written where what was laid ends
 pub laid-more :
     (xs vs t : List ℤ) (at : ℕ) → length xs ≡ at → putAt (laid xs t) at vs ≡ laid (xs ++ vs) t
@@ -107,13 +100,6 @@ module _ (w : ℕ) (rs : List (List ℤ)) (wide : Wide w rs) where
 
 -- ---- the records of a file
 
--- the record of a line stands after record 0 and those of the lines before it
-pub record-of-line :
-    {A : Type 0} (zeros : List ℤ) (f : A → List ℤ) (xs : List A) (k : ℕ) (d : A)
-    → k < length xs
-    → getD (zeros ∷ map f xs) (k + 1) [] ≡ f (getD xs k d)
-record-of-line zeros f xs k d h = rw add-one (getD-map-in f xs k d [] h)
-
 -- a record has as many numbers as its file's width says
 pub record-wide :
     (f : ℕ) (w : Feed) (ps : List ℕ) (l : Line)
@@ -128,11 +114,3 @@ record-wide (suc (suc (suc zero))) w ps l a b = refl
 record-wide (suc (suc (suc (suc zero)))) w ps l a b = refl
 record-wide (suc (suc (suc (suc (suc zero))))) w ps l a b = refl
 record-wide (suc (suc (suc (suc (suc (suc f)))))) w ps l a b = absurd (omega arith)
-
-pub records-wide :
-    (f : ℕ) (w : Feed) (s : List ℕ) → 0 < f → f < 6 → Wide (widthOf f) (recordsOf f w s)
-unfolding recordsOf
-records-wide f w s a b =
-    let ls : List Line = linesOf s in
-    let ps : List ℕ = places f (headerOf ls) in
-    (length-replicate (widthOf f) (pos 0), wide-map (widthOf f) (recordOf f w ps) (drop 1 ls) (λ l. record-wide f w ps l a b))

@@ -7,7 +7,6 @@ use native.Mathlib.Omega.{arith}
 use lib.IntN.{ℤ, pos}
 use lib.ListN.{length, getD, drop, length-append, length-drop, length-map}
 use lib.Seq.{getD-drop}
-use Rattle.meaning.specs.declared.Bounds.{Bounds}
 use Rattle.meaning.specs.Lists.{flat, laid}
 use Rattle.meaning.specs.Bytes.{Line, bounds, part, value, countLf, linesFrom, linesOf, startOf}
 use Rattle.meaning.specs.Columns.{Row, places, headerOf, fieldAt, cell, rowOf, rowsOf}

@@ -14,7 +14,7 @@ use Rattle.meaning.specs.declared.Choice.{Choice}
 use Rattle.meaning.specs.declared.Choice.the-variants.{Picked, NoChoice}
 use Rattle.meaning.specs.Lists.{empty, flat, laid}
 use Rattle.meaning.specs.Bytes.{Line, part, value, countLf, linesOf, startOf}
-use Rattle.meaning.specs.Columns.{rowOf, rowsOf, places, headerOf, cell}
+use Rattle.meaning.specs.Columns.{rowOf, rowsOf, places, headerOf}
 use Rattle.meaning.specs.Forms.{latitudeOf, longitudeOf, noMark, formed, choiceOf, digitText}
 use Rattle.meaning.specs.Tables.{Feed, under, degrees, picked, choiceOr, orZero, refer, stopIds, idPlace, idColumn, recordOf, numbersOf, stopNumbers, recordsOf, widthOf, widths, filled}
 use Rattle.forms.proofs.Laws.{choice-fits, no-choice}

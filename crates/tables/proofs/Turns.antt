@@ -12,7 +12,7 @@ use lib.ListN.{length, getD, take, drop, replicate, length-drop, length-map, len
 use lib.Seq.{getD-drop, take-all}
 use Rattle.meaning.specs.Lists.{flat, laid}
 use Rattle.meaning.specs.Bytes.{Line, bounds, part, values, startOf, countLf, linesFrom, linesOf}
-use Rattle.meaning.specs.Columns.{places, headerOf}
+use Rattle.meaning.specs.Columns.{headerOf}
 use Rattle.meaning.specs.Tables.{widths, widthOf}
 use Rattle.text.specs.Lines.{LineStands}
 use Rattle.text.proofs.Laws.{part-length}

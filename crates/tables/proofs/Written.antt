@@ -1,14 +1,11 @@
 -- What a walk writes for a line: as wide as the record, with the same id, and the record itself but for stops.
 use mathlib.Core.Path.{_≡_, refl}
 use mathlib.Core.List.{List, [], _∷_, map}
-use mathlib.Core.Bool.{false}
 use Prim.Native.Nat.{ℕ, zero, suc, _≤_}
 use native.Mathlib.Omega.{arith}
 use borrow.Author.Tests.{ne-eqb}
-use lib.Dec.{eqb}
 use lib.IntN.{ℤ, pos}
 use lib.ListN.{length, getD, drop}
-use Rattle.meaning.specs.Lists.{flat, laid}
 use Rattle.meaning.specs.Bytes.{Line, linesOf}
 use Rattle.meaning.specs.Columns.{places, headerOf}
 use Rattle.meaning.specs.Tables.{Feed, widths, widthOf, idPlace, idColumn, recordOf, recordsOf, filled}

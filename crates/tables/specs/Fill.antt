@@ -1,7 +1,7 @@
 -- One located line, and the ids that a record's references are looked up among.
 use Prim.Native.Nat.{ℕ, _+_, _*_, _≤_}
 use mathlib.Core.Path.{_≡_}
-use mathlib.Core.List.{List, []}
+use mathlib.Core.List.{List}
 use lib.IntN.{ℤ}
 use lib.ListN.{length, getD, drop}
 use Rattle.meaning.specs.declared.Bounds.{Bounds}

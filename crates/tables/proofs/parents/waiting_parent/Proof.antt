@@ -1,6 +1,5 @@
 -- `tables::parents::waiting_parent` meets its contract.
 use Rattle.tables.proofs.Readings.{waited}
-use native.Mathlib.Omega.{arith}
 use borrow.Author.Needs.{needs}
 use Rattle.tables.proofs.parents.waiting_parent.Statement.{statement}
 use Rattle.tables.proofs.parents.waiting_parent.Tie as tie
