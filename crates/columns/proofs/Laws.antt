@@ -242,9 +242,17 @@ module _ (l ps : List ℕ) (k : ℕ) where
   pub cells-inside : (getD (startsOf l ps) k 0 ≤ getD (endsOf l ps) k 0) × (getD (endsOf l ps) k 0 ≤ length l)
   cells-inside = rw (start-at, end-at) (field-inside l (getD ps k 0) .ordered, field-inside l (getD ps k 0) .within)
 
+  pub field-of : part l (bounds (getD (startsOf l ps) k 0) (getD (endsOf l ps) k 0)) ≡ part l (fieldAt l (getD ps k 0))
+  field-of = rw (start-at, end-at)
+
   pub cell-of : value (part l (bounds (getD (startsOf l ps) k 0) (getD (endsOf l ps) k 0))) ≡ cell l (getD ps k 0)
   unfolding cell
   cell-of = rw (start-at, end-at)
+
+-- the bytes of a field say its value
+pub field-value : (l r : List ℕ) (p : ℕ) → r ≡ part l (fieldAt l p) → value r ≡ cell l p
+unfolding cell
+field-value l r p e = rw e
 
 pub row-at : (ps l : List ℕ) (k : ℕ) → getD (rowOf ps l) k [] ≡ cell l (getD ps k 0)
 unfolding rowOf cell fieldAt part value marked content undouble

@@ -7,8 +7,8 @@ ghost use Prim.Native.Nat.{_<_};
 ghost use lib.Dec.{eqb};
 ghost use lib.ListN.{length, getD};
 ghost use Rattle.meaning.specs.Lists.{find};
-ghost use Rattle.meaning.specs.Bytes.{fields, value, values};
-ghost use Rattle.meaning.specs.Columns.{nameOf, columnOf, cell};
+ghost use Rattle.meaning.specs.Bytes.{part, fields, values};
+ghost use Rattle.meaning.specs.Columns.{nameOf, columnOf, fieldAt};
 ghost use Rattle.meaning.specs.Refusals.{standings, rule8};
 ghost use Rattle.columns.specs.Columns.{placesOf, lacking, noted, startsOf, endsOf};
 
@@ -186,7 +186,7 @@ pub fn locate(l: &[u8], at: [usize; 10]) -> Cells
 // The field under known column k of a line, as it stands there; nothing where the column is absent.
 pub fn field(l: &[u8], at: [usize; 10], k: usize) -> &[u8]
     requires { ⌜ k < 10 ⌝ }
-    ensures { λ r. ⌜ value (now r) ≡ cell (now (l .entry)) (getD at k 0) ⌝ }
+    ensures { λ r. ⌜ now r ≡ part (now (l .entry)) (fieldAt (now (l .entry)) (getD at k 0)) ⌝ }
 {
     let c = locate(l, at);
     let starts = c.start;

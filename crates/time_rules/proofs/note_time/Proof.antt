@@ -1,4 +1,5 @@
 -- `time_rules::note_time` meets its contract.
+use Rattle.columns.proofs.Laws.{field-value}
 use mathlib.Core.Path.{_≡_, sym, ap, _∙_}
 use Prim.Native.Nat.{_+_}
 use Rattle.meaning.specs.Bytes.{value}
@@ -47,7 +48,7 @@ returns c =
     let z = c .before .before .before .before .before .before .before .before .before .before .before .args in
     let n = c .before .note-line .ensures in (
       λ w sb x m h says.
-          let e : value (c .before .before .before .before .before .field .result .now) ≡ timeTrip (row (w .stopTimes) (z .i)) = c .before .before .before .before .before .field .ensures ∙ says 0 in
+          let e : value (c .before .before .before .before .before .field .result .now) ≡ timeTrip (row (w .stopTimes) (z .i)) = field-value _ _ _ (c .before .before .before .before .before .field .ensures) ∙ says 0 in
           let k : c .before .before .before .before .before .before .trip-at .result .0 ≡ refer (value (c .before .before .before .before .before .field .result .now)) (tripIds w) =
           c .before .before .before .before .before .before .trip-at .ensures ∙ time-trip w (z .s .now) (z .t .now) (z .i) (x .times) h ∙ ap (λ v. refer v (tripIds w)) (sym e) in
           let near = rw e at (c .before .before .before .before .near-of .ensures w sb (z .stops .now) x m k) in

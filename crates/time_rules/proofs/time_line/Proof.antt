@@ -1,4 +1,5 @@
 -- `time_rules::time_line` meets its contract.
+use Rattle.columns.proofs.Laws.{field-value}
 use mathlib.Core.Path.{_≡_, sym, ap, _∙_}
 use mathlib.Core.List.{_∷_, []}
 use Rattle.meaning.specs.Lists.{empty}
@@ -52,8 +53,8 @@ returns c w s from sb x h says n m =
     let z = c .before .before .before .before .before .before .before .before .before .before .args in
     let g = c .before .before .before .before .record-at .ensures in
     line-judged w s from (z .at) (z .t .now) sb (z .stops .now) x (z .i) h (z .l .now) says _ _ _ _ _ _ _ _ _ _ _ _ _ n m (record {
-      no-trip = c .before .before .before .before .before .before .before .is-empty-value .ensures ∙ ap empty (c .before .before .before .before .before .before .before .before .field .ensures);
-      no-stop = c .before .before .before .before .before .is-empty-value2 .ensures ∙ ap empty (c .before .before .before .before .before .before .field2 .ensures);
+      no-trip = c .before .before .before .before .before .before .before .is-empty-value .ensures ∙ ap empty (field-value _ _ _ (c .before .before .before .before .before .before .before .before .field .ensures));
+      no-stop = c .before .before .before .before .before .is-empty-value2 .ensures ∙ ap empty (field-value _ _ _ (c .before .before .before .before .before .before .field2 .ensures));
       trips = g .0;
       halts = g .1 .0;
       sequences = g .1 .1 .0;
