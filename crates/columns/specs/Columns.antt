@@ -1,7 +1,7 @@
 -- The columns of a header and the fields under them, as tables of ten.
 use Prim.Native.Nat.{ℕ, zero, suc, _+_}
 use mathlib.Core.List.{List, [], _∷_, map}
-use mathlib.Core.Bool.{Bool, true, false, cond, _&&_}
+use mathlib.Core.Bool.{Bool, cond, _&&_}
 use lib.ListN.{getD}
 use lib.Dec.{eqb}
 use Rattle.meaning.specs.Bytes.{bounds, part, value}

@@ -2,7 +2,7 @@
 use meaning::Number;
 ghost use mathlib.Core.Path.{_≡_};
 ghost use mathlib.Core.Bool.{Bool, _||_};
-ghost use Prim.Native.Nat.{ℕ, _<_, _≤_, _^_};
+ghost use Prim.Native.Nat.{ℕ, _<_, _^_};
 ghost use lib.ListN.{length};
 ghost use Rattle.meaning.specs.Forms.{isDigit, sequenceText};
 ghost use Rattle.digits.specs.Decimals.{decimalsOf};

@@ -1,7 +1,6 @@
 // The findings of files 1 to 4, line by line, handed out.
 ghost use mathlib.Core.Path.{_≡_};
-ghost use mathlib.Core.List.{_∷_, []};
-ghost use Prim.Native.Nat.{ℕ, _+_, _*_, _^_, _<_, _≤_};
+ghost use Prim.Native.Nat.{_+_, _*_, _^_, _<_, _≤_};
 ghost use lib.ListN.{length, getD, drop};
 ghost use Rattle.meaning.specs.Lists.{empty};
 ghost use Rattle.meaning.specs.Bytes.{countLf, linesFrom, linesOf};

@@ -8,10 +8,9 @@ use meaning::Time;
 ghost use mathlib.Core.Path.{_≡_};
 ghost use mathlib.Core.Bool.{Bool, _&&_};
 ghost use Prim.Native.Nat.{ℕ, _+_, _≤_, _<_};
-ghost use lib.Dec.{leb, eqb};
-ghost use lib.ListN.{length, getD, drop};
+ghost use lib.ListN.{length, drop};
 ghost use Rattle.meaning.specs.Bytes.{value};
-ghost use Rattle.meaning.specs.Forms.{timeOf, dateOf, latitudeOf, longitudeOf, sequenceOf, choiceOf, routeTypeOf, clockOf, clock, timeText, leap, daysIn, isDay, dateText, toPoint, pointed, signed, sizeText, degreesText, digitText, routeTypeText};
+ghost use Rattle.meaning.specs.Forms.{timeOf, dateOf, latitudeOf, longitudeOf, sequenceOf, choiceOf, routeTypeOf, clockOf, clock, timeText, leap, daysIn, isDay, dateText, toPoint, signed, sizeText, degreesText, digitText, routeTypeText};
 ghost use Rattle.forms.specs.Bounds.{TimeFits, DateFits, DegreesFits, NumberFits, ChoiceFits};
 ghost use Rattle.forms.specs.Parts.{pointedAt, beyond, sized, pairOf};
 

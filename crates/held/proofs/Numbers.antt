@@ -1,7 +1,7 @@
 -- Each number of a filled table, by its record.
-use Prim.Native.Nat.{ℕ, zero, suc, _+_, _*_, _-_, _≤_, _<_}
-use mathlib.Core.Path.{_≡_, refl, sym, ap, _∙_}
-use mathlib.Core.List.{List, [], _∷_, _++_, map}
+use Prim.Native.Nat.{ℕ, suc, _+_, _*_, _-_, _≤_, _<_}
+use mathlib.Core.Path.{_≡_, sym, ap, _∙_}
+use mathlib.Core.List.{List, [], map}
 use native.Mathlib.Omega.{arith}
 use native.Mathlib.Nat.{add-zero}
 use borrow.Author.Tests.{ne-eqb}
@@ -10,13 +10,13 @@ use lib.ListN.{length, getD}
 use Rattle.num.specs.Signs.{natOf}
 use Rattle.rows.specs.Cells.{natAt, timeAt, timeIn}
 use Rattle.meaning.specs.Bytes.{Line, countLf, linesOf}
-use Rattle.meaning.specs.Columns.{Row, places, headerOf, rowOf, rowsOf}
+use Rattle.meaning.specs.Columns.{Row, places, headerOf, rowOf}
 use Rattle.meaning.specs.Forms.{timeOf, dateOf, sequenceOf}
-use Rattle.meaning.specs.Tables.{Feed, widths, widthOf, recordOf, numbersOf, idPlace, stopNumbers, routeNumbers, serviceNumbers, tripNumbers, timeNumbers, under, seconds, number, day, orZero, orMinus, refer, stopIds, routeIds, serviceIds, tripIds, locationType, parentStation, startDate, endDate, tripRoute, tripService, timeTrip, timeStop, stopSequence, arrivalTime, departureTime, timepoint, idColumn}
+use Rattle.meaning.specs.Tables.{Feed, widths, widthOf, recordOf, numbersOf, idPlace, stopNumbers, serviceNumbers, tripNumbers, timeNumbers, under, seconds, number, day, orZero, orMinus, refer, stopIds, routeIds, serviceIds, tripIds, locationType, parentStation, startDate, endDate, tripRoute, tripService, timeTrip, timeStop, stopSequence, arrivalTime, departureTime, timepoint, idColumn}
 use Rattle.meaning.specs.Rules.{row}
 use Rattle.resolve.specs.First.{Held}
 use Rattle.tables.specs.Fill.{line}
-use Rattle.tables.proofs.Ids.{rows-count, row-of-line, cell-at, ids-held, filled-length}
+use Rattle.tables.proofs.Ids.{rows-count, row-of-line, cell-at, ids-held}
 use Rattle.held.specs.Held.{Filled}
 
 module _ (f : ℕ) (low : 1 ≤ f) (high : f ≤ 5) (w : Feed) (rows : List Row) (s : List ℕ) (t : List ℤ) (h : Filled f w rows s t) where

@@ -1,6 +1,6 @@
 // What the stored numbers of one line, and a few tests of its values, say of each binding rule.
 ghost use mathlib.Core.Path.{_≡_};
-ghost use Rattle.meaning.specs.Rules.{given, secondsOf};
+ghost use Rattle.meaning.specs.Rules.{secondsOf};
 ghost use Rattle.judging.specs.Judging.{loose, offKind, misplaced, openEnd, bothGiven, halfTimed, sooner, notAbove, overtakes, stopJudged, routeJudged, serviceJudged, tripJudged, timeJudged};
 use meaning::Time;
 
@@ -32,22 +32,11 @@ fn is_open_end(line: usize, timed: bool) -> bool
     (line != 0) & !timed
 }
 
-// A time is given.
-fn is_given(t: Time) -> bool
-    ensures { λ r. ⌜ r ≡ given t ⌝ }
-{
-    match t {
-        Time::Seconds(_) => true,
-        Time::Untimed => false,
-        Time::NoTime => false,
-    }
-}
-
 // A line has both times.
 pub fn is_timed(arrival: Time, departure: Time) -> bool
     ensures { λ r. ⌜ r ≡ bothGiven arrival departure ⌝ }
 {
-    is_given(arrival) & is_given(departure)
+    trip_order::is_given(arrival) & trip_order::is_given(departure)
 }
 
 // A time's seconds; 0 where none is given.
@@ -72,7 +61,7 @@ fn is_sooner(a: Time, b: Time) -> bool
 fn is_half_timed(arrival: Time, departure: Time, timepoint: usize) -> bool
     ensures { λ r. ⌜ r ≡ halfTimed arrival departure timepoint ⌝ }
 {
-    let one = is_given(arrival) | is_given(departure);
+    let one = trip_order::is_given(arrival) | trip_order::is_given(departure);
     !is_timed(arrival, departure) & (one | (timepoint == 1))
 }
 

@@ -1,8 +1,8 @@
 -- Columns.
-use Prim.Native.Nat.{ℕ, _+_, _-_}
+use Prim.Native.Nat.{ℕ, _-_}
 use Prim.Native.String.{String}
 use mathlib.Core.List.{List, [], _∷_, map}
-use mathlib.Core.Bool.{Bool, true, false, cond}
+use mathlib.Core.Bool.{true, false, cond}
 use lib.ListN.{length, getD, drop}
 use lib.Dec.{eqb}
 use Rattle.meaning.specs.declared.Bounds.{Bounds}

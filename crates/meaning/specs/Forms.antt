@@ -1,5 +1,5 @@
 -- Value forms.
-use Prim.Native.Nat.{ℕ, zero, suc, _+_, _*_, _-_, _/_, _%_, _^_}
+use Prim.Native.Nat.{ℕ, _+_, _*_, _-_, _/_, _%_, _^_}
 use mathlib.Core.List.{List, [], _∷_, _++_}
 use mathlib.Core.Bool.{Bool, true, false, cond, not, _&&_, _||_}
 use lib.IntN.{ℤ, pos, negℤ}
@@ -15,7 +15,7 @@ use Rattle.meaning.specs.declared.Degrees.{Degrees}
 use Rattle.meaning.specs.declared.Degrees.the-variants.{TenMillionths, NoDegrees}
 use Rattle.meaning.specs.declared.Choice.{Choice}
 use Rattle.meaning.specs.declared.Choice.the-variants.{Picked, NoChoice}
-use Rattle.meaning.specs.Lists.{ascii, same, empty}
+use Rattle.meaning.specs.Lists.{ascii, same}
 
 -- a value has no quotation mark in it
 unfoldable pub noMark : List ℕ → Bool

@@ -1,6 +1,6 @@
 -- Words about lists that every section uses.
 use Prim.Native.Nat.{ℕ, zero, suc, _+_}
-use Prim.Native.Char.{Char, code}
+use Prim.Native.Char.{code}
 use Prim.Native.String as S
 use Prim.Native.String.{String}
 use mathlib.Core.List.{List, [], _∷_, _++_}

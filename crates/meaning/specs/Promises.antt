@@ -10,9 +10,9 @@ use Rattle.meaning.specs.declared.Refusal.{Refusal}
 use Rattle.meaning.specs.declared.Place.{Place}
 use Rattle.meaning.specs.Lists.{same}
 use Rattle.meaning.specs.Tables.{Feed, timeTrip}
-use Rattle.meaning.specs.Refusals.{Test, test, Claim, claim, refusal}
+use Rattle.meaning.specs.Refusals.{test, Claim, claim, refusal}
 use Rattle.meaning.specs.Rules.{row, timed, arrives, departs, rulesOf, recordCount}
-use Rattle.meaning.specs.Findings.{Finding, page, after}
+use Rattle.meaning.specs.Findings.{Finding, page}
 
 -- no element comes before one that stands earlier, and none stands twice
 abbrev pub Ordered : {A : Type 0} → (A → A → Bool) → List A → Type 0

@@ -1,11 +1,10 @@
 -- Tables.
 use Prim.Native.Nat.{ℕ, zero, suc, _+_, _*_, _-_}
 use mathlib.Core.List.{List, [], _∷_, _++_, map}
-use mathlib.Core.Bool.{Bool, true, false, cond}
+use mathlib.Core.Bool.{cond}
 use lib.IntN.{ℤ, pos, negsuc}
-use lib.ListN.{length, getD, drop, replicate}
+use lib.ListN.{getD, drop, replicate}
 use lib.Dec.{eqb}
-use Rattle.meaning.specs.declared.Bounds.{Bounds}
 use Rattle.meaning.specs.declared.Number.{Number}
 use Rattle.meaning.specs.declared.Number.the-variants.{Value, NoNumber}
 use Rattle.meaning.specs.declared.Time.{Time}

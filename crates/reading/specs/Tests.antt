@@ -1,7 +1,7 @@
 -- The first broken rule of an ordered list of tests, and the tests of values one column at a time.
 use Prim.Native.Nat.{ℕ}
 use mathlib.Core.List.{List, [], _∷_}
-use mathlib.Core.Bool.{Bool, true, false, cond}
+use mathlib.Core.Bool.{cond}
 use lib.Dec.{ltb, eqb}
 use Rattle.meaning.specs.declared.Column.{Column}
 use Rattle.meaning.specs.Columns.{Row}

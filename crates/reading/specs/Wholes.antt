@@ -1,7 +1,7 @@
 -- Rules 1 to 4 of whole files.
 use Prim.Native.Nat.{ℕ, _+_}
 use mathlib.Core.List.{List, [], _∷_, _++_}
-use mathlib.Core.Bool.{Bool, true, false, cond}
+use mathlib.Core.Bool.{Bool, cond}
 use Rattle.meaning.specs.Refusals.{Claim, claim, rule1, rule2, rule3, rule4}
 use Rattle.reading.specs.declared.Whole.{Whole}
 

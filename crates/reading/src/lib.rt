@@ -318,15 +318,12 @@ fn read_files(s1: &[u8], s2: &[u8], s3: &[u8], s4: &[u8], s5: &[u8]) -> Verdict
     read_file(5, s5)
 }
 
-// Each kind of file's width, by its number; file 0 is none.
-const WIDTHS: [usize; 6] = [0, 6, 3, 5, 7, 8];
-
 // Is a table of this length shorter than its width times the file's LF count?
 fn is_short(f: usize, room: usize, lf: usize) -> bool
     requires { ⌜ (0 < f) × (f < 6) ⌝ }
     ensures { λ r. ⌜ r ≡ ltb room (widthOf f * lf) ⌝ }
 {
-    let w = WIDTHS[f];
+    let w = rows::width_of(f);
     room / w < lf
 }
 

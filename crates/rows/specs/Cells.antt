@@ -6,7 +6,7 @@ use lib.ListN.{length, getD, take, drop}
 use Rattle.num.specs.Signs.{natOf}
 use Rattle.meaning.specs.declared.Bounds.{Bounds}
 use Rattle.meaning.specs.declared.Time.{Time}
-use Rattle.meaning.specs.declared.Time.the-variants.{Seconds, Untimed, NoTime}
+use Rattle.meaning.specs.declared.Time.the-variants.{Seconds, Untimed}
 use Rattle.meaning.specs.Bytes.{bounds}
 
 -- a table with the numbers from a place on replaced

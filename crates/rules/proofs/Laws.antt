@@ -1,6 +1,6 @@
 -- Laws: the marks of a whole file, and the findings of all five.
-use Prim.Native.Nat.{ℕ, _+_, _*_, _-_, _≤_, _<_}
-use mathlib.Core.Path.{_≡_, refl, sym, ap, _∙_}
+use Prim.Native.Nat.{ℕ, _+_, _*_, _-_, _≤_}
+use mathlib.Core.Path.{_≡_, sym, ap, _∙_}
 use mathlib.Core.List.{List, _++_, append-assoc}
 use mathlib.Core.Bool.{true}
 use native.Mathlib.Omega.{arith}
@@ -16,9 +16,8 @@ use Rattle.rows.specs.Cells.{natAt}
 use Rattle.listing.specs.Handing.{State, lentOnly, noting, handedOut}
 use Rattle.listing.proofs.Laws.{noting-all, noting-append}
 use Rattle.trip_order.specs.Marks.{LastLines, FirstLines}
-use Rattle.trip_order.specs.Trips.{tripAt}
 use Rattle.trip_order.proofs.Marks.{none-last, none-first}
-use Rattle.held.proofs.Numbers.{lines-held, time-trip}
+use Rattle.held.proofs.Numbers.{lines-held}
 use Rattle.file_rules.specs.Lines.{rowsIn, Ready, Marked}
 use Rattle.file_rules.proofs.Marks.{firsts-of, lasts-of}
 use Rattle.rules.specs.Tabled.{Tabled}

@@ -4,7 +4,6 @@ use mathlib.Core.List.{List, [], _∷_}
 use Prim.Native.Nat.{ℕ, _+_, _*_, _≤_}
 use lib.IntN.{ℤ, pos}
 use lib.ListN.{length, getD, List·getD-map}
-use Rattle.meaning.specs.Bytes.{value}
 use Rattle.meaning.specs.Columns.{fieldAt, cell, rowOf}
 use Rattle.meaning.specs.Forms.{latitudeOf, longitudeOf, timeOf, dateOf, sequenceOf, routeTypeOf}
 use Rattle.meaning.specs.Tables.{Feed, degrees, day, number, seconds, picked, orZero, orMinus, refer, packedDays, stopIds, routeIds, serviceIds, tripIds, idPlace, idColumn, recordOf, numbersOf, routeNumbers, serviceNumbers, tripNumbers, timeNumbers}

@@ -5,10 +5,9 @@ use mathlib.Core.List.{List, [], _∷_}
 use Prim.Native.Nat.{ℕ, zero, suc, _+_, _-_, _≤_, _<_}
 use native.Mathlib.Numerals.{add-one}
 use native.Mathlib.Omega.{arith}
-use lib.Dec.{T, eqb}
+use lib.Dec.{T}
 use lib.ListN.{length, getD, take, drop, drop-of-length-le, length-take, length-drop}
 use lib.Seq.{drop-cons, drop-drop, take-take, take-nil}
-use borrow.Author.Tests.{eq-eqb, eqb-true}
 use Rattle.meaning.specs.Lists.{same}
 use Rattle.meaning.specs.Bytes.{bounds, part}
 use Rattle.meaning.proofs.ListLaws.{same-self, same-equal}

@@ -2,7 +2,7 @@
 ghost use mathlib.Core.Path.{_≡_};
 ghost use mathlib.Core.Bool.{not};
 ghost use Prim.Native.Nat.{_+_, _<_, _≤_};
-ghost use lib.ListN.{length, drop, getD};
+ghost use lib.ListN.{length, drop};
 ghost use Rattle.meaning.specs.Lists.{same, empty};
 ghost use Rattle.meaning.specs.Bytes.{countLf, startOf, start, classOf, next, good, fields, marked, content, undouble, value};
 ghost use Rattle.meaning.specs.Forms.{noMark};

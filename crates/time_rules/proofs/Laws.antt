@@ -1,23 +1,22 @@
 -- Laws: what the code reads is what the judgement of a line asks for.
 use Prim.Native.Nat.{ℕ, zero, suc, _+_, _*_, _-_, _≤_, _<_}
 use mathlib.Core.Path.{_≡_, refl, sym, ap, _∙_}
-use mathlib.Core.List.{List, [], _∷_, map}
-use mathlib.Core.Bool.{Bool, true, false, _&&_}
+use mathlib.Core.List.{List, [], _∷_}
+use mathlib.Core.Bool.{Bool, true, _&&_}
 use native.Mathlib.Omega.{arith}
 use native.Mathlib.Nat.{sub-zero}
 use lib.IntN.{ℤ}
 use lib.ListN.{length, getD, drop, length-map, length-drop}
 use lib.Seq.{getD-drop}
-use Rattle.num.specs.Signs.{natOf}
-use Rattle.rows.specs.Cells.{natAt, timeAt, timeIn}
+use Rattle.rows.specs.Cells.{natAt, timeAt}
 use Rattle.meaning.specs.Lists.{same, empty}
 use Rattle.meaning.specs.declared.Place.{Place}
 use Rattle.meaning.specs.Bytes.{Line, bounds, part, countLf, startOf, linesFrom, linesOf, values}
-use Rattle.meaning.specs.Columns.{Row, cell, places, headerOf, rowOf, rowsOf}
+use Rattle.meaning.specs.Columns.{cell, places, headerOf}
 use Rattle.meaning.specs.Forms.{timeOf}
-use Rattle.meaning.specs.Tables.{Feed, tripId, timeTrip, timeStop, tripIds, stopIds, refer, seconds, orZero, locationType, stopId, arrivalTime, departureTime}
+use Rattle.meaning.specs.Tables.{Feed, tripId, timeTrip, timeStop, tripIds, stopIds, refer, stopId, arrivalTime, departureTime}
 use Rattle.meaning.specs.Refusals.{onLine}
-use Rattle.meaning.specs.Rules.{row, given, timed, timeRules, onRecords, bindingsOf, rulesOf, recordCount, recordCounts}
+use Rattle.meaning.specs.Rules.{row, timed, timeRules, onRecords, bindingsOf, rulesOf, recordCount, recordCounts}
 use Rattle.meaning.proofs.References.{Named, named}
 use Rattle.text.specs.Lines.{LineStands}
 use Rattle.text.proofs.Lines.{lines-all}
@@ -25,10 +24,9 @@ use Rattle.listing.specs.Handing.{State, noting}
 use Rattle.listing.proofs.Laws.{noting-line, noting-end}
 use Rattle.columns.specs.Columns.{placesOf}
 use Rattle.columns.proofs.Laws.{row-at, places-at}
-use Rattle.tables.specs.Fill.{line}
 use Rattle.tables.proofs.Ids.{row-of-line}
 use Rattle.trip_order.specs.Ones.{lastOne}
-use Rattle.trip_order.specs.Marks.{LastLines, markedIf}
+use Rattle.trip_order.specs.Marks.{markedIf}
 use Rattle.trip_order.proofs.Marks.{last-step, marked-length, none-last}
 use Rattle.trip_order.specs.Trips.{isOf, timedAt, nearLine, nearTimed, tripAt}
 use Rattle.trip_order.specs.Nearest.{noLine, isTrip, isTimed}

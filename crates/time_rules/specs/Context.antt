@@ -1,12 +1,12 @@
 -- What the rules of stop_times look at: its bytes and columns, its table and that of stops, and the marks of the lines gone by.
-use Prim.Native.Nat.{ℕ, _+_, _*_, _<_}
+use Prim.Native.Nat.{ℕ, _<_}
 use mathlib.Core.Path.{_≡_}
 use mathlib.Core.List.{List, []}
-use mathlib.Core.Bool.{Bool, true}
+use mathlib.Core.Bool.{true}
 use lib.IntN.{ℤ}
 use lib.ListN.{length, getD, drop}
 use Rattle.meaning.specs.Bytes.{linesFrom, linesOf}
-use Rattle.meaning.specs.Columns.{Row, cell, places, headerOf}
+use Rattle.meaning.specs.Columns.{cell, places, headerOf}
 use Rattle.meaning.specs.Tables.{Feed}
 use Rattle.meaning.specs.Rules.{row}
 use Rattle.trip_order.specs.Marks.{LastLines}

@@ -1,19 +1,18 @@
 -- Laws: rules 28 to 31 by the nearest, the first and the last line of a trip.
-use Prim.Native.Nat.{ℕ, suc, _+_, _-_, _≤_, _<_}
-use mathlib.Core.Path.{_≡_, refl, sym, ap, _∙_}
-use mathlib.Core.List.{List, [], _∷_}
-use mathlib.Core.Bool.{Bool, true, false, cond, not, _&&_, _||_}
+use Prim.Native.Nat.{ℕ, _-_, _≤_, _<_}
+use mathlib.Core.Path.{_≡_, refl, ap, _∙_}
+use mathlib.Core.List.{List, []}
+use mathlib.Core.Bool.{Bool, true, false, _&&_}
 use native.Mathlib.Omega.{arith}
 use lib.ListN.{length, getD, take}
 use lib.Seq.{take-length}
 use lib.Dec.{leb, ltb, eqb}
-use Rattle.meaning.specs.Lists.{same, keep, firstHas, lastHas}
+use Rattle.meaning.specs.Lists.{same, firstHas, lastHas}
 use Rattle.meaning.specs.Columns.{Row}
-use Rattle.meaning.specs.Tables.{Feed, timeTrip, tripId, tripIds, refer}
-use Rattle.meaning.specs.Rules.{row, timed, untimed, arrives, departs, sequence, ofTrip, earlier, ofTripLine, firstOfTrip, rule28, rule29, rule30, rule31}
+use Rattle.meaning.specs.Tables.{Feed, timeTrip, tripIds, refer}
+use Rattle.meaning.specs.Rules.{row, timed, arrives, departs, sequence, ofTrip, earlier, rule28, rule29}
 use Rattle.meaning.proofs.ListLaws.{keep-keep}
 use Rattle.meaning.proofs.References.{refer-same}
-use Rattle.trip_order.specs.Ones.{lastOne, firstOne}
 use Rattle.trip_order.specs.Trips.{isOf, timedAt, nearLine, nearTimed, farLine, tripAt}
 use Rattle.trip_order.specs.Marks.{LastLines, FirstLines}
 use Rattle.trip_order.proofs.Laws.{atOne, last-one, first-one, few, last-agree, first-agree}

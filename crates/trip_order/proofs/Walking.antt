@@ -1,8 +1,8 @@
 -- Laws of a walk along lines to the nearest line of a trip.
-use Prim.Native.Nat.{ℕ, suc, _+_, _-_, _*_, _≤_, _<_}
-use mathlib.Core.Path.{_≡_, refl, sym, ap, _∙_}
-use mathlib.Core.List.{List, [], _∷_}
-use mathlib.Core.Bool.{Bool, true, false, cond, _&&_}
+use Prim.Native.Nat.{ℕ, _+_, _-_, _≤_, _<_}
+use mathlib.Core.Path.{_≡_, sym, ap, _∙_}
+use mathlib.Core.List.{List, []}
+use mathlib.Core.Bool.{Bool, cond, _&&_}
 use native.Mathlib.Omega.{arith}
 use native.Mathlib.Numerals.{add-one}
 use native.Mathlib.Nat.{add-zero}
@@ -10,7 +10,7 @@ use lib.IntN.{ℤ}
 use lib.ListN.{length, getD, drop, length-drop}
 use lib.Seq.{getD-drop, drop-drop}
 use Rattle.meaning.specs.Lists.{same}
-use Rattle.meaning.specs.Bytes.{Line, bounds, part, linesFrom}
+use Rattle.meaning.specs.Bytes.{bounds, part, linesFrom}
 use Rattle.meaning.specs.Columns.{cell}
 use Rattle.text.specs.Lines.{LineStands}
 use Rattle.trip_order.specs.Ones.{lastOne}

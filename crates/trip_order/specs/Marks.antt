@@ -1,8 +1,8 @@
 -- For each trip record the last line so far, or the first, as the line's index and one; 0 where there is none.
-use Prim.Native.Nat.{ℕ, _+_, _<_}
+use Prim.Native.Nat.{ℕ, _<_}
 use mathlib.Core.Path.{_≡_}
 use mathlib.Core.List.{List}
-use mathlib.Core.Bool.{Bool, true, false, cond, _&&_}
+use mathlib.Core.Bool.{Bool, cond, _&&_}
 use lib.ListN.{length, getD, set}
 use lib.Dec.{eqb}
 use Rattle.trip_order.specs.Ones.{lastOne, firstOne}

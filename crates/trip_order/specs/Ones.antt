@@ -1,6 +1,6 @@
 -- The last and the first of n lines of which a test holds, as a line's index and one; 0 where there is none.
 use Prim.Native.Nat.{ℕ, zero, suc, _+_}
-use mathlib.Core.Bool.{Bool, true, false, cond}
+use mathlib.Core.Bool.{Bool, cond}
 use lib.Dec.{eqb}
 
 unfoldable pub lastOne : (ℕ → Bool) → ℕ → ℕ

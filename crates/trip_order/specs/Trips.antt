@@ -1,10 +1,9 @@
 -- The lines of a trip in a feed, by index.
-use Prim.Native.Nat.{ℕ, _+_}
-use mathlib.Core.List.{List, []}
-use mathlib.Core.Bool.{Bool, true, _&&_}
-use lib.ListN.{length}
+use Prim.Native.Nat.{ℕ}
+use mathlib.Core.List.{List}
+use mathlib.Core.Bool.{Bool, _&&_}
 use Rattle.meaning.specs.Lists.{same}
-use Rattle.meaning.specs.Tables.{Feed, timeTrip, tripId, tripIds, refer}
+use Rattle.meaning.specs.Tables.{Feed, timeTrip, tripIds, refer}
 use Rattle.meaning.specs.Rules.{row, timed}
 use Rattle.trip_order.specs.Ones.{lastOne, firstOne}
 

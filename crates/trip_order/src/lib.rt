@@ -79,7 +79,7 @@ pub struct Near {
 }
 
 // Is a time given?
-fn is_given(x: Time) -> bool
+pub fn is_given(x: Time) -> bool
     ensures { λ r. ⌜ r ≡ given x ⌝ }
 {
     match x {

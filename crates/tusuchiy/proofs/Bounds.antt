@@ -1,5 +1,5 @@
 -- Laws: the numbers of an answer are small.
-use Prim.Native.Nat.{ℕ, zero, suc, _+_, _*_, _-_, _≤_, _<_}
+use Prim.Native.Nat.{ℕ, zero, suc, _-_, _≤_, _<_}
 use mathlib.Core.Path.{_≡_, refl, sym, ap, _∙_}
 use mathlib.Core.List.{List, [], _∷_, List·Memᴰ, List·Memᴰ·head, List·Memᴰ·tail}
 use mathlib.Core.Bool.{Bool, true, false, cond}
@@ -7,15 +7,15 @@ use native.Mathlib.Omega.{arith}
 use native.Mathlib.Decide.{ℕ-discrete}
 use lib.IntN.{ℤ}
 use lib.ListN.{length, getD, length-take}
-use lib.Dec.{leb, ltb, eqb}
-use borrow.Author.Tests.{lt-ltb, le-ltb, ltb-true, ltb-false}
+use lib.Dec.{ltb, eqb}
+use borrow.Author.Tests.{le-ltb, ltb-true, ltb-false}
 use Rattle.meaning.specs.declared.Refusal.{Refusal}
 use Rattle.meaning.specs.declared.Verdict.the-variants.{Unreadable}
 use Rattle.meaning.specs.declared.Place.{Place}
 use Rattle.meaning.specs.declared.Answer.{Answer}
 use Rattle.meaning.specs.declared.Answer.the-variants.{Accepted, Findings, Refused}
 use Rattle.meaning.specs.Lists.{keep}
-use Rattle.meaning.specs.Bytes.{countLf, linesOf}
+use Rattle.meaning.specs.Bytes.{countLf}
 use Rattle.meaning.specs.Tables.{fileOf}
 use Rattle.meaning.specs.Refusals.{Claim, claim, refusal, rule2, claims, verdictOf}
 use Rattle.meaning.specs.Findings.{Finding, after, page, roomOf}

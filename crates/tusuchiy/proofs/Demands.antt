@@ -1,21 +1,19 @@
 -- The three demands hold of every call of `check`: of each outcome that its contract names.
 use Prim.Native.Nat.{ℕ}
 use native.Mathlib.Omega.{arith}
-use mathlib.Core.Path.{_≡_, refl, sym, ap, _∙_}
-use mathlib.Core.List.{List, [], map}
+use mathlib.Core.Path.{_≡_}
+use mathlib.Core.List.{List, map}
 use mathlib.Core.Bool.{Bool, true, false, cond}
 use lib.IntN.{ℤ}
 use lib.ListN.{length}
 use lib.Dec.{eqb}
-use Rattle.meaning.specs.declared.Refusal.{Refusal}
 use Rattle.meaning.specs.declared.Verdict.{Verdict}
 use Rattle.meaning.specs.declared.Verdict.the-variants.{Readable, Unreadable}
 use Rattle.meaning.specs.declared.Place.{Place}
-use Rattle.meaning.specs.declared.Answer.{Answer}
-use Rattle.meaning.specs.declared.Answer.the-variants.{Accepted, Findings, Refused}
+use Rattle.meaning.specs.declared.Answer.the-variants.{Accepted, Findings}
 use Rattle.meaning.specs.Tables.{feedOf}
-use Rattle.meaning.specs.Refusals.{claims, verdictOf}
-use Rattle.meaning.specs.Findings.{findingsOf, page, roomOf, handed, answerOf}
+use Rattle.meaning.specs.Refusals.{verdictOf}
+use Rattle.meaning.specs.Findings.{findingsOf, page, roomOf, answerOf}
 use Rattle.meaning.specs.Outcome.{Outcome, outcome, readOutcome, refusedOr}
 use Rattle.meaning.proofs.FirstBroken.{first-broken, readable-exactly}
 use Rattle.meaning.proofs.TheList.{listed-exactly, list-ordered, list-joins, list-ends, refused-answer, refused-untouched}

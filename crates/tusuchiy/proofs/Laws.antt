@@ -1,8 +1,8 @@
 -- Laws: a readable feed is ready to be filled, and a filled one to be judged.
-use Prim.Native.Nat.{ℕ, suc, _+_, _*_, _-_, _≤_, _<_}
-use mathlib.Core.Path.{_≡_, refl, sym, ap, _∙_}
+use Prim.Native.Nat.{ℕ, _-_, _≤_, _<_}
+use mathlib.Core.Path.{_≡_, refl, ap}
 use mathlib.Core.List.{List, [], _∷_, map}
-use mathlib.Core.Bool.{Bool, true, false, cond}
+use mathlib.Core.Bool.{false, cond}
 use native.Mathlib.Omega.{arith}
 use lib.IntN.{ℤ}
 use lib.ListN.{length, getD}
@@ -15,9 +15,8 @@ use Rattle.meaning.specs.declared.Answer.the-variants.{Accepted, Findings, Refu
 use Rattle.meaning.specs.Lists.{empty}
 use Rattle.meaning.specs.Bytes.{countLf}
 use Rattle.meaning.specs.Columns.{rowsOf, schemas, schema, knownAt, columnOf, countOf, tripsColumns}
-use Rattle.meaning.specs.Tables.{Feed, fileOf, feedOf, widthOf, filled, tripId}
+use Rattle.meaning.specs.Tables.{Feed, fileOf, feedOf, filled, tripId}
 use Rattle.meaning.specs.Refusals.{verdictOf, blank}
-use Rattle.meaning.specs.Rules.{row}
 use Rattle.meaning.specs.Findings.{findingsOf, answerOf, handed, page, roomOf}
 use Rattle.meaning.specs.Outcome.{Outcome, readOutcome, filledFrom, outcome}
 use Rattle.meaning.proofs.Readable.{WholeKept, whole-kept, values-kept}

@@ -1,5 +1,5 @@
 -- The three demands, of a call that was lent these files, tables, list and starting place, and ended with this outcome.
-use Prim.Native.Nat.{ℕ, _≤_}
+use Prim.Native.Nat.{ℕ}
 use mathlib.Core.Path.{_≡_}
 use mathlib.Core.Logic.{_↔_}
 use mathlib.Core.List.{List, [], map, List·Memᴰ}
@@ -10,7 +10,7 @@ use Rattle.meaning.specs.declared.Place.{Place}
 use Rattle.meaning.specs.declared.Answer.the-variants.{Accepted, Findings, Refused}
 use Rattle.meaning.specs.Tables.{feedOf}
 use Rattle.meaning.specs.Refusals.{claims}
-use Rattle.meaning.specs.Findings.{Finding, finding, findingsOf, page, roomOf, handed}
+use Rattle.meaning.specs.Findings.{finding, findingsOf, page, roomOf, handed}
 use Rattle.meaning.specs.Outcome.{Outcome, filledFrom}
 use Rattle.meaning.specs.Promises.{Ordered, FirstBroken, NoneBroken, BrokenAt, comesBefore, PagesJoin, PagesEnd, TimesNeverFall}
 

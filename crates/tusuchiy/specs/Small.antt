@@ -1,5 +1,5 @@
 -- The numbers of an answer are small: each fits a signed 32-bit number with room to spare.
-use Prim.Native.Nat.{_≤_, _*_}
+use Prim.Native.Nat.{_≤_}
 use Rattle.meaning.specs.declared.Answer.{Answer}
 use Rattle.meaning.specs.declared.Answer.the-variants.{Accepted, Findings, Refused}
 

@@ -1,5 +1,4 @@
 -- Each number of the answer for C is the one that document 01 gives to the answer's case.
-use Prim.Native.Nat.{ℕ}
 use mathlib.Core.Path.{_≡_}
 use lib.IntN.{pos}
 use lib.ListN.{getD}

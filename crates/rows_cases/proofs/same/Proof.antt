@@ -5,8 +5,6 @@ use borrow.Author.Needs.{needs}
 use lib.ListN.{length}
 use Rattle.rows_cases.proofs.same.Statement.{statement}
 use Rattle.rows_cases.proofs.same.Tie as tie
-use Rattle.rows_cases.proofs.same.Reads as reads
-use Rattle.rows_cases.proofs.same.Lts as lts
 
 abbrev Inv-loop : tie.InvT-loop
 Inv-loop a b i₀ i = i ≤ length a

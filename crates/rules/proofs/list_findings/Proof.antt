@@ -5,13 +5,6 @@ use Rattle.rules.proofs.Laws.{all-marked, all-noted}
 use borrow.Author.Needs.{needs}
 use Rattle.rules.proofs.list_findings.Statement.{statement}
 use Rattle.rules.proofs.list_findings.Tie as tie
-use Rattle.rules.proofs.list_findings.Reads as reads
-use Rattle.rules.proofs.list_findings.Lts as lts
-use Rattle.rules.proofs.list_four.Reads as list-four-reads
-use Rattle.rules.proofs.records_of.Reads as records-of-reads
-use Rattle.time_rules.proofs.list_times.Reads as list-times-reads
-use Rattle.trip_order.proofs.blank.Reads as blank-reads
-use Rattle.trip_order.proofs.mark_ends.Reads as mark-ends-reads
 
 blank-requires : tie.Need-blank-requires
 blank-requires c κs = search needs

@@ -4,9 +4,6 @@ use Rattle.rules.proofs.Laws.{stops-ready, routes-ready, calendar-ready
 use borrow.Author.Needs.{needs}
 use Rattle.rules.proofs.list_four.Statement.{statement}
 use Rattle.rules.proofs.list_four.Tie as tie
-use Rattle.rules.proofs.list_four.Reads as reads
-use Rattle.rules.proofs.list_four.Lts as lts
-use Rattle.file_rules.proofs.list_file.Reads as list-file-reads
 
 list-file-requires : tie.Need-list-file-requires
 list-file-requires c κs = search needs

@@ -1,5 +1,5 @@
 -- `time_rules::list_times` meets its contract.
-use mathlib.Core.Path.{_≡_, refl, sym, _∙_}
+use mathlib.Core.Path.{sym, _∙_}
 use native.Mathlib.Omega.{arith}
 use Rattle.meaning.specs.Bytes.{part}
 use Rattle.text.proofs.Lines.{line-found, line-none}
@@ -7,13 +7,6 @@ use Rattle.time_rules.proofs.Laws.{lines-few, context-of, no-marks, som
 use borrow.Author.Needs.{needs}
 use Rattle.time_rules.proofs.list_times.Statement.{statement}
 use Rattle.time_rules.proofs.list_times.Tie as tie
-use Rattle.time_rules.proofs.list_times.Reads as reads
-use Rattle.time_rules.proofs.list_times.Lts as lts
-use Rattle.columns.proofs.columns_of.Reads as columns-of-reads
-use Rattle.text.proofs.body_start.Reads as body-start-reads
-use Rattle.text.proofs.next_line.Reads as next-line-reads
-use Rattle.time_rules.proofs.walk.Reads as walk-reads
-use Rattle.trip_order.proofs.blank.Reads as blank-reads
 
 body-start-requires : tie.Need-body-start-requires
 body-start-requires c κs = search needs

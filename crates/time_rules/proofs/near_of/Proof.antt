@@ -1,15 +1,11 @@
 -- `time_rules::near_of` meets its contract.
-use mathlib.Core.Path.{_≡_, _∙_}
+use mathlib.Core.Path.{_∙_}
 use Prim.Native.Nat.{_≤_}
 use lib.ListN.{length}
 use Rattle.time_rules.proofs.Laws.{lines-after, near-value, timed-value, near-record, timed-record}
 use borrow.Author.Needs.{needs}
 use Rattle.time_rules.proofs.near_of.Statement.{statement}
 use Rattle.time_rules.proofs.near_of.Tie as tie
-use Rattle.time_rules.proofs.near_of.Reads as reads
-use Rattle.time_rules.proofs.near_of.Lts as lts
-use Rattle.trip_order.proofs.marked.Reads as marked-reads
-use Rattle.trip_order.proofs.nearest.Reads as nearest-reads
 
 nearest-requires : tie.Need-nearest-requires
 nearest-requires c κs = search needs

@@ -11,13 +11,6 @@ use Rattle.held.proofs.Numbers.{time-trip}
 use borrow.Author.Needs.{needs}
 use Rattle.time_rules.proofs.note_time.Statement.{statement}
 use Rattle.time_rules.proofs.note_time.Tie as tie
-use Rattle.time_rules.proofs.note_time.Reads as reads
-use Rattle.time_rules.proofs.note_time.Lts as lts
-use Rattle.columns.proofs.field.Reads as field-reads
-use Rattle.noting.proofs.note_line.Reads as note-line-reads
-use Rattle.rows.proofs.StopTimes.trip_at.Reads as trip-at-reads
-use Rattle.time_rules.proofs.near_of.Reads as near-of-reads
-use Rattle.time_rules.proofs.time_line.Reads as time-line-reads
 
 add-note-line : tie.Need-add-note-line
 add-note-line c = search needs

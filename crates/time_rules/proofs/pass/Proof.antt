@@ -3,11 +3,6 @@ use Rattle.time_rules.proofs.Laws.{marks-turn}
 use borrow.Author.Needs.{needs}
 use Rattle.time_rules.proofs.pass.Statement.{statement}
 use Rattle.time_rules.proofs.pass.Tie as tie
-use Rattle.time_rules.proofs.pass.Reads as reads
-use Rattle.time_rules.proofs.pass.Lts as lts
-use Rattle.rows.proofs.StopTimes.trip_at.Reads as trip-at-reads
-use Rattle.trip_order.proofs.is_timed.Reads as is-timed-reads
-use Rattle.trip_order.proofs.mark.Reads as mark-reads
 
 add-mark : tie.Need-add-mark
 add-mark c = search needs

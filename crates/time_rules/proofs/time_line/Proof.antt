@@ -1,6 +1,6 @@
 -- `time_rules::time_line` meets its contract.
 use Rattle.columns.proofs.Laws.{field-value}
-use mathlib.Core.Path.{_≡_, sym, ap, _∙_}
+use mathlib.Core.Path.{sym, ap, _∙_}
 use mathlib.Core.List.{_∷_, []}
 use Rattle.meaning.specs.Lists.{empty}
 use Rattle.judging.specs.Judging.{testsFrom}
@@ -8,15 +8,6 @@ use Rattle.time_rules.proofs.Laws.{line-judged}
 use borrow.Author.Needs.{needs}
 use Rattle.time_rules.proofs.time_line.Statement.{statement}
 use Rattle.time_rules.proofs.time_line.Tie as tie
-use Rattle.time_rules.proofs.time_line.Reads as reads
-use Rattle.time_rules.proofs.time_line.Lts as lts
-use Rattle.columns.proofs.field.Reads as field-reads
-use Rattle.judging.proofs.judge_time.Reads as judge-time-reads
-use Rattle.rows.proofs.StopTimes.departure_at.Reads as departure-at-reads
-use Rattle.rows.proofs.StopTimes.sequence_at.Reads as sequence-at-reads
-use Rattle.rows.proofs.Stops.kind_at.Reads as kind-at-reads
-use Rattle.text.proofs.is_empty_value.Reads as is-empty-value-reads
-use Rattle.time_rules.proofs.record_at.Reads as record-at-reads
 
 field-requires : tie.Need-field-requires
 field-requires c κs = search needs

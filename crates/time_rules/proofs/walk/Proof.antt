@@ -14,11 +14,6 @@ use Rattle.time_rules.specs.Context.{Context, Marks}
 use Rattle.time_rules.proofs.Laws.{lines-after, line-inside, lines-done, Come, index-inside, says-here, come-turn, come-end}
 use Rattle.time_rules.proofs.walk.Statement.{statement}
 use Rattle.time_rules.proofs.walk.Tie as tie
-use Rattle.time_rules.proofs.walk.Reads as reads
-use Rattle.time_rules.proofs.walk.Lts as lts
-use Rattle.text.proofs.next_line.Reads as next-line-reads
-use Rattle.time_rules.proofs.note_time.Reads as note-time-reads
-use Rattle.time_rules.proofs.pass.Reads as pass-reads
 
 abbrev Inv-loop : tie.InvT-loop
 Inv-loop s from at t stops seen₀ timed₀ out₀ p sink₀ place₀ i₀ seen timed out sink place i =

@@ -4,8 +4,6 @@ use Prim.Native.Nat.{ℕ, zero, suc}
 use lib.ListN.{getD, replicate}
 use Rattle.trip_order.proofs.blank.Statement.{statement}
 use Rattle.trip_order.proofs.blank.Tie as tie
-use Rattle.trip_order.proofs.blank.Reads as reads
-use Rattle.trip_order.proofs.blank.Lts as lts
 
 zeros : (n k : ℕ) → _≡_ {A = ℕ} (getD (replicate n 0) k 0) 0
 zeros zero k = refl

@@ -1,13 +1,9 @@
 -- `trip_order::is_of` meets its contract.
 use Rattle.columns.proofs.Laws.{field-value}
-use mathlib.Core.Path.{_≡_, refl, sym, ap, _∙_}
+use mathlib.Core.Path.{_∙_}
 use borrow.Author.Needs.{needs}
 use Rattle.trip_order.proofs.is_of.Statement.{statement}
 use Rattle.trip_order.proofs.is_of.Tie as tie
-use Rattle.trip_order.proofs.is_of.Reads as reads
-use Rattle.trip_order.proofs.is_of.Lts as lts
-use Rattle.columns.proofs.field.Reads as field-reads
-use Rattle.text.proofs.same_value.Reads as same-value-reads
 
 field-requires : tie.Need-field-requires
 field-requires c κs = search needs

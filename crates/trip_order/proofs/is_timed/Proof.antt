@@ -1,14 +1,8 @@
 -- `trip_order::is_timed` meets its contract.
-use mathlib.Core.Path.{_≡_, refl, sym}
 use Rattle.trip_order.specs.Nearest.{isTimed}
 use borrow.Author.Needs.{needs}
 use Rattle.trip_order.proofs.is_timed.Statement.{statement}
 use Rattle.trip_order.proofs.is_timed.Tie as tie
-use Rattle.trip_order.proofs.is_timed.Reads as reads
-use Rattle.trip_order.proofs.is_timed.Lts as lts
-use Rattle.rows.proofs.StopTimes.arrival_at.Reads as arrival-at-reads
-use Rattle.rows.proofs.StopTimes.departure_at.Reads as departure-at-reads
-use Rattle.trip_order.proofs.is_given.Reads as is-given-reads
 
 add-row : tie.Need-add-row
 add-row c = search needs

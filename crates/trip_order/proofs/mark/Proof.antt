@@ -1,12 +1,10 @@
 -- `trip_order::mark` meets its contract.
-use mathlib.Core.Path.{_≡_, refl, sym}
+use mathlib.Core.Path.{sym}
 use lib.Seq.{set-out}
 use Rattle.trip_order.specs.Marks.{markedIf}
 use borrow.Author.Needs.{needs}
 use Rattle.trip_order.proofs.mark.Statement.{statement}
 use Rattle.trip_order.proofs.mark.Tie as tie
-use Rattle.trip_order.proofs.mark.Reads as reads
-use Rattle.trip_order.proofs.mark.Lts as lts
 
 cast-marks : tie.Need-cast-marks
 cast-marks c = search needs

@@ -1,7 +1,7 @@
 -- `trip_order::mark_ends` meets its contract.
-use mathlib.Core.Path.{_≡_, refl, sym, ap, _∙_}
+use mathlib.Core.Path.{_≡_, refl, ap, _∙_}
 use mathlib.Core.Bool.{true}
-use Prim.Native.Nat.{_+_, _*_, _-_, _≤_, _<_}
+use Prim.Native.Nat.{_+_, _*_, _-_, _≤_}
 use native.Mathlib.Omega.{arith}
 use borrow.Author.Needs.{needs}
 use lib.ListN.{length}
@@ -10,11 +10,6 @@ use Rattle.trip_order.specs.Marks.{LastLines, FirstLines}
 use Rattle.trip_order.proofs.Marks.{last-step, first-step, marked-length}
 use Rattle.trip_order.proofs.mark_ends.Statement.{statement}
 use Rattle.trip_order.proofs.mark_ends.Tie as tie
-use Rattle.trip_order.proofs.mark_ends.Reads as reads
-use Rattle.trip_order.proofs.mark_ends.Lts as lts
-use Rattle.rows.proofs.StopTimes.trip_at.Reads as trip-at-reads
-use Rattle.trip_order.proofs.mark.Reads as mark-reads
-use Rattle.trip_order.proofs.marked.Reads as marked-reads
 
 abbrev Inv-loop : tie.InvT-loop
 Inv-loop t n first₀ last₀ i₀ first last i =

@@ -5,8 +5,6 @@ use lib.ListN.{List·getD-eq-default}
 use borrow.Author.Needs.{needs}
 use Rattle.trip_order.proofs.marked.Statement.{statement}
 use Rattle.trip_order.proofs.marked.Tie as tie
-use Rattle.trip_order.proofs.marked.Reads as reads
-use Rattle.trip_order.proofs.marked.Lts as lts
 
 mul-result : tie.Need-mul-result
 mul-result c = search needs

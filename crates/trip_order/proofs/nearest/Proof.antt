@@ -1,5 +1,5 @@
 -- `trip_order::nearest` meets its contract.
-use mathlib.Core.Path.{_≡_, refl, sym, ap, _∙_}
+use mathlib.Core.Path.{_≡_, refl, sym, _∙_}
 use mathlib.Core.Bool.{_&&_}
 use Prim.Native.Nat.{_≤_, _-_}
 use native.Mathlib.Omega.{arith}
@@ -12,12 +12,6 @@ use Rattle.trip_order.specs.Nearest.{isTrip, isTimed}
 use Rattle.trip_order.proofs.Walking.{line-next, near-more, timed-more, line-left}
 use Rattle.trip_order.proofs.nearest.Statement.{statement}
 use Rattle.trip_order.proofs.nearest.Tie as tie
-use Rattle.trip_order.proofs.nearest.Reads as reads
-use Rattle.trip_order.proofs.nearest.Lts as lts
-use Rattle.text.proofs.next_line.Reads as next-line-reads
-use Rattle.trip_order.proofs.is_of.Reads as is-of-reads
-use Rattle.trip_order.proofs.is_timed.Reads as is-timed-reads
-use Rattle.trip_order.proofs.nearer.Reads as nearer-reads
 
 abbrev Inv-loop : tie.InvT-loop
 Inv-loop s from at t n raw near₀ place₀ i₀ near place i =

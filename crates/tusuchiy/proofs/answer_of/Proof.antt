@@ -2,8 +2,6 @@
 use borrow.Author.Tests.{eq-eqb, ne-eqb}
 use Rattle.tusuchiy.proofs.answer_of.Statement.{statement}
 use Rattle.tusuchiy.proofs.answer_of.Tie as tie
-use Rattle.tusuchiy.proofs.answer_of.Reads as reads
-use Rattle.tusuchiy.proofs.answer_of.Lts as lts
 
 returns : tie.Need-returns
 returns c = rw (eq-eqb (c .before .before .args .k .total) 0 (c .if1 .taken))

@@ -1,15 +1,11 @@
 -- `tusuchiy::check` meets its contract.
-use mathlib.Core.Path.{_≡_, refl, sym, _∙_}
+use mathlib.Core.Path.{sym, _∙_}
 use native.Mathlib.Omega.{arith}
 use Rattle.tusuchiy.proofs.Bounds.{small-refusal}
 use Rattle.tusuchiy.proofs.Laws.{outcome-readable, outcome-refused}
 use borrow.Author.Needs.{needs}
 use Rattle.tusuchiy.proofs.check.Statement.{statement}
 use Rattle.tusuchiy.proofs.check.Tie as tie
-use Rattle.tusuchiy.proofs.check.Reads as reads
-use Rattle.tusuchiy.proofs.check.Lts as lts
-use Rattle.reading.proofs.verdict.Reads as verdict-reads
-use Rattle.tusuchiy.proofs.checked.Reads as checked-reads
 
 verdict-requires : tie.Need-verdict-requires
 verdict-requires c κs = search needs

@@ -4,11 +4,6 @@ use Rattle.tusuchiy.proofs.Laws.{stops-kept, routes-kept, calendar-kept
 use borrow.Author.Needs.{needs}
 use Rattle.tusuchiy.proofs.checked.Statement.{statement}
 use Rattle.tusuchiy.proofs.checked.Tie as tie
-use Rattle.tusuchiy.proofs.checked.Reads as reads
-use Rattle.tusuchiy.proofs.checked.Lts as lts
-use Rattle.rules.proofs.list_findings.Reads as list-findings-reads
-use Rattle.tables.proofs.fill_all.Reads as fill-all-reads
-use Rattle.tusuchiy.proofs.answer_of.Reads as answer-of-reads
 
 fill-all-requires : tie.Need-fill-all-requires
 fill-all-requires c κs =

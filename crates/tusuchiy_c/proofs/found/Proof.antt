@@ -7,8 +7,6 @@ use Rattle.meaning.specs.Findings.{answerNumbers}
 use borrow.Author.Needs.{needs}
 use Rattle.tusuchiy_c.proofs.found.Statement.{statement}
 use Rattle.tusuchiy_c.proofs.found.Tie as tie
-use Rattle.tusuchiy_c.proofs.found.Reads as reads
-use Rattle.tusuchiy_c.proofs.found.Lts as lts
 
 cast-t3 : tie.Need-cast-t3
 cast-t3 c = search needs

@@ -7,8 +7,6 @@ use Rattle.meaning.specs.Findings.{answerNumbers}
 use borrow.Author.Needs.{needs}
 use Rattle.tusuchiy_c.proofs.refused.Statement.{statement}
 use Rattle.tusuchiy_c.proofs.refused.Tie as tie
-use Rattle.tusuchiy_c.proofs.refused.Reads as reads
-use Rattle.tusuchiy_c.proofs.refused.Lts as lts
 
 cast-t2 : tie.Need-cast-t2
 cast-t2 c = search needs

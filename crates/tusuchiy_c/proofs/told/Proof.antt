@@ -4,10 +4,6 @@ use Rattle.meaning.specs.Findings.{answerNumbers}
 use borrow.Author.Needs.{needs}
 use Rattle.tusuchiy_c.proofs.told.Statement.{statement}
 use Rattle.tusuchiy_c.proofs.told.Tie as tie
-use Rattle.tusuchiy_c.proofs.told.Reads as reads
-use Rattle.tusuchiy_c.proofs.told.Lts as lts
-use Rattle.tusuchiy_c.proofs.found.Reads as found-reads
-use Rattle.tusuchiy_c.proofs.refused.Reads as refused-reads
 
 enum-told : tie.Need-enum-told
 enum-told c = search needs

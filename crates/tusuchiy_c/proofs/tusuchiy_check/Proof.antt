@@ -5,11 +5,6 @@ use Rattle.tusuchiy_c.proofs.Laws.{told-answer, told-tables, told-list}
 use borrow.Author.Needs.{needs}
 use Rattle.tusuchiy_c.proofs.tusuchiy_check.Statement.{statement}
 use Rattle.tusuchiy_c.proofs.tusuchiy_check.Tie as tie
-use Rattle.tusuchiy_c.proofs.tusuchiy_check.Reads as reads
-use Rattle.tusuchiy_c.proofs.tusuchiy_check.Lts as lts
-use Rattle.tusuchiy.proofs.check.Reads as check-reads
-use Rattle.tusuchiy_c.proofs.place_of.Reads as place-of-reads
-use Rattle.tusuchiy_c.proofs.told.Reads as told-reads
 
 place-of-requires : tie.Need-place-of-requires
 place-of-requires c κs = search needs
