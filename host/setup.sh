@@ -26,12 +26,12 @@ tools_x86_64() {
     install rustc-web cargo-web gcc libc6-dev
 }
 
-# On Arm everything is built for x86-64 and run under the emulator.
+# On Arm everything is built for x86-64 and run under the emulator. The cross compiler only recommends its C library.
 tools_arm() {
     if ! { [ -x /usr/bin/cargo ] && command -v x86_64-linux-gnu-gcc && command -v qemu-x86_64 &&
-        dpkg -s libstd-rust-web-dev:amd64; } >/dev/null 2>&1; then
+        dpkg -s libstd-rust-web-dev:amd64 libc6-dev-amd64-cross; } >/dev/null 2>&1; then
         as_root dpkg --add-architecture amd64 || fail "could not add Debian's amd64 packages"
-        install rustc-web cargo-web libstd-rust-web-dev:amd64 gcc-x86-64-linux-gnu qemu-user
+        install rustc-web cargo-web libstd-rust-web-dev:amd64 gcc-x86-64-linux-gnu libc6-dev-amd64-cross qemu-user
     fi
     export PATH="/usr/bin:$PATH" RUSTC=/usr/bin/rustc
     export CARGO_TARGET_X86_64_UNKNOWN_LINUX_GNU_LINKER=x86_64-linux-gnu-gcc
