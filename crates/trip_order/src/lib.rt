@@ -48,7 +48,7 @@ pub fn marked(marks: &[u32], trip: TripRow) -> usize
     0
 }
 
-// Marks the first and the last of n lines for each trip.
+// Marks the first and the last of n lines for each trip, in marks that are blank.
 pub fn mark_ends(t: &[i32], n: usize, first: &mut [u32], last: &mut [u32])
     requires { ⌜ n < 2 ^ 31 ⌝ }
     ensures { λ _. ⌜ (FirstLines (λ j. natAt (now (t .entry)) ((j + 1) * 8)) (now (first .entry)) 0
