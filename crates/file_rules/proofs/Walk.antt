@@ -4,24 +4,22 @@ use mathlib.Core.Path.{_≡_, refl, sym, ap, _∙_}
 use mathlib.Core.List.{List, []}
 use mathlib.Core.Bool.{Bool}
 use native.Mathlib.Omega.{arith}
-use native.Mathlib.Nat.{add-zero}
 use lib.IntN.{ℤ}
-use lib.ListN.{length, getD, drop, length-drop}
-use lib.Seq.{getD-drop}
+use lib.ListN.{length, getD, drop}
 use Rattle.meaning.specs.declared.Place.{Place}
-use Rattle.meaning.specs.Bytes.{bounds, part, countLf, startOf, linesFrom, linesOf, values}
+use Rattle.meaning.specs.Bytes.{bounds, part, countLf, linesFrom, linesOf}
 use Rattle.meaning.specs.Columns.{cell, rowOf, places, headerOf}
 use Rattle.meaning.specs.Tables.{Feed, under}
 use Rattle.meaning.specs.Refusals.{Test, onLine}
 use Rattle.meaning.specs.Rules.{recordCounts, recordCount, rulesOf, onRecords, bindingsOf}
 use Rattle.text.specs.Lines.{LineStands}
-use Rattle.text.proofs.Lines.{lines-all}
+use Rattle.text.proofs.Walk.{line-here}
 use Rattle.columns.specs.Columns.{placesOf, startsOf, endsOf}
 use Rattle.columns.proofs.Laws.{places-at, cell-of, row-at}
 use Rattle.listing.specs.Handing.{State, noting}
 use Rattle.listing.proofs.Laws.{noting-append}
 use Rattle.tables.specs.Fill.{line}
-use Rattle.tables.proofs.Turns.{walk-inside}
+use Rattle.tables.proofs.Turns.{walk-inside, walk-past}
 use Rattle.tables.proofs.Ids.{row-of-line}
 use Rattle.held.specs.Held.{Filled}
 use Rattle.held.proofs.Numbers.{lines-held}
@@ -43,23 +41,6 @@ rows-records w (suc (suc (suc (suc (suc (suc f)))))) = refl
 lines-records : (f : ℕ) → 1 ≤ f → f ≤ 4 → (w : Feed) (s : List ℕ) (t : List ℤ) → Filled f w (rowsIn w f) s t → recordCount w f + 1 ≡ countLf s
 lines-records f low four w s t h =
     ap (λ n. n + 1) (sym (rows-records w f)) ∙ lines-held f low (omega arith) w (rowsIn w f) s t h
-
--- a walk that begins where the first line does
-module _ (s : List ℕ) (from : ℕ) (first : from ≡ startOf s) where
-  -- the header, and the lines after it
-  module _ (a e n : ℕ) (stands : LineStands s from a e n) where
-    pub header-is : values (part s (bounds a e)) ≡ headerOf (linesOf s)
-    unfolding linesOf headerOf
-    header-is = rw (← first, stands .lines)
-
-    pub lines-after : linesFrom s n ≡ drop 1 (linesOf s)
-    unfolding linesOf
-    lines-after = rw (← first, stands .lines)
-
-  -- no header: no line
-  pub no-header : linesFrom s from ≡ [] → countLf s ≡ 0
-  unfolding linesOf
-  no-header e = sym (lines-all s) ∙ rw (← first, e)
 
 -- ---- what is left to note
 
@@ -86,12 +67,6 @@ left-turn p f rules i n x y h e =
 -- a walk that has come to line i after the header
 module _ (s : List ℕ) (at i : ℕ) (left : linesFrom s at ≡ drop (i + 1) (linesOf s)) where
   module _ (a e n : ℕ) (stands : LineStands s at a e n) where
-    here : getD (linesOf s) (i + 1) (line 0 []) ≡ line a (part s (bounds a e))
-    here =
-        ap (λ k. getD (linesOf s) k (line 0 [])) (sym (add-zero (i + 1)))
-        ∙ sym (getD-drop (i + 1) (linesOf s) 0 (line 0 []))
-        ∙ ap (λ l. getD l 0 (line 0 [])) (sym left ∙ stands .lines)
-
     module _ (f : ℕ) (low : 1 ≤ f) (four : f ≤ 4) (w : Feed) (t : List ℤ) (held : Filled f w (rowsIn w f) s t) where
       -- its text says its row
       says-row :
@@ -104,7 +79,7 @@ module _ (s : List ℕ) (at i : ℕ) (left : linesFrom s at ≡ drop (i + 1) (li
           ap (λ x. cell l (getD x k 0)) p
           ∙ ap (cell l) (places-at f hs k)
           ∙ sym (row-at (places f hs) l k)
-          ∙ ap (λ x. under k (rowOf (places f hs) (x .text))) (sym here)
+          ∙ ap (λ x. under k (rowOf (places f hs) (x .text))) (sym (line-here s (linesOf s) at (i + 1) left a e n stands (line 0 [])))
           ∙ ap (under k) (sym (row-of-line f s i (line 0 []) (omega (arith, walk-inside s at (i + 1) left a e n stands))))
           ∙ ap (λ rs. under k (getD rs i [])) (sym (held .read))
 
@@ -142,11 +117,6 @@ module _ (s : List ℕ) (at i : ℕ) (left : linesFrom s at ≡ drop (i + 1) (li
 
   -- no line is left
   module _ (none : linesFrom s at ≡ []) where
-    pub walk-over : countLf s ≤ i + 1
-    walk-over =
-        let z : length (drop (i + 1) (linesOf s)) ≡ 0 = rw (← left, none) in
-        omega (arith, length-drop (i + 1) (linesOf s), lines-all s)
-
     pub left-last :
         (f : ℕ) → 1 ≤ f → f ≤ 4 → (w : Feed) (t : List ℤ)
         → Filled f w (rowsIn w f) s t
@@ -155,5 +125,5 @@ module _ (s : List ℕ) (at i : ℕ) (left : linesFrom s at ≡ drop (i + 1) (li
         → x ≡ noting p (bindingsOf w f) x₀
     unfolding onRecords noting
     left-last f low four w t held p x x₀ inv =
-        let z : recordCount w f - i ≡ 0 = omega (arith, walk-over, lines-records f low four w s t held) in
+        let z : recordCount w f - i ≡ 0 = omega (arith, walk-past s at (i + 1) left none, lines-records f low four w s t held) in
         rw z at inv

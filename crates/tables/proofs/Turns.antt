@@ -1,9 +1,8 @@
 -- A walk along the lines of a file that writes a record for each.
-use mathlib.Core.Path.{_≡_, sym, ap, _∙_}
+use mathlib.Core.Path.{_≡_, ap, _∙_}
 use mathlib.Core.Bool.{Bool, true, false, cond}
 use mathlib.Core.List.{List, [], _∷_, map}
 use Prim.Native.Nat.{ℕ, zero, suc, _+_, _*_, _-_, _≤_, _<_}
-use native.Mathlib.Numerals.{add-one}
 use native.Mathlib.Omega.{arith}
 use native.Mathlib.Nat.{mul-le-mul-left, mul-le-mul-right, mul-comm}
 use lib.Dec.{eqb}
@@ -17,6 +16,7 @@ use Rattle.meaning.specs.Tables.{widths, widthOf}
 use Rattle.text.specs.Lines.{LineStands}
 use Rattle.text.proofs.Laws.{part-length}
 use Rattle.text.proofs.Lines.{lines-all}
+use Rattle.text.proofs.Walk.{header-is, header-past, line-inside, line-here, line-past}
 use Rattle.columns.specs.Columns.{placesOf}
 use Rattle.columns.proofs.Laws.{places-at}
 use Rattle.rows.specs.Cells.{putAt}
@@ -24,26 +24,6 @@ use Rattle.meaning.proofs.Readable.{getD-map-in}
 use Rattle.rows.proofs.Records.{Wide, wide-map, rows-first, rows-turn}
 use Rattle.tables.specs.Fill.{line, Heading, Room}
 use Rattle.tables.specs.Walk.{tabled}
-
--- what is left of a list begins with x
-record Heads {A : Type 0} (xs : List A) (r : ℕ) (x : A) (rest : List A) : Type 0 where
-  inside : r < length xs
-  here : (d : A) → getD xs r d ≡ x
-  after : drop (r + 1) xs ≡ rest
-
-heads : {A : Type 0} (xs : List A) (r : ℕ) (x : A) (rest : List A) → drop r xs ≡ x ∷ rest → Heads xs r x rest
-heads [] zero x rest e = absurd (clash e)
-  where
-    clash : [] ≡ x ∷ rest → ⊥
-    clash e = let z : _≡_ {A = ℕ} 0 1 = cc in omega arith
-heads [] (suc r) x rest e = absurd (clash e)
-  where
-    clash : [] ≡ x ∷ rest → ⊥
-    clash e = let z : _≡_ {A = ℕ} 0 1 = cc in omega arith
-heads (y ∷ xs) zero x rest e = record { inside = omega arith; here = λ d. (cc); after = (cc) }
-heads (y ∷ xs) (suc r) x rest e =
-    let h = heads xs r x rest e in
-    record { inside = omega (arith, h .inside); here = h .here; after = rw (add-one (suc r)) (rw add-one at (h .after)) }
 
 pub two-wide : (f : ℕ) → 1 ≤ f → f ≤ 5 → 2 ≤ widthOf f
 unfolding widthOf widths
@@ -90,17 +70,8 @@ module _ (f : ℕ) (s : List ℕ) (g : Line → List ℤ) (long : (x : Line) →
 -- a walk that has come to byte `at`, where line r begins
 module _ (s : List ℕ) (at r : ℕ) (left : linesFrom s at ≡ drop r (linesOf s)) where
   module _ (a e n : ℕ) (stands : LineStands s at a e n) where
-    found : Heads (linesOf s) r (line a (part s (bounds a e))) (linesFrom s n)
-    found = heads (linesOf s) r (line a (part s (bounds a e))) (linesFrom s n) (sym left ∙ stands .lines)
-
-    pub walk-here : (d : Line) → getD (linesOf s) r d ≡ line a (part s (bounds a e))
-    walk-here = found .here
-
     pub walk-inside : r < countLf s
-    walk-inside = omega (arith, found .inside, lines-all s)
-
-    pub walk-on : linesFrom s n ≡ drop (r + 1) (linesOf s)
-    walk-on = sym (found .after)
+    walk-inside = omega (arith, line-inside s (linesOf s) at r left a e n stands, lines-all s)
 
     pub walk-room : (width room : ℕ) → width * countLf s ≤ room → r * width + width ≤ room
     walk-room width room h =
@@ -127,14 +98,12 @@ module _ (s : List ℕ) (at r : ℕ) (left : linesFrom s at ≡ drop r (linesOf 
       walk-turn t t′ t₀ h inv p =
           let x = line a (part s (bounds a e)) in
           let i : r < length (tabled f g s) = omega (arith, walk-inside, table-length f s g long (omega (arith, walk-inside))) in
-          let k : getD (tabled f g s) r [] ≡ g x = table-at f s g long r x h walk-inside ∙ ap g (found .here x) in
+          let k : getD (tabled f g s) r [] ≡ g x = table-at f s g long r x h walk-inside ∙ ap g (line-here s (linesOf s) at r left a e n stands x) in
           p ∙ rw (← k) (rows-turn (widthOf f) (tabled f g s) (wide f s g long) t t₀ r i inv)
 
   -- no line is left
   pub walk-past : linesFrom s at ≡ [] → countLf s ≤ r
-  walk-past e =
-      let z : length (drop r (linesOf s)) ≡ 0 = rw (← left, e) in
-      omega (arith, length-drop r (linesOf s), lines-all s)
+  walk-past e = omega (arith, line-past s (linesOf s) at r left e, lines-all s)
 
   pub walk-end :
       (f : ℕ) (g : Line → List ℤ)
@@ -157,25 +126,17 @@ unfolding tabled
 walk-first f g s t t₀ e = e ∙ rows-first (replicate (widthOf f) (pos 0)) (map g (drop 1 (linesOf s))) t₀
 
 -- the header's line
-module _ (s : List ℕ) (at : ℕ) (starts : at ≡ startOf s) where
-  pub header-found :
-      (f : ℕ) (known : List ℕ) (a e n : ℕ)
-      → LineStands s at a e n
-      → known ≡ placesOf f (values (part s (bounds a e)))
-      → Heading f s known n
-  unfolding linesOf headerOf
-  header-found f known a e n h p =
-      let l : linesFrom s (startOf s) ≡ line a (part s (bounds a e)) ∷ linesFrom s n = rw starts at (h .lines) in
-      record {
-        after = rw l;
-        columns = λ k. rw (l, p) (places-at f (values (part s (bounds a e))) k);
-      }
-
-  pub header-none : {X : Type 0} → 1 ≤ countLf s → linesFrom s at ≡ [] → X
-  unfolding linesOf
-  header-none h e =
-      let z : length (linesFrom s (startOf s)) ≡ 0 = rw (← starts, e) in
-      absurd (omega (arith, lines-all s))
+pub header-found :
+    (s : List ℕ) (at : ℕ)
+    → at ≡ startOf s
+    → (f : ℕ) (known : List ℕ) (a e n : ℕ)
+    → LineStands s at a e n
+    → known ≡ placesOf f (values (part s (bounds a e)))
+    → Heading f s known n
+header-found s at starts f known a e n stands p = record {
+  after = header-past s at starts a e n stands;
+  columns = λ k. ap (λ ps. getD ps k 0) (p ∙ ap (placesOf f) (header-is s at starts a e n stands)) ∙ places-at f (headerOf (linesOf s)) k;
+}
 
 -- room for record 0
 pub first-room : (f : ℕ) (s : List ℕ) (t : List ℤ) (width : ℕ) → Room f s t → width ≡ widthOf f → width ≤ length t

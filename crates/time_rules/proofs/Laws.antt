@@ -20,10 +20,12 @@ use Rattle.meaning.specs.Rules.{row, timed, timeRules, onRecords, bindingsOf, r
 use Rattle.meaning.proofs.References.{Named, named}
 use Rattle.text.specs.Lines.{LineStands}
 use Rattle.text.proofs.Lines.{lines-all}
+use Rattle.text.proofs.Walk.{header-past, no-header, line-inside, line-here}
 use Rattle.listing.specs.Handing.{State, noting}
 use Rattle.listing.proofs.Laws.{noting-line, noting-end}
 use Rattle.columns.specs.Columns.{placesOf}
-use Rattle.columns.proofs.Laws.{row-at, places-at}
+use Rattle.columns.proofs.Laws.{row-at}
+use Rattle.tables.proofs.Turns.{header-found}
 use Rattle.tables.proofs.Ids.{row-of-line}
 use Rattle.trip_order.specs.Ones.{lastOne}
 use Rattle.trip_order.specs.Marks.{markedIf}
@@ -32,7 +34,6 @@ use Rattle.trip_order.specs.Trips.{isOf, timedAt, nearLine, nearTimed, tripAt}
 use Rattle.trip_order.specs.Nearest.{noLine, isTrip, isTimed}
 use Rattle.trip_order.proofs.Laws.{last-agree, last-below}
 use Rattle.trip_order.proofs.Trips.{near-by-record, timed-by-record}
-use Rattle.trip_order.proofs.Walking.{line-here}
 use Rattle.judging.proofs.Stored.{given-stored}
 use Rattle.judging.proofs.Seen.{KindAt, SequenceAt, DepartsAt}
 use Rattle.judging.proofs.Judged.{time-judged}
@@ -183,18 +184,6 @@ marks-turn w s from at t sb stops x i r both seen timed seen′ timed′ h e b a
       room-timed = rw (ap length c ∙ marked-length both timed r (i + 1)) (m .room-timed);
     }
 
--- a walk that has come to the line with index i, which begins at byte `place`
-module _ (s : List ℕ) (from place i : ℕ) (here : drop i (linesFrom s from) ≡ linesFrom s place) where
-  pub line-inside : (a e m : ℕ) → LineStands s place a e m → i < length (linesFrom s from)
-  line-inside a e m stands =
-      let k : length (drop i (linesFrom s from)) ≡ suc (length (linesFrom s m)) = ap length (here ∙ stands .lines) in
-      omega (arith, length-drop i (linesFrom s from))
-
-  pub lines-done : linesFrom s place ≡ [] → length (linesFrom s from) ≤ i
-  lines-done none =
-      let k : length (drop i (linesFrom s from)) ≡ 0 = ap length (here ∙ none) in
-      omega (arith, length-drop i (linesFrom s from))
-
 -- what is left to be noted of a feed's stop_times, from the line with index i on
 unfoldable pub leftFrom : Place → Feed → ℕ → State → State
 leftFrom p w i st = noting p (onRecords 5 (timeRules w) i (length (w .stopTimes) - i)) st
@@ -204,12 +193,12 @@ pub record Come (p : Place) (s : List ℕ) (from : ℕ) (at : List ℕ) (t stops
   pub marks : Marks w seen timed i
   pub same : leftFrom p w i st ≡ leftFrom p w 0 st₀
 
-module _ (p : Place) (s : List ℕ) (from : ℕ) (at : List ℕ) (t stops : List ℤ) (w : Feed) (sb : List ℕ) (x : Context w s from at t sb stops) (place i a e m : ℕ) (here : drop i (linesFrom s from) ≡ linesFrom s place) (stands : LineStands s place a e m) where
+module _ (p : Place) (s : List ℕ) (from : ℕ) (at : List ℕ) (t stops : List ℤ) (w : Feed) (sb : List ℕ) (x : Context w s from at t sb stops) (place i a e m : ℕ) (left : linesFrom s place ≡ drop i (linesFrom s from)) (stands : LineStands s place a e m) where
   pub index-inside : i < length (w .stopTimes)
-  index-inside = rw (lines-after w s from at t sb stops x) at (line-inside s from place i here a e m stands)
+  index-inside = rw (lines-after w s from at t sb stops x) at (line-inside s (linesFrom s from) place i left a e m stands)
 
   pub says-here : Says w at (part s (bounds a e)) i
-  says-here k = rw (line-here s from place i a e m here stands) at (says-line w s from at t sb stops x i noLine index-inside k)
+  says-here k = rw (line-here s (linesFrom s from) place i left a e m stands noLine) at (says-line w s from at t sb stops x i noLine index-inside k)
 
   pub come-turn :
       (seen timed seen′ timed′ : List ℕ) (st st′ st₀ : State)
@@ -234,14 +223,8 @@ come-end p s from at t stops w i seen timed st st₀ h c =
 
 -- the header found: where the lines after it begin, and which columns it names
 module _ (s : List ℕ) (at a e n : ℕ) (is : at ≡ startOf s) (stands : LineStands s at a e n) where
-  header-first : linesOf s ≡ record { start = a; text = part s (bounds a e) } ∷ linesFrom s n
-  unfolding linesOf
-  header-first = rw (← is) (stands .lines)
-
   pub lines-few : length (linesFrom s n) ≤ countLf s
-  lines-few =
-      let k : length (linesOf s) ≡ suc (length (linesFrom s n)) = ap length header-first in
-      omega (arith, lines-all s)
+  lines-few = omega (arith, ap length (header-past s at is a e n stands), length-drop 1 (linesOf s), lines-all s)
 
   pub context-of :
       (w : Feed) (ps : List ℕ) (t : List ℤ) (sb : List ℕ) (stops : List ℤ)
@@ -249,20 +232,13 @@ module _ (s : List ℕ) (at a e n : ℕ) (is : at ≡ startOf s) (stands : LineS
       → Filled 5 w (w .stopTimes) s t
       → Filled 1 w (w .stops) sb stops
       → Context w s n ps t sb stops
-  unfolding headerOf
-  context-of w ps t sb stops p f g = record {
-    times = f;
-    places-of = g;
-    lines = rw header-first;
-    columns = λ k. rw (p, header-first) (places-at 5 (values (part s (bounds a e))) k);
-  }
+  context-of w ps t sb stops p f g =
+      let h = header-found s at is 5 ps a e n stands p in
+      record { times = f; places-of = g; lines = h .after; columns = h .columns }
 
 -- a file with a line has a header
 pub some-line : (w : Feed) (s : List ℕ) (t : List ℤ) {X : Type 0} → Filled 5 w (w .stopTimes) s t → (at : ℕ) → at ≡ startOf s → linesFrom s at ≡ [] → X
-unfolding linesOf
-some-line w s t f at is none =
-    let k : length (linesOf s) ≡ 0 = ap length (rw is at none) in
-    absurd (omega (arith, lines-all s, f .some))
+some-line w s t f at is none = absurd (omega (arith, no-header s at is none, f .some))
 
 -- before the first line no mark is set
 pub no-marks : (w : Feed) (seen timed : List ℕ) → ((k : ℕ) → getD seen k 0 ≡ 0) → ((k : ℕ) → getD timed k 0 ≡ 0) → length seen ≡ 65536 → length timed ≡ 65536 → length (w .trips) < 65536 → Marks w seen timed 0

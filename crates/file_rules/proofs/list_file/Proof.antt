@@ -4,7 +4,7 @@ use native.Mathlib.Omega.{arith}
 use Rattle.meaning.specs.Bytes.{part}
 use Rattle.columns.specs.Columns.{placesOf}
 use Rattle.text.proofs.Lines.{line-found, line-none}
-use Rattle.file_rules.proofs.Walk.{header-is, lines-after, no-header}
+use Rattle.text.proofs.Walk.{header-is, header-past, no-header}
 use borrow.Author.Needs.{needs}
 use Rattle.file_rules.proofs.list_file.Statement.{statement}
 use Rattle.file_rules.proofs.list_file.Tie as tie
@@ -45,7 +45,7 @@ list-lines-requires c κs =
       (a .0, (a .1 .0, (s .within, a .1 .1))),
       (
         c .before .before .columns-of .ensures .0 ∙ ap (placesOf _) (header-is _ _ o _ _ _ s),
-        lines-after _ _ o _ _ _ s,
+        header-past _ _ o _ _ _ s,
       ),
     )
 

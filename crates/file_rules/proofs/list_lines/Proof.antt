@@ -7,7 +7,8 @@ use lib.ListN.{length, drop}
 use Rattle.meaning.specs.Bytes.{part, countLf, linesFrom, linesOf}
 use Rattle.meaning.specs.Tables.{Feed}
 use Rattle.text.proofs.Lines.{line-found, line-none}
-use Rattle.tables.proofs.Turns.{walk-inside, walk-on}
+use Rattle.text.proofs.Walk.{line-next}
+use Rattle.tables.proofs.Turns.{walk-inside}
 use Rattle.listing.specs.Handing.{state}
 use Rattle.file_rules.specs.Lines.{Ready}
 use Rattle.file_rules.proofs.Walk.{Left, left-first, left-next, left-last}
@@ -101,7 +102,7 @@ loop-again c =
           left-next _ _ (l .i) (l .inv .1 .0) _ _ _ s _ (a .0 .0) (a .0 .1 .0) w _ (h .table) _ _ (a .1 .0) (c .before .before .before .before .before .before .before .before .before .before .before .before .count-lf .ensures .0) _ _ _ (c .before .before .before .before .before .before .before .before .before .before .before .numbers-of .ensures) (m .0)
           (λ g. c .before .before .before .judge-line .ensures w g (h .ends)) _ _ _ _ (n .0) (l .inv .0 w h),
       (
-        walk-on _ _ (l .i + 1) (l .inv .1 .0) _ _ _ s,
+        line-next _ _ _ (l .i + 1) (l .inv .1 .0) _ _ _ s,
         (s .within, (omega arith, (omega (arith, n .1, m .1), search needs))),
       ),
     )

@@ -4,9 +4,10 @@ use Rattle.meaning.specs.Bytes.{part, countLf, linesFrom, linesOf}
 use Rattle.meaning.specs.Columns.{places, headerOf}
 use Rattle.meaning.specs.Tables.{Feed, widthOf}
 use Rattle.text.proofs.Lines.{line-found, line-none}
+use Rattle.text.proofs.Walk.{line-next}
 use Rattle.tables.specs.Fill.{Refers}
 use Rattle.tables.specs.Walk.{written, walkedOf}
-use Rattle.tables.proofs.Turns.{two-wide, walk-inside, walk-room, walk-count, walk-size, walk-on, walk-turn, walk-past, walk-end}
+use Rattle.tables.proofs.Turns.{two-wide, walk-inside, walk-room, walk-count, walk-size, walk-turn, walk-past, walk-end}
 use Rattle.tables.proofs.Written.{written-wide}
 use lib.IntN.{ℤ}
 use mathlib.Core.Path.{_≡_, refl, sym, _∙_}
@@ -72,7 +73,7 @@ loop-again c =
     let h = line-found _ _ _ _ _ (sym (c .before .before .before .before .before .before .before .next-line .ensures) ∙ c .before .before .before .before .before .start .given .1) in (
       (omega arith, omega (arith, walk-inside (s .args .s .now) (l .here) (l .r) (l .inv .1 .0) _ _ _ h)),
       (
-        walk-on (s .args .s .now) (l .here) (l .r) (l .inv .1 .0) _ _ _ h,
+        line-next (s .args .s .now) _ (l .here) (l .r) (l .inv .1 .0) _ _ _ h,
         (
           omega arith,
           λ w lent refs e.

@@ -1,7 +1,8 @@
 -- `tables::read_header` meets its contract.
 use Rattle.meaning.specs.Bytes.{part}
 use Rattle.text.proofs.Lines.{line-found, line-none}
-use Rattle.tables.proofs.Turns.{header-found, header-none}
+use Rattle.text.proofs.Walk.{no-header}
+use Rattle.tables.proofs.Turns.{header-found}
 use mathlib.Core.Path.{sym, _∙_}
 use native.Mathlib.Omega.{arith}
 use borrow.Author.Needs.{needs}
@@ -37,7 +38,9 @@ unfolding part
 returns c = header-found _ _ (c .before .before .before .before .before .before .before .body-start .ensures .0) _ _ _ _ _ (line-found _ _ _ _ _ (sym (c .before .before .before .before .before .before .next-line .ensures) ∙ c .before .before .before .before .start .given .1)) (c .before .columns-of .ensures .0)
 
 returns-2 : tie.Need-returns-2
-returns-2 c = header-none _ _ (c .before .before .before .body-start .ensures .0) (c .before .before .before .before .before .pre .1) (line-none _ _ (sym (c .before .before .next-line .ensures) ∙ c .enum-told .given .1))
+returns-2 c =
+    let z = no-header _ _ (c .before .before .before .body-start .ensures .0) (line-none _ _ (sym (c .before .before .next-line .ensures) ∙ c .enum-told .given .1)) in
+    absurd (omega (arith, z, c .before .before .before .before .before .pre .1))
 
 pub read-header-spec : {M : Type 1} → statement M
 read-header-spec =

@@ -8,17 +8,17 @@ use lib.ListN.{length, drop}
 use Rattle.meaning.specs.Bytes.{linesFrom, part}
 use Rattle.meaning.specs.Tables.{Feed}
 use Rattle.text.proofs.Lines.{line-found, line-none}
+use Rattle.text.proofs.Walk.{line-inside, line-next, line-past}
 use Rattle.listing.specs.Handing.{state}
-use Rattle.trip_order.proofs.Walking.{line-next}
 use Rattle.time_rules.specs.Context.{Context, Marks}
-use Rattle.time_rules.proofs.Laws.{lines-after, line-inside, lines-done, Come, index-inside, says-here, come-turn, come-end}
+use Rattle.time_rules.proofs.Laws.{lines-after, Come, index-inside, says-here, come-turn, come-end}
 use Rattle.time_rules.proofs.walk.Statement.{statement}
 use Rattle.time_rules.proofs.walk.Tie as tie
 
 abbrev Inv-loop : tie.InvT-loop
 Inv-loop s from at t stops seen₀ timed₀ out₀ p sink₀ place₀ i₀ seen timed out sink place i =
     (place ≤ length s)
-    × ((drop i (linesFrom s from) ≡ linesFrom s place)
+    × ((linesFrom s place ≡ drop i (linesFrom s from))
     × ((i ≤ length (linesFrom s from))
     × ((sink .total ≤ sink₀ .total + 6 * i)
     × ((length seen ≡ length seen₀)
@@ -80,9 +80,9 @@ loop-again c =
     let n = c .before .before .before .before .before .before .before .before .note-time .ensures in (
       f .within,
       (
-        line-next _ (z .from) _ (l .i) _ _ _ h f,
+        line-next (z .s .now) _ (l .place) (l .i) h _ _ _ f,
         (
-          omega (arith, line-inside (z .s .now) (z .from) (l .place) (l .i) h _ _ _ f),
+          omega (arith, line-inside (z .s .now) (linesFrom (z .s .now) (z .from)) (l .place) (l .i) h _ _ _ f),
           (
             omega arith,
             (
@@ -124,7 +124,7 @@ returns c =
     let l = c .before .before .before .loop in
     let z = c .before .before .before .before .before .before .before .args in
     let none = line-none _ _ (sym (c .before .before .next-line .ensures) ∙ c .enum-told .given .1) in
-    let d = lines-done (z .s .now) (z .from) (l .place) (l .i) (l .inv .1 .0) none in (
+    let d = line-past (z .s .now) (linesFrom (z .s .now) (z .from)) (l .place) (l .i) (l .inv .1 .0) none in (
       λ w sb x m. come-end (z .p) (z .s .now) (z .from) (z .at) (z .t .now) (z .stops .now) w (l .i) _ _ _ _ (rw (lines-after w (z .s .now) (z .from) (z .at) (z .t .now) sb (z .stops .now) x) at d) (l .inv .1 .1 .1 .1 .1 .1 .1 w sb x m),
       (omega arith, (l .inv .1 .1 .1 .1 .0, l .inv .1 .1 .1 .1 .1 .0)),
     )

@@ -7,9 +7,10 @@ use borrow.Author.Needs.{needs}
 use lib.ListN.{length, getD, drop}
 use Rattle.meaning.specs.Bytes.{part, value, linesFrom}
 use Rattle.text.proofs.Lines.{line-found, line-none}
+use Rattle.text.proofs.Walk.{line-next}
 use Rattle.trip_order.specs.Ones.{lastOne}
 use Rattle.trip_order.specs.Nearest.{isTrip, isTimed}
-use Rattle.trip_order.proofs.Walking.{line-next, near-more, timed-more, line-left}
+use Rattle.trip_order.proofs.Walking.{near-more, timed-more, line-left}
 use Rattle.trip_order.proofs.nearest.Statement.{statement}
 use Rattle.trip_order.proofs.nearest.Tie as tie
 
@@ -17,7 +18,7 @@ abbrev Inv-loop : tie.InvT-loop
 Inv-loop s from at t n raw near₀ place₀ i₀ near place i =
     (i ≤ n)
     × ((place ≤ length s)
-    × ((drop i (linesFrom s from) ≡ linesFrom s place)
+    × ((linesFrom s place ≡ drop i (linesFrom s from))
     × ((near .line ≡ lastOne (isTrip s from (getD at 0 0) (value raw)) i)
     × (near .timed ≡ lastOne (λ j. isTrip s from (getD at 0 0) (value raw) j && isTimed t j) i))))
 
@@ -79,7 +80,7 @@ loop-again c =
       (
         s .within,
         (
-          line-next _ (c .before .before .before .before .before .before .before .before .before .before .before .before .args .from) _ (l .i) _ _ _ (l .inv .1 .1 .0) s,
+          line-next _ _ _ (l .i) (l .inv .1 .1 .0) _ _ _ s,
           (
             near-more _ _ _ _ _ _ _ (l .inv .1 .1 .0) s _ _ _ _ _ (ours .ensures) (timed .ensures) _ _ (l .inv .1 .1 .1 .0) (c .nearer .ensures .0),
             timed-more _ _ _ _ _ _ _ (l .inv .1 .1 .0) s _ _ _ _ _ (ours .ensures) (timed .ensures) _ _ (l .inv .1 .1 .1 .1) (c .nearer .ensures .1),
