@@ -1,5 +1,5 @@
-// Runs the whole check on feeds: both sides of each binding rule, pages, starting places, lists and a refusal.
-// A line of standard input is a title, after #, or a case: list length, starting place, and five files, each after a bar; `stdout` has what host/model answers.
+// Runs the whole check on feeds: both sides of each rule, tables, pages, starting places and lists; `stdout` has what host/model makes of them.
+// A line of standard input is a title, after #, or a case: list length, starting place, which table to write, and five files, each after a bar.
 use libc::STDIN_FILENO;
 use libc::STDOUT_FILENO;
 use meaning::Answer;
@@ -7,8 +7,25 @@ use meaning::Bounds;
 use meaning::Place;
 use text::LineStep;
 ghost use Prim.Native.Nat.{_<_, _≤_};
-ghost use lib.ListN.{length};
+ghost use mathlib.Core.Path.{_≡_};
+ghost use lib.ListN.{length, take};
 ghost use Rattle.io.specs.Counts.{Counts};
+
+// The feed without a finding that most cases differ from in one file: there = stands for the others.
+const STOPS: [u8; 64] = *b"stop_id,stop_name,stop_lat,stop_lon\nA,Alder,1.5,2\nB,Birch,1.6,2\n";
+
+const ROUTES: [u8; 43] = *b"route_id,route_short_name,route_type\nR,7,3\n";
+
+const CALENDAR: [u8; 122] =
+    *b"service_id,monday,tuesday,wednesday,thursday,friday,saturday,sunday,start_date,end_date\nW,1,1,1,1,1,0,0,20240101,20241231\n";
+
+const TRIPS: [u8; 34] = *b"route_id,service_id,trip_id\nR,W,T\n";
+
+const TIMES: [u8; 106] =
+    *b"trip_id,arrival_time,departure_time,stop_id,stop_sequence\nT,08:00:00,08:00:00,A,1\nT,08:05:00,08:05:00,B,2\n";
+
+// What every number of a table is as lent; no record has it.
+const LENT: i32 = -777;
 
 // Writes bytes.
 fn say(word: &[u8]) {
@@ -39,12 +56,63 @@ fn tell_answer(a: Answer) {
     }
 }
 
-// Writes the numbers of the list.
-fn tell_list(list: &[i32]) {
+// Writes a number of a table or list after a blank.
+fn tell_signed(z: i32) {
+    say(b" ");
+    if z < 0 {
+        say(b"-");
+    }
+    io::print_decimal(STDOUT_FILENO, num::size(z) as u64);
+}
+
+// Writes numbers.
+fn tell_numbers(t: &[i32]) {
     let mut i = 0;
-    while i < list.len() {
-        tell(num::nat(list[i]));
+    while i < t.len() {
+        tell_signed(t[i]);
         i += 1;
+    }
+}
+
+// How many numbers there are up to the last that isn't as lent.
+fn used(t: &[i32]) -> usize
+    ensures { λ r. ⌜ (r ≤ length (now (t .entry))) × (r ≡ length (take r (now (t .entry)))) ⌝ }
+{
+    let mut n = t.len();
+    while 0 < n {
+        if t[n - 1] != LENT {
+            return n;
+        }
+        n -= 1;
+    }
+    0
+}
+
+// Writes a table as far as it isn't as lent.
+fn tell_used(name: &[u8], t: &[i32]) {
+    say(name);
+    say(b":");
+    let n = used(t);
+    tell_numbers(&t[..n]);
+    say(b"\n");
+}
+
+// Writes the table of the file whose number is given; none for another mark.
+fn tell_table(
+    file: u8,
+    stops: &[i32],
+    routes: &[i32],
+    calendar: &[i32],
+    trips: &[i32],
+    stop_times: &[i32],
+) {
+    match file {
+        b'1' => tell_used(b"stops", stops),
+        b'2' => tell_used(b"routes", routes),
+        b'3' => tell_used(b"calendar", calendar),
+        b'4' => tell_used(b"trips", trips),
+        b'5' => tell_used(b"stop_times", stop_times),
+        _ => {}
     }
 }
 
@@ -207,7 +275,15 @@ fn part(s: &[u8], at: usize) -> Bounds
     }
 }
 
-// The check of five files with tables as lent.
+// A file, or the standard one where = stands for it.
+fn given<'a>(file: &'a [u8], standard: &'a [u8]) -> &'a [u8] {
+    if text::same_bytes(file, b"=") {
+        return standard;
+    }
+    file
+}
+
+// The check of five files with tables as lent, and the table that is asked for.
 fn check_files(
     stops: &[u8],
     routes: &[u8],
@@ -216,13 +292,14 @@ fn check_files(
     stop_times: &[u8],
     list: &mut [i32],
     from: Place,
+    told: u8,
 ) -> Answer {
-    let mut stops_table = [7i32; 256];
-    let mut routes_table = [7i32; 256];
-    let mut calendar_table = [7i32; 256];
-    let mut trips_table = [7i32; 256];
-    let mut stop_times_table = [7i32; 256];
-    tusuchiy::check(
+    let mut stops_table = [LENT; 256];
+    let mut routes_table = [LENT; 256];
+    let mut calendar_table = [LENT; 256];
+    let mut trips_table = [LENT; 256];
+    let mut stop_times_table = [LENT; 256];
+    let a = tusuchiy::check(
         stops,
         routes,
         calendar,
@@ -235,11 +312,43 @@ fn check_files(
         &mut stop_times_table,
         list,
         from,
+    );
+    tell_table(
+        told,
+        &stops_table,
+        &routes_table,
+        &calendar_table,
+        &trips_table,
+        &stop_times_table,
+    );
+    a
+}
+
+// The same, with the standard files for those that aren't given.
+fn check_given(
+    stops: &[u8],
+    routes: &[u8],
+    calendar: &[u8],
+    trips: &[u8],
+    stop_times: &[u8],
+    list: &mut [i32],
+    from: Place,
+    told: u8,
+) -> Answer {
+    check_files(
+        given(stops, &STOPS),
+        given(routes, &ROUTES),
+        given(calendar, &CALENDAR),
+        given(trips, &TRIPS),
+        given(stop_times, &TIMES),
+        list,
+        from,
+        told,
     )
 }
 
 // The check of five files, each after a bar.
-fn check_feed(s: &[u8], list: &mut [i32], from: Place) -> Answer {
+fn check_feed(s: &[u8], list: &mut [i32], from: Place, told: u8) -> Answer {
     let p = part(s, 0);
     let stops = p.start;
     let stops_end = p.end;
@@ -255,7 +364,7 @@ fn check_feed(s: &[u8], list: &mut [i32], from: Place) -> Answer {
     let p = part(s, trips_end);
     let times = p.start;
     let times_end = p.end;
-    check_files(
+    check_given(
         &s[stops..stops_end],
         &s[routes..routes_end],
         &s[calendar..calendar_end],
@@ -263,23 +372,24 @@ fn check_feed(s: &[u8], list: &mut [i32], from: Place) -> Answer {
         &s[times..times_end],
         list,
         from,
+        told,
     )
 }
 
 // The check with a list, and what both say.
-fn run_feed(s: &[u8], list: &mut [i32], from: Place) {
-    tell_answer(check_feed(s, list, from));
+fn run_feed(s: &[u8], list: &mut [i32], from: Place, told: u8) {
+    tell_answer(check_feed(s, list, from, told));
     say(b":");
-    tell_list(list);
+    tell_numbers(list);
     say(b"\n");
 }
 
 // The check with a list's first numbers.
-fn run_part(s: &[u8], list: &mut [i32], k: usize, from: Place) {
+fn run_part(s: &[u8], list: &mut [i32], k: usize, from: Place, told: u8) {
     if list.len() < k {
         return;
     }
-    run_feed(s, &mut list[..k], from);
+    run_feed(s, &mut list[..k], from, told);
 }
 
 // A case.
@@ -287,7 +397,13 @@ fn run_case(l: &[u8]) {
     let mut buf = io::buffer();
     let n = decode(l, 21, &mut buf);
     let mut list = [99i32; 64];
-    run_part(&buf[..n], &mut list, list_length(l), start_place(l));
+    run_part(
+        &buf[..n],
+        &mut list,
+        list_length(l),
+        start_place(l),
+        byte_at(l, 20),
+    );
 }
 
 // A title or a case.

@@ -6,9 +6,6 @@ use meaning::Date;
 use meaning::Degrees;
 use meaning::Number;
 use meaning::Time;
-ghost use mathlib.Core.Path.{_≡_};
-ghost use Prim.Native.Nat.{_≤_};
-ghost use lib.IntN.{ℤ, natAbs};
 
 // Writes bytes.
 fn say(word: &[u8]) {
@@ -25,27 +22,14 @@ fn refuse() {
     say(b"refused");
 }
 
-// The size of a coordinate.
-fn size(z: i32) -> u32
-    requires { ⌜ natAbs z ≤ 1800000000 ⌝ }
-    ensures { λ r. ⌜ r ≡ natAbs z ⌝ }
-{
-    if z < 0 {
-        return (0 - z) as u32;
-    }
-    z as u32
-}
-
 // Writes a coordinate.
-fn tell_degrees(d: Degrees)
-    requires { ⌜ ((z : ℤ) → d ≡ Degrees.TenMillionths z → natAbs z ≤ 1800000000) ⌝ }
-{
+fn tell_degrees(d: Degrees) {
     match d {
         Degrees::TenMillionths(z) => {
             if z < 0 {
                 say(b"-");
             }
-            tell(size(z));
+            io::print_decimal(STDOUT_FILENO, num::size(z) as u64);
         }
         Degrees::NoDegrees => refuse(),
     }

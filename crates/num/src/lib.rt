@@ -1,7 +1,7 @@
 // Casts between signed and unsigned numbers, and the order of signed ones.
 ghost use mathlib.Core.Path.{_≡_};
 ghost use Prim.Native.Nat.{_^_, _<_};
-ghost use lib.IntN.{pos, negsuc};
+ghost use lib.IntN.{pos, negsuc, natAbs};
 ghost use lib.Signed.{ltZ};
 ghost use Rattle.num.specs.Signs.{natOf};
 
@@ -34,6 +34,16 @@ pub fn nat(x: i32) -> usize
     ensures { λ r. ⌜ r < 2 ^ 32 ⌝ }
 {
     if x >= 0 { x as usize } else { 4294967295 }
+}
+
+// How far a number is from 0.
+pub fn size(x: i32) -> usize
+    ensures { λ r. ⌜ r ≡ natAbs x ⌝ }
+{
+    if x >= 0 {
+        return x as usize;
+    }
+    (-1 - x) as usize + 1
 }
 
 // Whether one signed number is below another.

@@ -7,6 +7,7 @@ pub mod faults;
 pub mod feeds;
 pub mod generate;
 pub mod large;
+pub mod lines;
 pub mod random;
 pub mod render;
 pub mod vectors;
