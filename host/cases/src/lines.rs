@@ -28,7 +28,8 @@ pub fn expected(input: &str) -> String {
 fn outcome(case: &str) -> String {
     let (head, files) = case.split_once('|').expect("a case has files");
     let start = [3, 9, 15].map(|place| start_number(&head[place..place + 5]));
-    let mut files = files.split('|').zip(STANDARD).map(|(file, standard)| bytes(if file == "=" { standard } else { file }));
+    let mut files =
+        files.split('|').zip(STANDARD).map(|(file, standard)| bytes(if file == "=" { standard } else { file }));
     let files: [Vec<u8>; 5] = std::array::from_fn(|_| files.next().expect("a case has five files"));
     let mut tables = std::array::from_fn(|_| vec![LENT[0]; 256]);
     let mut list = vec![LENT[1]; head[..2].parse().expect("a case begins with the list's length")];

@@ -16,6 +16,7 @@ tusuchiy: checks the five files of a GTFS feed
       --room N             one page: at most N findings
       --quiet              the verdict alone
   tusuchiy explain RULE    what a refusal (1 to 13) or a rule (20 to 31) means, and how to mend it
+  tusuchiy --version       the command's version
 
 Exit status: 0 accepted, 1 findings, 2 refused, 3 the command couldn't run.
 ";
@@ -32,6 +33,7 @@ pub enum Form {
 #[derive(Debug, PartialEq, Eq)]
 pub enum Command {
     Help,
+    Version,
     Explain(usize),
     Check { feed: PathBuf, form: Form, page: Option<Page> },
 }
@@ -43,6 +45,7 @@ pub fn parse(words: &[OsString]) -> Result<Command, String> {
     };
     match first.to_str() {
         Some("--help" | "-h" | "help") if rest.is_empty() => Ok(Command::Help),
+        Some("--version") if rest.is_empty() => Ok(Command::Version),
         Some("explain") => explain(rest),
         Some("check") => check(rest),
         _ => Err(format!("unknown command {}; there are check, explain and --help", shown(first))),
@@ -153,6 +156,7 @@ mod tests {
     #[test]
     fn good_words() {
         assert_eq!(parsed("--help"), Ok(Command::Help));
+        assert_eq!(parsed("--version"), Ok(Command::Version));
         assert_eq!(parsed("explain 31"), Ok(Command::Explain(31)));
         assert_eq!(parsed("check f"), checks(Form::Text, None));
         assert_eq!(parsed("check --json f"), checks(Form::Json, None));
@@ -184,6 +188,7 @@ mod tests {
             "explain x",
             "explain 1 2",
             "--help me",
+            "--version 2",
         ];
         for line in bad {
             assert!(parsed(line).is_err(), "{line}");

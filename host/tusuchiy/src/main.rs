@@ -33,6 +33,7 @@ fn main() -> ExitCode {
 fn run(command: Command) -> Result<u8, String> {
     match command {
         Command::Help => print(|out| out.write_all(arguments::HELP.as_bytes())).map(|()| 0),
+        Command::Version => print(|out| writeln!(out, "tusuchiy {}", env!("CARGO_PKG_VERSION"))).map(|()| 0),
         Command::Explain(number) => {
             let page = explain::page(number).ok_or_else(|| explain::no_such(number))?;
             print(|out| writeln!(out, "{page}")).map(|()| 0)

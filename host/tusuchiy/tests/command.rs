@@ -337,6 +337,12 @@ fn help_is_there() {
     }
 }
 
+#[test]
+fn version_is_there() {
+    let output = run(&["--version"]);
+    assert_eq!((status(&output), out(&output)), (0, "tusuchiy 0.1.0\n"));
+}
+
 /// Output that nobody can take is status 3, not a verdict.
 #[test]
 fn a_full_disk_is_no_verdict() {
