@@ -16,8 +16,8 @@ use Rattle.meaning.proofs.References.{named}
 use Rattle.meaning.proofs.ListLaws.{same-self}
 use Rattle.rows.specs.Cells.{natAt, timeAt}
 use Rattle.meaning.proofs.Readable.{getD-map-in}
-use Rattle.resolve.specs.First.{First, idIs}
-use Rattle.resolve.proofs.Laws.{find-held, find-first}
+use Rattle.seeking.specs.First.{First, idIs}
+use Rattle.seeking.proofs.First.{find-held, find-first}
 use Rattle.columns.specs.Columns.{startsOf, endsOf}
 use Rattle.columns.proofs.Laws.{cells-inside}
 use Rattle.tables.specs.Fill.{valueIn, Within}

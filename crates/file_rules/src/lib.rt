@@ -8,7 +8,7 @@ ghost use Rattle.meaning.specs.Columns.{headerOf};
 ghost use Rattle.meaning.specs.Tables.{Feed};
 ghost use Rattle.meaning.specs.Rules.{stopRules, routeRules, serviceRules, tripRules, rulesOf, bindingsOf};
 ghost use Rattle.rows.specs.Cells.{timeAt};
-ghost use Rattle.resolve.specs.First.{First, idIs};
+ghost use Rattle.seeking.specs.First.{First, idIs};
 ghost use Rattle.tables.specs.Fill.{valueIn, Within};
 ghost use Rattle.listing.specs.Handing.{state, noting};
 ghost use Rattle.judging.specs.Judging.{bothGiven, testsFrom};

@@ -14,7 +14,7 @@ use Rattle.meaning.specs.Columns.{Row, places, headerOf, rowOf}
 use Rattle.meaning.specs.Forms.{timeOf, dateOf, sequenceOf}
 use Rattle.meaning.specs.Tables.{Feed, widths, widthOf, recordOf, numbersOf, idPlace, stopNumbers, serviceNumbers, tripNumbers, timeNumbers, under, seconds, number, day, orZero, orMinus, refer, stopIds, routeIds, serviceIds, tripIds, locationType, parentStation, startDate, endDate, tripRoute, tripService, timeTrip, timeStop, stopSequence, arrivalTime, departureTime, timepoint, idColumn}
 use Rattle.meaning.specs.Rules.{row}
-use Rattle.resolve.specs.First.{Held}
+use Rattle.seeking.specs.First.{Held}
 use Rattle.tables.specs.Fill.{line}
 use Rattle.tables.proofs.Ids.{rows-count, row-of-line, cell-at, ids-held}
 use Rattle.held.specs.Held.{Filled}

@@ -20,7 +20,7 @@ use Rattle.text.proofs.Fields.{field-inside}
 use Rattle.meaning.proofs.Readable.{getD-map-in}
 use Rattle.rows.proofs.Records.{flat-length, laid-cell, rows-length, record-wide}
 use Rattle.columns.proofs.Laws.{row-at}
-use Rattle.resolve.specs.First.{IdAt, Held}
+use Rattle.seeking.specs.First.{IdAt, Held}
 use Rattle.tables.specs.Fill.{line, Lists}
 use Rattle.tables.specs.Walk.{placeOf, tabled}
 use Rattle.tables.proofs.Turns.{two-wide, wide, table-length, table-at}

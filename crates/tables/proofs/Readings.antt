@@ -16,8 +16,8 @@ use Rattle.meaning.specs.Columns.{rowOf}
 use Rattle.meaning.specs.Forms.{choiceOf}
 use Rattle.meaning.specs.Tables.{Feed, widthOf, recordOf, picked, oneIf, choiceOr, refer, packFrom, packedDays}
 use Rattle.rows.specs.Cells.{putAt}
-use Rattle.resolve.specs.First.{First, names}
-use Rattle.resolve.proofs.Laws.{refer-held}
+use Rattle.seeking.specs.First.{First, names}
+use Rattle.seeking.proofs.First.{refer-held}
 use Rattle.tables.specs.Fill.{valueIn, Located, Lists}
 use Rattle.tables.specs.Walk.{waiting, written}
 use Rattle.tables.proofs.LineRecords.{in-row}

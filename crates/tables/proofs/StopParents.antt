@@ -21,7 +21,7 @@ use Rattle.forms.proofs.Laws.{choice-fits, no-choice}
 use Rattle.columns.proofs.Laws.{row-at}
 use Rattle.rows.specs.Cells.{putAt, natAt}
 use Rattle.rows.proofs.Records.{flat-append, flat-length, wide-take, record-wide}
-use Rattle.resolve.proofs.Laws.{held-as}
+use Rattle.seeking.proofs.First.{held-as}
 use Rattle.text.proofs.Fields.{field-inside}
 use Rattle.text.proofs.Lines.{lines-all}
 use Rattle.tables.specs.Fill.{Lists}

@@ -8,7 +8,7 @@ use Rattle.meaning.specs.declared.Bounds.{Bounds}
 use Rattle.meaning.specs.Bytes.{bounds, part, value, countLf, Line, linesFrom, linesOf}
 use Rattle.meaning.specs.Columns.{fieldAt, places, headerOf}
 use Rattle.meaning.specs.Tables.{Feed, stopIds, routeIds, serviceIds, tripIds, widthOf}
-use Rattle.resolve.specs.First.{Held}
+use Rattle.seeking.specs.First.{Held}
 
 -- a line that starts at a byte
 abbrev pub line : ℕ → List ℕ → Line

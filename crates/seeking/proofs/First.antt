@@ -15,7 +15,7 @@ use Rattle.meaning.specs.Bytes.{part, value}
 use Rattle.meaning.specs.Tables.{refer}
 use Rattle.meaning.proofs.ListLaws.{both}
 use Rattle.meaning.proofs.References.{First as FirstPlace, absent, found, find-first as first-place}
-use Rattle.resolve.specs.First.{First, IdAt, Held, valueIs, idIs, names}
+use Rattle.seeking.specs.First.{First, IdAt, Held, valueIs, idIs, names}
 use Rattle.rows.specs.Cells.{natAt, boundsAt}
 
 pub false-true : {X : Type 0} → false ≡ true → X

@@ -1,2 +1,0 @@
--- What a reference names, with no search in it.
-pub mod First

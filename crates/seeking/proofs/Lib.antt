@@ -1,0 +1,3 @@
+-- Laws of the first record, and of the search.
+pub mod First
+pub mod Laws
