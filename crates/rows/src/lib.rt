@@ -42,7 +42,7 @@ impl Stops {
         row.0 * Stops::WIDTH
     }
 
-    // The record of a line.
+    // The record of a line, but for its parent, number 5, which is settled before.
     pub fn put(
         t: &mut [i32],
         row: StopRow,
@@ -50,12 +50,11 @@ impl Stops {
         latitude: i32,
         longitude: i32,
         kind: u32,
-        parent: StopRow,
     )
-        requires { ⌜ row .0 * 6 + 6 ≤ length (now t) ⌝ }
-        requires { ⌜ (id .start < 2 ^ 31) × ((id .end < 2 ^ 31) × ((kind < 2 ^ 31) × (parent .0 < 2 ^ 31))) ⌝ }
+        requires { ⌜ row .0 * 6 + 5 ≤ length (now t) ⌝ }
+        requires { ⌜ (id .start < 2 ^ 31) × ((id .end < 2 ^ 31) × (kind < 2 ^ 31)) ⌝ }
         ensures { λ _. ⌜ now (t .exit) ≡ putAt (now (t .entry)) (row .0 * 6)
-            (pos (id .start) ∷ pos (id .end) ∷ latitude ∷ longitude ∷ pos kind ∷ pos (parent .0) ∷ []) ⌝ }
+            (pos (id .start) ∷ pos (id .end) ∷ latitude ∷ longitude ∷ pos kind ∷ []) ⌝ }
     {
         let r = [
             id.start as i32,
@@ -63,7 +62,6 @@ impl Stops {
             latitude,
             longitude,
             kind as i32,
-            parent.0 as i32,
         ];
         cells::store(t, Stops::place(row), &r);
     }

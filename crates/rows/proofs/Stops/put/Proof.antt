@@ -14,17 +14,14 @@ use Rattle.rows.proofs.Stops.put.Lts as lts
 use Rattle.rows.proofs.Stops.place.Reads as place-reads
 use Rattle.rows.proofs.cells.store.Reads as store-reads
 
+cast-t8 : tie.Need-cast-t8
+cast-t8 c = search needs
+
 cast-t9 : tie.Need-cast-t9
 cast-t9 c = search needs
 
 cast-t10 : tie.Need-cast-t10
 cast-t10 c = search needs
-
-cast-t11 : tie.Need-cast-t11
-cast-t11 c = search needs
-
-cast-t12 : tie.Need-cast-t12
-cast-t12 c = search needs
 
 place-requires : tie.Need-place-requires
 place-requires c κs = search needs
@@ -41,27 +38,25 @@ same-length c = search needs
 returns : tie.Need-returns
 returns c =
     let p = c .before .before .before in
-    let s = p .before .before .before .before .before in
+    let s = p .before .before .before .before in
     let small = s .pre .1 in
     c .before .store .ensures
     ∙ simp (
-      p .place .ensures,
-      toZ-pos w32 _ (small .0),
-      toZ-pos w32 _ (small .1 .0),
-      toZ-ofZ w32 _ (s .fits .latitude),
-      toZ-ofZ w32 _ (s .fits .longitude),
-      toZ-pos w32 _ (small .1 .1 .0),
-      toZ-pos w32 _ (small .1 .1 .1),
+    p .place .ensures,
+    toZ-pos w32 _ (small .0),
+    toZ-pos w32 _ (small .1 .0),
+    toZ-ofZ w32 _ (s .fits .latitude),
+    toZ-ofZ w32 _ (s .fits .longitude),
+    toZ-pos w32 _ (small .1 .1),
     )
 
 pub put-spec : {M : Type 1} → statement M
 put-spec =
     tie.close
     (tie.spec
+    cast-t8
     cast-t9
     cast-t10
-    cast-t11
-    cast-t12
     place-requires
     slice-aggregate-store
     store-requires
