@@ -17,50 +17,13 @@ use Rattle.ranking.specs.declared.Order.{Order}
 use Rattle.ranking.specs.declared.Order.the-variants.{Less, Equal, Greater}
 use Rattle.ranking.specs.Ranks.{before, compare, ranked, settle}
 use Rattle.ranking.proofs.Laws.{compare-ranked, compare-equal, less-before, before-trans, before-irreflexive}
-use Rattle.ordering.specs.Cells.{cell, Room, Kept, Moved}
-use Rattle.ordering.specs.Ids.{idOf, noLater, Sorted, Stands, Whole, Placed, Arranged}
-use Rattle.ordering.proofs.Laws.{Alike, yes, no, alike, row-fits, put-here, put-other, put-kept, room-kept, kept-trans, kept-ids, moved-whole}
+use Rattle.ordering.specs.Cells.{cell, Kept}
+use Rattle.ordering.specs.Ids.{idOf, noLater, inOrder, Sorted, Stands, Whole, Placed, Arranged}
+use Rattle.ordering.proofs.Laws.{Alike, yes, no, alike, row-fits}
 use Rattle.num.specs.Signs.{natOf}
 use Rattle.seeking.specs.First.{First, idIs, valueIs, Held}
 use Rattle.seeking.proofs.First.{held-as}
-use Rattle.seeking.specs.Seek.{Lower, Listed}
-
--- ---- the order that a table begins with
-
-pub list-none : (w : ℕ) (t : List ℤ) → Listed w 0 t
-unfolding Listed
-list-none w t i a b = absurd (omega arith)
-
-pub list-turn : (w n i : ℕ) (t : List ℤ) → Room w i t → 0 < i → i ≤ n → Listed w (i - 1) t → Listed w (i + 1 - 1) (set t (i * w + 2) (pos i)) × Kept w n t (set t (i * w + 2) (pos i))
-unfolding Listed
-list-turn w n i t r h m l = ((λ k a b. go k (alike k i) a b), put-kept t w i (pos i) (r .wide) n h m)
-  where
-    go : (k : ℕ) → Alike k i → 0 < k → k ≤ i + 1 - 1 → cell (set t (i * w + 2) (pos i)) w k ≡ k
-    go k (yes e) a b = rw e (put-here t w i (pos i) (r .wide) (r .rows))
-    go k (no e) a b = put-other t w i (pos i) (r .wide) k e ∙ l k a (omega (arith, e))
-
-pub list-end : (w n i : ℕ) (t : List ℤ) → n < i → Listed w (i - 1) t → Listed w n t
-unfolding Listed
-list-end w n i t h l k a b = l k a (omega arith)
-
-pub listed-whole : (w n : ℕ) (t : List ℤ) → Listed w n t → Whole (cell t w) n
-unfolding Listed
-listed-whole w n t l = record {
-  within = λ i a b. rw (l i a b) (a, b);
-  each = λ x a b. record { place = x; low = a; high = b; is = l x a b };
-}
-
-pub arranged : (s : List ℕ) (w n : ℕ) (t u v : List ℤ) → Room w n t → n < 2 ^ 31 → Listed w n u → Kept w n t u
-    → Sorted (noLater (idOf s u w)) (cell v w) n → Moved n (cell u w) (cell v w) → Kept w n u v → Arranged s w n v × Kept w n t v
-arranged s w n t u v r f l k p m q = (
-  record {
-    room = room-kept (kept-trans k q) r;
-    few = f;
-    whole = moved-whole m (listed-whole w n u l);
-    sorted = subst (λ (d : ℕ → List ℕ). Sorted (noLater d) (cell v w) n) (sym (kept-ids s (r .wide) q)) p;
-  },
-  kept-trans k q,
-)
+use Rattle.seeking.specs.Seek.{Lower}
 
 -- ---- what a comparison tells
 
@@ -295,9 +258,11 @@ module _ (s : List ℕ) (w n : ℕ) (t u : List ℤ) (size : length u ≡ length
           rw (a, same3 r 1 (omega arith))
 
   pub arranged-as : Arranged s w n t → Arranged s w n u
+  unfolding inOrder
   arranged-as a = record {
     room = record { wide = a .room .wide; narrow = a .room .narrow; rows = rw size (a .room .rows) };
     few = a .few;
     whole = rw cells-as (a .whole);
+    apart = rw cells-as (a .apart);
     sorted = subst (λ (f : ℕ → ℕ). Sorted (noLater (idOf s u w)) f n) (sym cells-as) (subst (λ (d : ℕ → List ℕ). Sorted (noLater d) (cell t w) n) (sym ids-as) (a .sorted));
   }
