@@ -1,0 +1,32 @@
+-- Marks of records: a number for each record, a bit of it for each mark.
+use Prim.Native.Nat.{ℕ, _/_, _%_, _^_, _<_}
+use mathlib.Core.Path.{_≡_}
+use mathlib.Core.List.{List}
+use mathlib.Core.Bool.{Bool, true, false}
+use lib.ListN.{length, getD}
+use lib.Dec.{eqb}
+
+-- as many entries as a file can have lines, by rule 2
+abbrev pub entries : ℕ
+entries = 65536
+
+-- has record r mark b
+unfoldable pub marked : List ℕ → ℕ → ℕ → Bool
+marked m b r = eqb (getD m r 0 / 2 ^ b % 2) 1
+
+-- no record has a mark
+abbrev pub Blank : List ℕ → Type 0
+Blank m = (b r : ℕ) → marked m b r ≡ false
+
+-- mark b of record r is set, if it has an entry, and nothing else changes
+pub record OneMore (m m′ : List ℕ) (b r : ℕ) : Type 0 where
+  pub size : length m′ ≡ length m
+  pub here : r < length m → marked m′ b r ≡ true
+  pub other : (c q : ℕ) → (c ≡ b → q ≡ r → ⊥) → marked m′ c q ≡ marked m c q
+
+-- mark f, for files 1 to 6, is that the id of the line repeats an earlier one of file f; 7, that the stop has a parent; 8, that both names of the route are empty
+abbrev pub parentMark : ℕ
+parentMark = 7
+
+abbrev pub namelessMark : ℕ
+namelessMark = 8

@@ -1,0 +1,20 @@
+-- What the marks say of a feed.
+use Prim.Native.Nat.{ℕ, _+_, _≤_, _<_}
+use mathlib.Core.Path.{_≡_}
+use mathlib.Core.List.{List, [], _∷_}
+use mathlib.Core.Bool.{not}
+use lib.ListN.{length, getD}
+use Rattle.meaning.specs.Lists.{empty}
+use Rattle.meaning.specs.Tables.{Feed, stopIds, routeIds, serviceIds, tripIds, parentStation}
+use Rattle.meaning.specs.Rules.{row, rule20, rule25, recordCount}
+use Rattle.marks.specs.Marks.{marked, parentMark, namelessMark}
+
+-- the ids of file f
+unfoldable pub idsIn : Feed → ℕ → List (List ℕ)
+idsIn w f = getD ([] ∷ stopIds w ∷ routeIds w ∷ serviceIds w ∷ tripIds w ∷ []) f []
+
+-- the record of the line with index i, i + 1, is marked for what the line's text, or those before it, say
+pub record Noted (w : Feed) (m : List ℕ) : Type 0 where
+  pub repeats : (f i : ℕ) → 1 ≤ f → f ≤ 4 → i < recordCount w f → marked m f (i + 1) ≡ rule20 (idsIn w f) i
+  pub parents : (i : ℕ) → i < length (w .stops) → marked m parentMark (i + 1) ≡ not (empty (parentStation (row (w .stops) i)))
+  pub nameless : (i : ℕ) → i < length (w .routes) → marked m namelessMark (i + 1) ≡ rule25 w i

@@ -1,0 +1,40 @@
+// Marks: what only a line's text or the order of its file's ids can tell of a record, a bit each in one array that all files share.
+ghost use mathlib.Core.Path.{_≡_};
+ghost use Prim.Native.Nat.{_<_};
+ghost use Rattle.marks.specs.Marks.{marked, Blank, OneMore};
+
+// As many entries as a file can have lines, by rule 2: record r of any file has entry r.
+pub const ENTRIES: usize = 65536;
+
+// Mark f, of files 1 to 6: the id of the line stands on an earlier one of file f. The marks from 7 on have names.
+pub const PARENT: usize = 7;
+
+pub const NAMELESS: usize = 8;
+
+// No record is marked.
+pub fn blank() -> [u16; ENTRIES]
+    ensures { λ r. ⌜ Blank r ⌝ }
+{
+    [0u16; ENTRIES]
+}
+
+// Has record r mark b? None has that has no entry.
+pub fn is_marked(m: &[u16], b: usize, r: usize) -> bool
+    requires { ⌜ b < 16 ⌝ }
+    ensures { λ x. ⌜ x ≡ marked (now (m .entry)) b r ⌝ }
+{
+    if r < m.len() {
+        return (m[r] >> b) % 2 == 1;
+    }
+    false
+}
+
+// Record r gets mark b, if it has an entry.
+pub fn mark(m: &mut [u16], b: usize, r: usize)
+    requires { ⌜ b < 16 ⌝ }
+    ensures { λ _. ⌜ OneMore (now (m .entry)) (now (m .exit)) b r ⌝ }
+{
+    if r < m.len() {
+        m[r] = m[r] | (1u16 << b);
+    }
+}
