@@ -2,12 +2,12 @@
 use mathlib.Core.Path.{_≡_, refl, sym, ap, _∙_, subst, fun-ext}
 use mathlib.Core.Bool.{Bool, true, false}
 use mathlib.Core.List.{List}
-use Prim.Native.Nat.{ℕ, _+_, _*_, _-_, _^_, _≤_, _<_}
+use Prim.Native.Nat.{ℕ, _+_, _*_, _-_, _≤_, _<_}
 use native.Mathlib.Omega.{arith}
 use native.Mathlib.Nat.{add-zero}
 use lib.Dec.{leb}
 use lib.IntN.{ℤ, pos}
-use lib.ListN.{length, getD, set}
+use lib.ListN.{length, getD}
 use borrow.Author.Tests.{le-leb, leb-true, leb-false}
 use Rattle.meaning.specs.Lists.{same}
 use Rattle.meaning.specs.Bytes.{part, value}
@@ -71,7 +71,7 @@ pub record Halving (id : ℕ → List ℕ) (f : ℕ → ℕ) (n : ℕ) (v : List
   pub above : (k : ℕ) → hi ≤ k → k ≤ n → before (id (f k)) v ≡ false
 
 -- a record that comes no later than one before v is before v
-earlier : (id : ℕ → List ℕ) (x y : ℕ) (v : List ℕ) → noLater id x y ≡ true → before (id y) v ≡ true → before (id x) v ≡ true
+pub earlier : (id : ℕ → List ℕ) (x y : ℕ) (v : List ℕ) → noLater id x y ≡ true → before (id y) v ≡ true → before (id x) v ≡ true
 unfolding noLater settle
 earlier id x y v h b = go (compare (id x) (id y)) refl h
   where
@@ -81,7 +81,7 @@ earlier id x y v h b = go (compare (id x) (id y)) refl h
     go Greater e g = both false g refl
 
 -- a record that comes no later than one with an id that it is not before has that id, and is no later a record
-tied : (id : ℕ → List ℕ) (x y : ℕ) → noLater id x y ≡ true → before (id x) (id y) ≡ false → (id x ≡ id y) × (x ≤ y)
+pub tied : (id : ℕ → List ℕ) (x y : ℕ) → noLater id x y ≡ true → before (id x) (id y) ≡ false → (id x ≡ id y) × (x ≤ y)
 unfolding noLater settle
 tied id x y h b = go (compare (id x) (id y)) refl h
   where

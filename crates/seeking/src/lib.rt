@@ -11,7 +11,7 @@ use ordering::By;
 use ranking::Order;
 
 // The number of a record in which its file's order by id has a cell.
-const CELL: usize = 2;
+pub const CELL: usize = 2;
 
 // The order of n records by id, whatever their cells held.
 pub fn arrange(s: &[u8], t: &mut [i32], w: usize, n: usize)
