@@ -1,10 +1,10 @@
 -- Laws: judged by what its tables hold, a line breaks exactly the rules that the definitions say.
-use Prim.Native.Nat.{ℕ, _+_, _-_, _≤_, _<_}
+use Prim.Native.Nat.{ℕ, _-_, _≤_, _<_}
 use mathlib.Core.Path.{_≡_, refl, sym, ap, _∙_}
-use mathlib.Core.List.{List, [], _∷_, map}
+use mathlib.Core.List.{List, [], _∷_}
 use mathlib.Core.Bool.{Bool, true, false, not, _&&_, _||_}
 use native.Mathlib.Omega.{arith}
-use lib.ListN.{length, length-map}
+use lib.ListN.{length}
 use lib.Dec.{leb, ltb, eqb}
 use borrow.Author.Tests.{eqb-false}
 use Rattle.num.specs.Signs.{natOf}
@@ -12,15 +12,15 @@ use Rattle.meaning.specs.declared.Time.{Time}
 use Rattle.meaning.specs.Lists.{firstHas, lastHas}
 use Rattle.meaning.specs.Columns.{Row}
 use Rattle.meaning.specs.Forms.{timeOf, dateOf}
-use Rattle.meaning.specs.Tables.{Feed, stopIds, routeIds, serviceIds, tripIds, refer, stopId, routeId, serviceId, parentStation, startDate, endDate, tripId, timeTrip, arrivalTime, departureTime, timeStop, timepoint, orMinus}
-use Rattle.meaning.specs.Rules.{row, rule20, dangling, rule21·stops, rule21·trips, rule21·times, kindOf, otherKind, rule22, rule23, rule24, rule25, given, secondsOf, timed, untimed, arrives, departs, rule26, rule27, sequence, rule28, rule29, ofTrip, ofTripLine, firstOfTrip, rule30, rule31, stopRules, routeRules, serviceRules, tripRules, timeRules}
-use Rattle.meaning.proofs.References.{twentieth, dangling-refer}
+use Rattle.meaning.specs.Tables.{Feed, stopIds, refer, parentStation, startDate, endDate, tripId, timeTrip, arrivalTime, departureTime, timeStop, timepoint, orMinus}
+use Rattle.meaning.specs.Rules.{row, dangling, rule21·stops, rule21·trips, rule21·times, kindOf, otherKind, rule22, rule23, rule24, given, secondsOf, timed, untimed, arrives, departs, rule26, rule27, sequence, rule28, rule29, ofTrip, ofTripLine, firstOfTrip, rule30, rule31, stopRules, routeRules, serviceRules, tripRules, timeRules}
+use Rattle.meaning.proofs.References.{dangling-refer}
 use Rattle.trip_order.specs.Trips.{timedAt, nearLine, nearTimed}
 use Rattle.trip_order.proofs.Laws.{atOne}
 use Rattle.trip_order.proofs.Trips.{rule28-near, rule29-near, few-lines, first-line, last-line}
-use Rattle.judging.specs.Judging.{repeated, loose, offKind, openEnd, bothGiven, halfTimed, notAbove, sooner, overtakes, stopJudged, routeJudged, serviceJudged, tripJudged, timeJudged, testsFrom}
+use Rattle.judging.specs.Judging.{loose, offKind, openEnd, bothGiven, halfTimed, notAbove, sooner, overtakes, stopJudged, routeJudged, serviceJudged, tripJudged, timeJudged, testsFrom}
 use Rattle.judging.proofs.Stored.{kind-number, one-number, day-number, sequence-number, given-stored, seconds-stored}
-use Rattle.judging.proofs.Seen.{IsFirst, Refers, KindAt, IsTime, IsSequence, SequenceAt, DepartsAt, StopSeen, RouteSeen, ServiceSeen, TripLines, TripSeen, TimeSeen}
+use Rattle.judging.proofs.Seen.{Refers, KindAt, IsTime, IsSequence, SequenceAt, DepartsAt, StopSeen, RouteSeen, ServiceSeen, TripLines, TripSeen, TimeSeen}
 
 -- ---- one rule
 
@@ -32,9 +32,6 @@ unless false b c h = h refl
 -- a test that is asked only of what is there
 asked : (k : ℕ) (b c : Bool) → ((k ≡ 0 → ⊥) → b ≡ c) → (not (eqb k 0) && b) ≡ (not (eqb k 0) && c)
 asked k b c h = unless (eqb k 0) b c (λ e. h (eqb-false k 0 e))
-
-repeated-is : (id : Row → List ℕ) (rs : List Row) (i first : ℕ) → i < length rs → IsFirst (map id rs) i first → rule20 (map id rs) i ≡ repeated (i + 1) first
-repeated-is id rs i first h e = rw e (twentieth (map id rs) i (rw length-map h))
 
 loose-is : {v : List ℕ} {ids : List (List ℕ)} {none : Bool} {k : ℕ} → Refers v ids none k → dangling v ids ≡ loose none k
 loose-is {v} {ids} e = rw (e .bare, e .resolves) (dangling-refer v ids)
@@ -127,16 +124,15 @@ not-above-is w i n k m h s e g =
 
 module _ {w : Feed} {i : ℕ} where
   pub stop-judged :
-      {first : ℕ} {none : Bool} {parent kind parentKind : ℕ}
-      → i < length (w .stops)
-      → StopSeen w i first none parent kind parentKind
-      → stopRules w i ≡ testsFrom (20 ∷ 21 ∷ 22 ∷ 0 ∷ 0 ∷ 0 ∷ []) (stopJudged (i + 1) first none parent kind parentKind) 3
-  unfolding stopRules testsFrom stopJudged rule21·stops rule22 stopIds
-  stop-judged {first} {none} {parent} {kind} {parentKind} h s =
+      {repeats none : Bool} {parent kind parentKind : ℕ}
+      → StopSeen w i repeats none parent kind parentKind
+      → stopRules w i ≡ testsFrom (20 ∷ 21 ∷ 22 ∷ 0 ∷ 0 ∷ 0 ∷ []) (stopJudged repeats none parent kind parentKind) 3
+  unfolding stopRules testsFrom stopJudged rule21·stops rule22
+  stop-judged {repeats} {none} {parent} {kind} {parentKind} s =
       let v = parentStation (row (w .stops) i) in
       let e : kindOf (row (w .stops) i) ≡ kind = sym (s .kinds ∙ kind-number (row (w .stops) i)) in
       rw (
-        repeated-is stopId (w .stops) i first h (s .is-first),
+        ← s .again,
         loose-is (s .parents),
         off-kind-is w 1 v parent parentKind (s .parents .resolves) (s .parent-kinds),
         e,
@@ -144,45 +140,34 @@ module _ {w : Feed} {i : ℕ} where
       )
 
   pub route-judged :
-      {first : ℕ} {noShort noLong : Bool}
-      → i < length (w .routes)
-      → RouteSeen w i first noShort noLong
-      → routeRules w i ≡ testsFrom (20 ∷ 25 ∷ 0 ∷ 0 ∷ 0 ∷ 0 ∷ []) (routeJudged (i + 1) first noShort noLong) 2
-  unfolding routeRules testsFrom routeJudged rule25 routeIds
-  route-judged {first} {noShort} {noLong} h s =
-      rw (repeated-is routeId (w .routes) i first h (s .is-first), s .shorts, s .longs)
+      {repeats nameless : Bool}
+      → RouteSeen w i repeats nameless
+      → routeRules w i ≡ testsFrom (20 ∷ 25 ∷ 0 ∷ 0 ∷ 0 ∷ 0 ∷ []) (routeJudged repeats nameless) 2
+  unfolding routeRules testsFrom routeJudged
+  route-judged s = rw (← s .again, ← s .names)
 
   pub service-judged :
-      {first start end : ℕ}
-      → i < length (w .calendar)
-      → ServiceSeen w i first start end
-      → serviceRules w i ≡ testsFrom (20 ∷ 24 ∷ 0 ∷ 0 ∷ 0 ∷ 0 ∷ []) (serviceJudged (i + 1) first start end) 2
-  unfolding serviceRules testsFrom serviceJudged rule24 serviceIds
-  service-judged {first} {start} {end} h s =
+      {repeats : Bool} {start end : ℕ}
+      → ServiceSeen w i repeats start end
+      → serviceRules w i ≡ testsFrom (20 ∷ 24 ∷ 0 ∷ 0 ∷ 0 ∷ 0 ∷ []) (serviceJudged repeats start end) 2
+  unfolding serviceRules testsFrom serviceJudged rule24
+  service-judged {repeats} {start} {end} s =
       let r = row (w .calendar) i in
-      rw (
-        repeated-is serviceId (w .calendar) i first h (s .is-first),
-        s .starts,
-        s .ends,
-        day-number (dateOf (startDate r)),
-        day-number (dateOf (endDate r)),
-      )
+      rw (← s .again, s .starts, s .ends, day-number (dateOf (startDate r)), day-number (dateOf (endDate r)))
 
   pub trip-judged :
-      {first : ℕ} {noRoute : Bool} {route : ℕ} {noService : Bool} {service firstLine lastLine : ℕ} {firstTimed lastTimed : Bool}
-      → i < length (w .trips)
-      → TripSeen w i first noRoute route noService service firstLine lastLine firstTimed lastTimed
-      → tripRules w i ≡ testsFrom (20 ∷ 21 ∷ 30 ∷ 31 ∷ 0 ∷ 0 ∷ []) (tripJudged (i + 1) first noRoute route noService service firstLine lastLine firstTimed lastTimed) 4
-  unfolding tripRules testsFrom tripJudged rule21·trips rule30 rule31 firstOfTrip ofTripLine tripIds
-  trip-judged {first} {noRoute} {route} {noService} {service} {firstLine} {lastLine} {firstTimed} {lastTimed} h s =
-      let v = tripId (row (w .trips) i) in
-      let rs = ofTrip v (w .stopTimes) in
+      {repeats : Bool} {route service firstLine lastLine : ℕ} {firstTimed lastTimed : Bool}
+      → TripSeen w i repeats route service firstLine lastLine firstTimed lastTimed
+      → tripRules w i ≡ testsFrom (20 ∷ 21 ∷ 30 ∷ 31 ∷ 0 ∷ 0 ∷ []) (tripJudged repeats route service firstLine lastLine firstTimed lastTimed) 4
+  unfolding tripRules testsFrom tripJudged rule21·trips rule30 rule31 firstOfTrip ofTripLine
+  trip-judged {repeats} {route} {service} {firstLine} {lastLine} {firstTimed} {lastTimed} s =
+      let rs = ofTrip (tripId (row (w .trips) i)) (w .stopTimes) in
       rw (
-        repeated-is tripId (w .trips) i first h (s .is-first),
+        ← s .again,
         loose-is (s .routed),
         loose-is (s .served),
-        unless (repeated (i + 1) first) (ltb (length rs) 2) (eqb firstLine lastLine) (λ e. few-is (s .lines e)),
-        unless (repeated (i + 1) first) (firstHas untimed rs || lastHas untimed rs) (openEnd firstLine firstTimed || openEnd lastLine lastTimed) (λ e. ends-are (s .lines e)),
+        unless repeats (ltb (length rs) 2) (eqb firstLine lastLine) (λ e. few-is (s .lines e)),
+        unless repeats (firstHas untimed rs || lastHas untimed rs) (openEnd firstLine firstTimed || openEnd lastLine lastTimed) (λ e. ends-are (s .lines e)),
       )
 
   pub time-judged :

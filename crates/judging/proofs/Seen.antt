@@ -1,23 +1,18 @@
 -- What the arguments of a judgement are to be: what the tables hold of a line.
-use Prim.Native.Nat.{ℕ, _+_, _-_}
+use Prim.Native.Nat.{ℕ, _-_}
 use mathlib.Core.Path.{_≡_}
-use mathlib.Core.List.{List, []}
+use mathlib.Core.List.{List}
 use mathlib.Core.Bool.{Bool, false}
-use lib.ListN.{length, getD}
-use lib.Dec.{ltb}
+use lib.ListN.{length}
 use Rattle.num.specs.Signs.{natOf}
 use Rattle.meaning.specs.declared.Time.{Time}
-use Rattle.meaning.specs.Lists.{empty, find}
+use Rattle.meaning.specs.Lists.{empty}
 use Rattle.meaning.specs.Columns.{Row}
 use Rattle.meaning.specs.Forms.{timeOf, dateOf, sequenceOf}
-use Rattle.meaning.specs.Tables.{Feed, stopIds, routeIds, serviceIds, tripIds, refer, locationType, parentStation, routeShortName, routeLongName, startDate, endDate, tripRoute, tripService, tripId, timeTrip, arrivalTime, departureTime, timeStop, stopSequence, timepoint, orZero, orMinus, day, seconds, number}
-use Rattle.meaning.specs.Rules.{row}
+use Rattle.meaning.specs.Tables.{Feed, stopIds, routeIds, serviceIds, tripIds, refer, locationType, parentStation, startDate, endDate, tripRoute, tripService, tripId, timeTrip, arrivalTime, departureTime, timeStop, stopSequence, timepoint, orZero, orMinus, day, seconds, number}
+use Rattle.meaning.specs.Rules.{row, rule20, rule25}
 use Rattle.rows.specs.Cells.{timeIn}
 use Rattle.trip_order.specs.Trips.{timedAt, nearLine, nearTimed, farLine}
-
--- the first record with the id of line i
-abbrev pub IsFirst : List (List ℕ) → ℕ → ℕ → Type 0
-IsFirst ids i first = first ≡ find (getD ids i []) 1 ids
 
 -- a reference: whether it is empty, and its record
 pub record Refers (v : List ℕ) (ids : List (List ℕ)) (none : Bool) (k : ℕ) : Type 0 where
@@ -43,19 +38,18 @@ SequenceAt w k n = (k ≡ 0 → ⊥) → IsSequence (row (w .stopTimes) (k - 1))
 abbrev pub DepartsAt : Feed → ℕ → Time → Type 0
 DepartsAt w k t = (k ≡ 0 → ⊥) → IsTime (departureTime (row (w .stopTimes) (k - 1))) t
 
-pub record StopSeen (w : Feed) (i first : ℕ) (none : Bool) (parent kind parentKind : ℕ) : Type 0 where
-  pub is-first : IsFirst (stopIds w) i first
+pub record StopSeen (w : Feed) (i : ℕ) (repeats none : Bool) (parent kind parentKind : ℕ) : Type 0 where
+  pub again : repeats ≡ rule20 (stopIds w) i
   pub parents : Refers (parentStation (row (w .stops) i)) (stopIds w) none parent
   pub kinds : kind ≡ natOf (orZero 2 (locationType (row (w .stops) i)))
   pub parent-kinds : KindAt w parent parentKind
 
-pub record RouteSeen (w : Feed) (i first : ℕ) (noShort noLong : Bool) : Type 0 where
-  pub is-first : IsFirst (routeIds w) i first
-  pub shorts : noShort ≡ empty (routeShortName (row (w .routes) i))
-  pub longs : noLong ≡ empty (routeLongName (row (w .routes) i))
+pub record RouteSeen (w : Feed) (i : ℕ) (repeats nameless : Bool) : Type 0 where
+  pub again : repeats ≡ rule20 (routeIds w) i
+  pub names : nameless ≡ rule25 w i
 
-pub record ServiceSeen (w : Feed) (i first start end : ℕ) : Type 0 where
-  pub is-first : IsFirst (serviceIds w) i first
+pub record ServiceSeen (w : Feed) (i : ℕ) (repeats : Bool) (start end : ℕ) : Type 0 where
+  pub again : repeats ≡ rule20 (serviceIds w) i
   pub starts : start ≡ natOf (day (dateOf (startDate (row (w .calendar) i))))
   pub ends : end ≡ natOf (day (dateOf (endDate (row (w .calendar) i))))
 
@@ -66,12 +60,12 @@ pub record TripLines (w : Feed) (v : List ℕ) (firstLine lastLine : ℕ) (first
   pub firsts-timed : (firstLine ≡ 0 → ⊥) → firstTimed ≡ timedAt w (firstLine - 1)
   pub lasts-timed : (lastLine ≡ 0 → ⊥) → lastTimed ≡ timedAt w (lastLine - 1)
 
--- on a line whose id stands on an earlier one the trip's lines aren't asked for
-pub record TripSeen (w : Feed) (i first : ℕ) (noRoute : Bool) (route : ℕ) (noService : Bool) (service firstLine lastLine : ℕ) (firstTimed lastTimed : Bool) : Type 0 where
-  pub is-first : IsFirst (tripIds w) i first
-  pub routed : Refers (tripRoute (row (w .trips) i)) (routeIds w) noRoute route
-  pub served : Refers (tripService (row (w .trips) i)) (serviceIds w) noService service
-  pub lines : ltb first (i + 1) ≡ false → TripLines w (tripId (row (w .trips) i)) firstLine lastLine firstTimed lastTimed
+-- no reference of a line of trips is empty; on a line whose id stands on an earlier one the trip's lines aren't asked for
+pub record TripSeen (w : Feed) (i : ℕ) (repeats : Bool) (route service firstLine lastLine : ℕ) (firstTimed lastTimed : Bool) : Type 0 where
+  pub again : repeats ≡ rule20 (tripIds w) i
+  pub routed : Refers (tripRoute (row (w .trips) i)) (routeIds w) false route
+  pub served : Refers (tripService (row (w .trips) i)) (serviceIds w) false service
+  pub lines : repeats ≡ false → TripLines w (tripId (row (w .trips) i)) firstLine lastLine firstTimed lastTimed
 
 pub record TimeSeen (w : Feed) (i : ℕ) (noTrip : Bool) (trip : ℕ) (noStop : Bool) (stop stopKind : ℕ) (arrival departure : Time) (point sequenced near nearSequence timedNear : ℕ) (nearDeparture : Time) : Type 0 where
   pub trips : Refers (timeTrip (row (w .stopTimes) i)) (tripIds w) noTrip trip

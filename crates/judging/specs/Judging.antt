@@ -10,10 +10,6 @@ use Rattle.meaning.specs.Rules.{given, secondsOf}
 
 -- ---- one rule
 
--- 20: the first record with this line's id is an earlier one
-abbrev pub repeated : ℕ → ℕ → Bool
-repeated line first = ltb first line
-
 -- 21: a reference that isn't empty has no record
 abbrev pub loose : Bool → ℕ → Bool
 loose none k = not none && eqb k 0
@@ -55,9 +51,10 @@ overtakes arrival departure nearTimed nearDeparture =
 
 -- ---- the rules of a line of each file, in the order of their numbers; unused places are false
 
-unfoldable pub stopJudged : ℕ → ℕ → Bool → ℕ → ℕ → ℕ → List Bool
-stopJudged line first noParent parent kind parentKind =
-    repeated line first
+-- 20 is judged by the mark that the id repeats an earlier line's, 25 by the mark that the route is nameless
+unfoldable pub stopJudged : Bool → Bool → ℕ → ℕ → ℕ → List Bool
+stopJudged repeats noParent parent kind parentKind =
+    repeats
     ∷ loose noParent parent
     ∷ misplaced noParent parent kind parentKind
     ∷ false
@@ -65,19 +62,19 @@ stopJudged line first noParent parent kind parentKind =
     ∷ false
     ∷ []
 
-unfoldable pub routeJudged : ℕ → ℕ → Bool → Bool → List Bool
-routeJudged line first noShort noLong =
-    repeated line first ∷ (noShort && noLong) ∷ false ∷ false ∷ false ∷ false ∷ []
+unfoldable pub routeJudged : Bool → Bool → List Bool
+routeJudged repeats nameless = repeats ∷ nameless ∷ false ∷ false ∷ false ∷ false ∷ []
 
-unfoldable pub serviceJudged : ℕ → ℕ → ℕ → ℕ → List Bool
-serviceJudged line first start end = repeated line first ∷ ltb end start ∷ false ∷ false ∷ false ∷ false ∷ []
+unfoldable pub serviceJudged : Bool → ℕ → ℕ → List Bool
+serviceJudged repeats start end = repeats ∷ ltb end start ∷ false ∷ false ∷ false ∷ false ∷ []
 
-unfoldable pub tripJudged : ℕ → ℕ → Bool → ℕ → Bool → ℕ → ℕ → ℕ → Bool → Bool → List Bool
-tripJudged line first noRoute route noService service firstLine lastLine firstTimed lastTimed =
-    repeated line first
-    ∷ (loose noRoute route || loose noService service)
-    ∷ (not (repeated line first) && eqb firstLine lastLine)
-    ∷ (not (repeated line first) && (openEnd firstLine firstTimed || openEnd lastLine lastTimed))
+-- neither reference is empty, by rule 12
+unfoldable pub tripJudged : Bool → ℕ → ℕ → ℕ → ℕ → Bool → Bool → List Bool
+tripJudged repeats route service firstLine lastLine firstTimed lastTimed =
+    repeats
+    ∷ (loose false route || loose false service)
+    ∷ (not repeats && eqb firstLine lastLine)
+    ∷ (not repeats && (openEnd firstLine firstTimed || openEnd lastLine lastTimed))
     ∷ false
     ∷ false
     ∷ []

@@ -79,19 +79,18 @@ fn overtakes_near(arrival: Time, departure: Time, near_timed: usize, near_depart
     is_timed(arrival, departure) & ((near_timed != 0) & is_sooner(arrival, near_departure))
 }
 
-// Rules 20, 21 and 22 on a line of stops.txt; the line counts as its record does.
+// Rules 20, 21 and 22 on a line of stops.txt.
 pub fn judge_stop(
-    line: usize,
-    first: usize,
+    repeats: bool,
     no_parent: bool,
     parent: usize,
     kind: usize,
     parent_kind: usize,
 ) -> [bool; 6]
-    ensures { λ r. ⌜ r ≡ stopJudged line first «no_parent» parent kind «parent_kind» ⌝ }
+    ensures { λ r. ⌜ r ≡ stopJudged repeats «no_parent» parent kind «parent_kind» ⌝ }
 {
     [
-        first < line,
+        repeats,
         is_loose(no_parent, parent),
         is_misplaced(no_parent, parent, kind, parent_kind),
         false,
@@ -101,41 +100,37 @@ pub fn judge_stop(
 }
 
 // Rules 20 and 25 on a line of routes.txt.
-pub fn judge_route(line: usize, first: usize, no_short: bool, no_long: bool) -> [bool; 6]
-    ensures { λ r. ⌜ r ≡ routeJudged line first «no_short» «no_long» ⌝ }
+pub fn judge_route(repeats: bool, nameless: bool) -> [bool; 6]
+    ensures { λ r. ⌜ r ≡ routeJudged repeats nameless ⌝ }
 {
-    [first < line, no_short & no_long, false, false, false, false]
+    [repeats, nameless, false, false, false, false]
 }
 
 // Rules 20 and 24 on a line of calendar.txt.
-pub fn judge_service(line: usize, first: usize, start: usize, end: usize) -> [bool; 6]
-    ensures { λ r. ⌜ r ≡ serviceJudged line first start end ⌝ }
+pub fn judge_service(repeats: bool, start: usize, end: usize) -> [bool; 6]
+    ensures { λ r. ⌜ r ≡ serviceJudged repeats start end ⌝ }
 {
-    [first < line, end < start, false, false, false, false]
+    [repeats, end < start, false, false, false, false]
 }
 
-// Rules 20, 21, 30 and 31 on a line of trips.txt.
+// Rules 20, 21, 30 and 31 on a line of trips.txt, none of whose references is empty, by rule 12.
 pub fn judge_trip(
-    line: usize,
-    first: usize,
-    no_route: bool,
+    repeats: bool,
     route: usize,
-    no_service: bool,
     service: usize,
     first_line: usize,
     last_line: usize,
     first_timed: bool,
     last_timed: bool,
 ) -> [bool; 6]
-    ensures { λ r. ⌜ r ≡ tripJudged line first «no_route» route «no_service» service «first_line» «last_line» «first_timed» «last_timed» ⌝ }
+    ensures { λ r. ⌜ r ≡ tripJudged repeats route service «first_line» «last_line» «first_timed» «last_timed» ⌝ }
 {
-    let repeated = first < line;
     let open = is_open_end(first_line, first_timed) | is_open_end(last_line, last_timed);
     [
-        repeated,
-        is_loose(no_route, route) | is_loose(no_service, service),
-        !repeated & (first_line == last_line),
-        !repeated & open,
+        repeats,
+        is_loose(false, route) | is_loose(false, service),
+        !repeats & (first_line == last_line),
+        !repeats & open,
         false,
         false,
     ]
