@@ -35,7 +35,7 @@ module _ (s : List ℕ) (w : ℕ) (t u : List ℤ) (size : length u ≡ length t
   unfolding names
   names-as v = fun-ext (λ r. rw (tests-as v))
 
-  placed-as : (n : ℕ) → Placed s t w n → Placed s u w n
+  pub placed-as : (n : ℕ) → Placed s t w n → Placed s u w n
   placed-as n p = record {
     room = rw size (p .room);
     ordered = λ r a b. rw (start-as r, same3 r 1 (omega arith)) (p .ordered r a b);

@@ -1,3 +1,12 @@
+-- `tables::fill_alone` meets its contract.
+use Rattle.tables.proofs.Feeds.{refers-none, indexed-none}
+use mathlib.Core.Path.{_≡_, refl, sym, ap, _∙_}
+use mathlib.Core.Bool.{Bool, true, false, cond}
+use mathlib.Core.List.{List, [], _∷_}
+use Prim.Native.Nat.{ℕ, suc, zero, _≤_, _<_, _-_, _+_, _*_}
+use native.Mathlib.Omega.{arith}
+use lib.ListN.{length, getD, drop, take}
+use lib.IntN.{ℤ, pos}
 use borrow.Author.Needs.{needs}
 use Rattle.tables.proofs.fill_alone.Statement.{statement}
 use Rattle.tables.proofs.fill_alone.Tie as tie
@@ -5,25 +14,22 @@ use Rattle.tables.proofs.fill_alone.Reads as reads
 use Rattle.tables.proofs.fill_alone.Lts as lts
 use Rattle.tables.proofs.fill.Reads as fill-reads
 
--- src/lib.rt:158:22
 slice-aggregate-fill : tie.Need-slice-aggregate-fill
 slice-aggregate-fill c = search needs
 
--- src/lib.rt:158:35
 slice-aggregate-fill-2 : tie.Need-slice-aggregate-fill-2
 slice-aggregate-fill-2 c = search needs
 
--- src/lib.rt:158:5
 fill-requires : tie.Need-fill-requires
-fill-requires c κs = ?
+fill-requires c κs =
+    let s = c .before .before .before .before .pre in
+    ((s .0, (omega (arith, s .1 .0), s .1 .1)), ((omega arith, omega arith), indexed-none _ _ _ _ _ _ _ (s .1 .0)))
 
--- src/lib.rt:153:1
 same-length : tie.Need-same-length
 same-length c = search needs
 
--- src/lib.rt:153:1
 returns : tie.Need-returns
-returns c = ?
+returns c = let s = c .before .before .before .before .before .before .pre in λ w parents. c .before .fill .ensures w (refers-none _ _ _ _ _ _ _ (s .1 .0) w) parents
 
 pub fill-alone-spec : {M : Type 1} → statement M
 fill-alone-spec =
