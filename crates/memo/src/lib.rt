@@ -9,11 +9,19 @@ ghost use Rattle.ordering.specs.Ids.{idOf};
 ghost use Rattle.seeking.specs.First.{First, idIs};
 ghost use Rattle.memo.specs.Memo.{Ready};
 
+// How many records a memo remembers: it may be any number up to RANGE.
+pub const SIZE: usize = 16384;
+
+// A hash is below RANGE, and as many hashes as SHARE says fall on one place.
+const RANGE: usize = 4294967296;
+
+const SHARE: usize = RANGE / SIZE;
+
 // A memo that knows nothing.
-pub fn blank() -> [u32; 16384]
+pub fn blank() -> [u32; SIZE]
     ensures { λ r. ⌜ ((k : ℕ) → getD r k 0 ≡ 0) ⌝ }
 {
-    [0u32; 16384]
+    [0u32; SIZE]
 }
 
 fn wide(b: u8) -> usize
@@ -23,16 +31,14 @@ fn wide(b: u8) -> usize
 }
 
 // Where a raw field's record is remembered: any place would do.
-fn slot(raw: &[u8]) -> usize
-    ensures { λ r. ⌜ r < 16384 ⌝ }
-{
+fn slot(raw: &[u8]) -> usize {
     let mut h: usize = 0;
     let mut i = 0;
     while i < raw.len() {
-        h = (h + wide(raw[i])) * 16777619 % 4294967296;
+        h = (h + wide(raw[i])) * 16777619 % RANGE;
         i += 1;
     }
-    h / 262144
+    h / SHARE
 }
 
 // What is remembered at a place, 0 past the memo's end.

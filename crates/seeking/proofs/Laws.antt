@@ -2,12 +2,12 @@
 use mathlib.Core.Path.{_≡_, refl, sym, ap, _∙_, subst, fun-ext}
 use mathlib.Core.Bool.{Bool, true, false}
 use mathlib.Core.List.{List}
-use Prim.Native.Nat.{ℕ, _+_, _*_, _-_, _^_, _≤_, _<_}
+use Prim.Native.Nat.{ℕ, _+_, _*_, _-_, _≤_, _<_}
 use native.Mathlib.Omega.{arith}
 use native.Mathlib.Nat.{add-zero}
 use lib.Dec.{leb}
 use lib.IntN.{ℤ, pos}
-use lib.ListN.{length, getD, set}
+use lib.ListN.{length, getD}
 use borrow.Author.Tests.{le-leb, leb-true, leb-false}
 use Rattle.meaning.specs.Lists.{same}
 use Rattle.meaning.specs.Bytes.{part, value}
@@ -17,50 +17,13 @@ use Rattle.ranking.specs.declared.Order.{Order}
 use Rattle.ranking.specs.declared.Order.the-variants.{Less, Equal, Greater}
 use Rattle.ranking.specs.Ranks.{before, compare, ranked, settle}
 use Rattle.ranking.proofs.Laws.{compare-ranked, compare-equal, less-before, before-trans, before-irreflexive}
-use Rattle.ordering.specs.Cells.{cell, Room, Kept, Moved}
-use Rattle.ordering.specs.Ids.{idOf, noLater, Sorted, Stands, Whole, Placed, Arranged}
-use Rattle.ordering.proofs.Laws.{Alike, yes, no, alike, row-fits, put-here, put-other, put-kept, room-kept, kept-trans, kept-ids, moved-whole}
+use Rattle.ordering.specs.Cells.{cell, Kept}
+use Rattle.ordering.specs.Ids.{idOf, noLater, inOrder, Sorted, Stands, Whole, Placed, Arranged}
+use Rattle.ordering.proofs.Laws.{Alike, yes, no, alike, row-fits}
 use Rattle.num.specs.Signs.{natOf}
 use Rattle.seeking.specs.First.{First, idIs, valueIs, Held}
 use Rattle.seeking.proofs.First.{held-as}
-use Rattle.seeking.specs.Seek.{Lower, Listed}
-
--- ---- the order that a table begins with
-
-pub list-none : (w : ℕ) (t : List ℤ) → Listed w 0 t
-unfolding Listed
-list-none w t i a b = absurd (omega arith)
-
-pub list-turn : (w n i : ℕ) (t : List ℤ) → Room w i t → 0 < i → i ≤ n → Listed w (i - 1) t → Listed w (i + 1 - 1) (set t (i * w + 2) (pos i)) × Kept w n t (set t (i * w + 2) (pos i))
-unfolding Listed
-list-turn w n i t r h m l = ((λ k a b. go k (alike k i) a b), put-kept t w i (pos i) (r .wide) n h m)
-  where
-    go : (k : ℕ) → Alike k i → 0 < k → k ≤ i + 1 - 1 → cell (set t (i * w + 2) (pos i)) w k ≡ k
-    go k (yes e) a b = rw e (put-here t w i (pos i) (r .wide) (r .rows))
-    go k (no e) a b = put-other t w i (pos i) (r .wide) k e ∙ l k a (omega (arith, e))
-
-pub list-end : (w n i : ℕ) (t : List ℤ) → n < i → Listed w (i - 1) t → Listed w n t
-unfolding Listed
-list-end w n i t h l k a b = l k a (omega arith)
-
-pub listed-whole : (w n : ℕ) (t : List ℤ) → Listed w n t → Whole (cell t w) n
-unfolding Listed
-listed-whole w n t l = record {
-  within = λ i a b. rw (l i a b) (a, b);
-  each = λ x a b. record { place = x; low = a; high = b; is = l x a b };
-}
-
-pub arranged : (s : List ℕ) (w n : ℕ) (t u v : List ℤ) → Room w n t → n < 2 ^ 31 → Listed w n u → Kept w n t u
-    → Sorted (noLater (idOf s u w)) (cell v w) n → Moved n (cell u w) (cell v w) → Kept w n u v → Arranged s w n v × Kept w n t v
-arranged s w n t u v r f l k p m q = (
-  record {
-    room = room-kept (kept-trans k q) r;
-    few = f;
-    whole = moved-whole m (listed-whole w n u l);
-    sorted = subst (λ (d : ℕ → List ℕ). Sorted (noLater d) (cell v w) n) (sym (kept-ids s (r .wide) q)) p;
-  },
-  kept-trans k q,
-)
+use Rattle.seeking.specs.Seek.{Lower}
 
 -- ---- what a comparison tells
 
@@ -108,7 +71,7 @@ pub record Halving (id : ℕ → List ℕ) (f : ℕ → ℕ) (n : ℕ) (v : List
   pub above : (k : ℕ) → hi ≤ k → k ≤ n → before (id (f k)) v ≡ false
 
 -- a record that comes no later than one before v is before v
-earlier : (id : ℕ → List ℕ) (x y : ℕ) (v : List ℕ) → noLater id x y ≡ true → before (id y) v ≡ true → before (id x) v ≡ true
+pub earlier : (id : ℕ → List ℕ) (x y : ℕ) (v : List ℕ) → noLater id x y ≡ true → before (id y) v ≡ true → before (id x) v ≡ true
 unfolding noLater settle
 earlier id x y v h b = go (compare (id x) (id y)) refl h
   where
@@ -118,7 +81,7 @@ earlier id x y v h b = go (compare (id x) (id y)) refl h
     go Greater e g = both false g refl
 
 -- a record that comes no later than one with an id that it is not before has that id, and is no later a record
-tied : (id : ℕ → List ℕ) (x y : ℕ) → noLater id x y ≡ true → before (id x) (id y) ≡ false → (id x ≡ id y) × (x ≤ y)
+pub tied : (id : ℕ → List ℕ) (x y : ℕ) → noLater id x y ≡ true → before (id x) (id y) ≡ false → (id x ≡ id y) × (x ≤ y)
 unfolding noLater settle
 tied id x y h b = go (compare (id x) (id y)) refl h
   where
@@ -295,9 +258,11 @@ module _ (s : List ℕ) (w n : ℕ) (t u : List ℤ) (size : length u ≡ length
           rw (a, same3 r 1 (omega arith))
 
   pub arranged-as : Arranged s w n t → Arranged s w n u
+  unfolding inOrder
   arranged-as a = record {
     room = record { wide = a .room .wide; narrow = a .room .narrow; rows = rw size (a .room .rows) };
     few = a .few;
     whole = rw cells-as (a .whole);
+    apart = rw cells-as (a .apart);
     sorted = subst (λ (f : ℕ → ℕ). Sorted (noLater (idOf s u w)) f n) (sym cells-as) (subst (λ (d : ℕ → List ℕ). Sorted (noLater d) (cell t w) n) (sym ids-as) (a .sorted));
   }

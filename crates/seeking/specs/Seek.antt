@@ -3,9 +3,7 @@ use Prim.Native.Nat.{ℕ, _+_, _<_, _≤_}
 use mathlib.Core.Path.{_≡_}
 use mathlib.Core.Bool.{true, false}
 use mathlib.Core.List.{List}
-use lib.IntN.{ℤ}
 use Rattle.ranking.specs.Ranks.{before}
-use Rattle.ordering.specs.Cells.{cell}
 
 -- the ids in cells below r come before v, the others up to n don't
 pub record Lower (id : ℕ → List ℕ) (f : ℕ → ℕ) (n : ℕ) (v : List ℕ) (r : ℕ) : Type 0 where
@@ -13,7 +11,3 @@ pub record Lower (id : ℕ → List ℕ) (f : ℕ → ℕ) (n : ℕ) (v : List �
   pub high : r ≤ n + 1
   pub under : (k : ℕ) → 0 < k → k < r → before (id (f k)) v ≡ true
   pub above : (k : ℕ) → r ≤ k → k ≤ n → before (id (f k)) v ≡ false
-
--- cell i holds record i
-unfoldable pub Listed : ℕ → ℕ → List ℤ → Type 0
-Listed w n t = (i : ℕ) → 0 < i → i ≤ n → cell t w i ≡ i

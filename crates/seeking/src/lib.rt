@@ -6,21 +6,12 @@ ghost use Rattle.ranking.specs.Ranks.{before};
 ghost use Rattle.ordering.specs.Cells.{cell, Room, Kept};
 ghost use Rattle.ordering.specs.Ids.{idOf, noLater, Sorted, Placed, Arranged};
 ghost use Rattle.seeking.specs.First.{First, idIs};
-ghost use Rattle.seeking.specs.Seek.{Lower, Listed};
+ghost use Rattle.seeking.specs.Seek.{Lower};
+use ordering::By;
 use ranking::Order;
 
-// The order that a table begins with: record i is the i-th.
-pub fn list_all(t: &mut [i32], w: usize, n: usize)
-    requires { ⌜ Room w n (now t) × (n < 2 ^ 31) ⌝ }
-    ensures { λ _. ⌜ Listed w n (now (t .exit)) ⌝ }
-    ensures { λ _. ⌜ Kept w n (now (t .entry)) (now (t .exit)) ⌝ }
-{
-    let mut i = 1;
-    while i <= n {
-        ordering::put(t, w, i, i);
-        i += 1;
-    }
-}
+// The number of a record in which its file's order by id has a cell.
+pub const CELL: usize = 2;
 
 // The order of n records by id, whatever their cells held.
 pub fn arrange(s: &[u8], t: &mut [i32], w: usize, n: usize)
@@ -28,8 +19,7 @@ pub fn arrange(s: &[u8], t: &mut [i32], w: usize, n: usize)
     ensures { λ _. ⌜ Arranged (now (s .entry)) w n (now (t .exit)) ⌝ }
     ensures { λ _. ⌜ Kept w n (now (t .entry)) (now (t .exit)) ⌝ }
 {
-    list_all(t, w, n);
-    sorting::sort(s, t, w, n);
+    sorting::arrange(By::Id, s, t, w, CELL, n);
 }
 
 // Does the id in cell i come before the value of a raw field?
@@ -37,7 +27,7 @@ fn is_before(s: &[u8], t: &[i32], w: usize, i: usize, raw: &[u8]) -> bool
     requires { ⌜ Room w i (now t) ⌝ }
     ensures { λ r. ⌜ r ≡ before (idOf (now (s .entry)) (now (t .entry)) w (cell (now (t .entry)) w i)) (value (now (raw .entry))) ⌝ }
 {
-    match ranking::compare_values(ordering::raw_id(s, t, w, ordering::get(t, w, i)), raw) {
+    match ranking::compare_values(ordering::raw_id(s, t, w, ordering::get(t, w, CELL, i)), raw) {
         Order::Less => true,
         Order::Equal => false,
         Order::Greater => false,
@@ -73,7 +63,7 @@ pub fn first_record(s: &[u8], t: &[i32], w: usize, n: usize, raw: &[u8]) -> usiz
     if n < at {
         return 0;
     }
-    let r = ordering::get(t, w, at);
+    let r = ordering::get(t, w, CELL, at);
     if ranking::same_values(ordering::raw_id(s, t, w, r), raw) {
         return r;
     }

@@ -1,76 +1,66 @@
--- What each file of a feed refers to.
-use mathlib.Core.Path.{_≡_, refl, _∙_}
+-- What each file of a feed refers to, and what it is looked up in.
+use mathlib.Core.Path.{_≡_, refl, sym, ap, _∙_}
 use mathlib.Core.List.{List, [], _∷_}
-use Prim.Native.Nat.{ℕ, _≤_}
-use lib.ListN.{length}
+use Prim.Native.Nat.{ℕ, _+_, _*_, _-_, _≤_, _<_}
+use lib.ListN.{length, getD, length-map}
 use native.Mathlib.Omega.{arith}
-use lib.IntN.{ℤ}
+use lib.IntN.{ℤ, pos}
 use Rattle.meaning.specs.Bytes.{countLf}
 use Rattle.meaning.proofs.Readable.{WholeKept}
 use Rattle.text.proofs.Lines.{ended-count}
 use Rattle.meaning.specs.Columns.{rowsOf}
-use Rattle.meaning.specs.Tables.{Feed, idColumn, widths, widthOf, stopIds, routeIds, serviceIds, tripIds, filled, fileOf, feedOf}
-use Rattle.tables.specs.Fill.{Lists, Refers, Room}
-use Rattle.tables.proofs.Ids.{filled-lists}
+use Rattle.meaning.specs.Tables.{Feed, under, idColumn, widths, widthOf, stopIds, routeIds, serviceIds, tripIds, fileOf, feedOf}
+use Rattle.ordering.specs.Ids.{Placed, Arranged}
+use Rattle.seeking.specs.First.{Held}
+use Rattle.seeking.proofs.First.{refer-held}
+use Rattle.seeking.proofs.Laws.{held-placed}
+use Rattle.memo.specs.Memo.{Ready}
+use Rattle.memo.proofs.Laws.{ready-blank}
+use Rattle.tables.specs.Fill.{Lists, Indexed, Refers, Room, Sought}
+use Rattle.tables.specs.Walk.{idsOf, Ordered}
+use Rattle.tables.proofs.Ids.{rows-count}
 
-pub refers-none :
-    (f : ℕ) (w : Feed) (a : List ℕ) (at : List ℤ) (an : ℕ) (b : List ℕ) (bt : List ℤ) (bn : ℕ)
-    → f ≤ 3
-    → Refers f w a at an b bt bn
-refers-none f w a at an b bt bn h = record {
-  routes = λ p. absurd (omega arith);
-  services = λ p. absurd (omega arith);
-  trips = λ p. absurd (omega arith);
-  stops = λ p. absurd (omega arith);
-}
-
--- a table that was filled lists its ids, whatever else it was filled for
-module _ (w : Feed) (s : List ℕ) (lent t : List ℤ) (some : 1 ≤ countLf s) where
-  stops-in : w .stops ≡ rowsOf 1 s → t ≡ filled 1 w s lent → Lists s t 6 (countLf s) (stopIds w)
-  unfolding stopIds idColumn widthOf widths
-  stops-in e f = filled-lists 1 (omega arith) (omega arith) w s lent some (omega arith) t (stopIds w) f (rw e)
-
-  routes-in : w .routes ≡ rowsOf 2 s → t ≡ filled 2 w s lent → Lists s t 3 (countLf s) (routeIds w)
-  unfolding routeIds idColumn widthOf widths
-  routes-in e f = filled-lists 2 (omega arith) (omega arith) w s lent some (omega arith) t (routeIds w) f (rw e)
-
-  services-in : w .calendar ≡ rowsOf 3 s → t ≡ filled 3 w s lent → Lists s t 5 (countLf s) (serviceIds w)
-  unfolding serviceIds idColumn widthOf widths
-  services-in e f = filled-lists 3 (omega arith) (omega arith) w s lent some (omega arith) t (serviceIds w) f (rw e)
-
-  trips-in : w .trips ≡ rowsOf 4 s → t ≡ filled 4 w s lent → Lists s t 7 (countLf s) (tripIds w)
-  unfolding tripIds idColumn widthOf widths
-  trips-in e f = filled-lists 4 (omega arith) (omega arith) w s lent some (omega arith) t (tripIds w) f (rw e)
-
-counted :
-    (s : List ℕ) (t : List ℤ) (width n m : ℕ) (ids : List (List ℕ)) → n ≡ m → Lists s t width m ids → Lists s t width n ids
-counted s t width n m ids e l = record { held = l .held; count = e ∙ l .count }
-
-module _ (w : Feed) (a : List ℕ) (alent at : List ℤ) (an : ℕ) (b : List ℕ) (blent bt : List ℤ) (bn : ℕ) (some : 1 ≤ countLf a) (more : 1 ≤ countLf b) (first : an ≡ countLf a) (second : bn ≡ countLf b) where
-  pub refers-trips :
-      w .routes ≡ rowsOf 2 a
-      → at ≡ filled 2 w a alent
-      → w .calendar ≡ rowsOf 3 b
-      → bt ≡ filled 3 w b blent
-      → Refers 4 w a at an b bt bn
-  refers-trips e f g h = record {
-    routes = λ _. counted a at 3 an (countLf a) (routeIds w) first (routes-in w a alent at some e f);
-    services = λ _. counted b bt 5 bn (countLf b) (serviceIds w) second (services-in w b blent bt more g h);
+-- a file that refers to none
+module _ (f : ℕ) (a : List ℕ) (at : List ℤ) (an : ℕ) (b : List ℕ) (bt : List ℤ) (bn : ℕ) (three : f ≤ 3) where
+  pub refers-none : (w : Feed) → Refers f w a at an b bt bn
+  refers-none w = record {
+    routes = λ p. absurd (omega arith);
+    services = λ p. absurd (omega arith);
     trips = λ p. absurd (omega arith);
     stops = λ p. absurd (omega arith);
   }
 
-  pub refers-times :
-      w .trips ≡ rowsOf 4 a
-      → at ≡ filled 4 w a alent
-      → w .stops ≡ rowsOf 1 b
-      → bt ≡ filled 1 w b blent
-      → Refers 5 w a at an b bt bn
-  refers-times e f g h = record {
+  pub indexed-none : Indexed f a at an b bt bn
+  indexed-none = record {
     routes = λ p. absurd (omega arith);
     services = λ p. absurd (omega arith);
-    trips = λ _. counted a at 7 an (countLf a) (tripIds w) first (trips-in w a alent at some e f);
-    stops = λ _. counted b bt 6 bn (countLf b) (stopIds w) second (stops-in w b blent bt more g h);
+    trips = λ p. absurd (omega arith);
+    stops = λ p. absurd (omega arith);
+  }
+
+module _ (f : ℕ) (a : List ℕ) (at : List ℤ) (an : ℕ) (am b : List ℕ) (bt : List ℤ) (bn : ℕ) (bm : List ℕ) where
+  pub sought-blank : Indexed f a at an b bt bn → ((k : ℕ) → getD am k 0 ≡ 0) → ((k : ℕ) → getD bm k 0 ≡ 0) → Sought f a at an am b bt bn bm
+  sought-blank i x y = record {
+    routes = λ p. ready-blank a at 3 an am (i .routes p .0) (i .routes p .1) x;
+    services = λ p. ready-blank b bt 5 bn bm (i .services p .0) (i .services p .1) y;
+    trips = λ p. ready-blank a at 7 an am (i .trips p .0) (i .trips p .1) x;
+    stops = λ p. ready-blank b bt 6 bn bm (i .stops p .0) (i .stops p .1) y;
+  }
+
+  pub sought-trips : f ≡ 4 → Ready a at 3 an am → Ready b bt 5 bn bm → Sought f a at an am b bt bn bm
+  sought-trips e x y = record {
+    routes = λ _. x;
+    services = λ _. y;
+    trips = λ p. absurd (omega arith);
+    stops = λ p. absurd (omega arith);
+  }
+
+  pub sought-times : f ≡ 5 → Ready a at 7 an am → Ready b bt 6 bn bm → Sought f a at an am b bt bn bm
+  sought-times e x y = record {
+    routes = λ p. absurd (omega arith);
+    services = λ p. absurd (omega arith);
+    trips = λ _. x;
+    stops = λ _. y;
   }
 
 -- the rows of a feed are those of its files
@@ -93,4 +83,4 @@ module _ (a b c d e : List ℕ) where
 
 -- what reading guarantees: rules 1 to 4 are kept
 pub room-kept : (f : ℕ) (s : List ℕ) (t : List ℤ) → WholeKept f s (length t) → Room f s t
-room-kept f s t h = record { lines = ended-count f s (length t) (h .ended); size = h .short; room = h .roomy }
+room-kept f s t h = record { lines = ended-count f s (length t) (h .ended); few = h .few; size = h .short; room = h .roomy }

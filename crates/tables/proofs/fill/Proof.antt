@@ -1,36 +1,53 @@
--- `tables::fill` meets its contract.
-use Rattle.tables.proofs.Turns.{first-room, walk-first, count-length}
-use native.Mathlib.Omega.{arith}
 use borrow.Author.Needs.{needs}
 use Rattle.tables.proofs.fill.Statement.{statement}
 use Rattle.tables.proofs.fill.Tie as tie
+use Rattle.tables.proofs.fill.Reads as reads
+use Rattle.tables.proofs.fill.Lts as lts
+use Rattle.memo.proofs.blank.Reads as blank-reads
+use Rattle.rows.proofs.cells.zero_record.Reads as zero-record-reads
+use Rattle.rows.proofs.width_of.Reads as width-of-reads
+use Rattle.tables.proofs.fill_lines.Reads as fill-lines-reads
+use Rattle.tables.proofs.read_header.Reads as read-header-reads
 
+-- src/lib.rt:129:9
 read-header-requires : tie.Need-read-header-requires
 read-header-requires c κs = search needs
 
+-- src/lib.rt:130:33
 width-of-requires : tie.Need-width-of-requires
 width-of-requires c κs = search needs
 
+-- src/lib.rt:130:5
 zero-record-requires : tie.Need-zero-record-requires
-zero-record-requires c κs = first-room _ _ _ _ (c .before .before .before .before .before .before .pre .0 .1 .1) (c .width-of .ensures)
+zero-record-requires c κs = ?
 
+-- src/lib.rt:133:22
+blank-requires : tie.Need-blank-requires
+blank-requires c κs = search needs
+
+-- src/lib.rt:134:22
+blank-requires-2 : tie.Need-blank-requires-2
+blank-requires-2 c κs = search needs
+
+-- src/lib.rt:144:9
+slice-aggregate-fill-lines : tie.Need-slice-aggregate-fill-lines
+slice-aggregate-fill-lines c = search needs
+
+-- src/lib.rt:148:9
+slice-aggregate-fill-lines-2 : tie.Need-slice-aggregate-fill-lines-2
+slice-aggregate-fill-lines-2 c = search needs
+
+-- src/lib.rt:135:5
 fill-lines-requires : tie.Need-fill-lines-requires
-fill-lines-requires c κs =
-    let s = c .before .before .before .before .before .before .before .before .before .before .pre in
-    let r = s .0 .1 .1 in
-    ((s .0 .0, (s .0 .1 .0, record { lines = r .lines; size = r .size; room = omega (arith, r .room) })), (c .before .before .before .before .before .before .read-header .ensures, s .1))
+fill-lines-requires c κs = ?
 
+-- src/lib.rt:110:1
 same-length : tie.Need-same-length
 same-length c = search needs
 
+-- src/lib.rt:110:1
 returns : tie.Need-returns
-returns c =
-    let s = c .before .before .before .before .before .before .before .before .before .before .before .before in
-    let z = c .before .before .before .before .before in
-    let l = c .before .fill-lines .ensures in (
-      (λ w refs. l .0 w (s .args .t .now) refs (walk-first _ _ _ _ _ (rw (z .before .width-of .ensures) at (z .zero-record .ensures)))),
-      (l .1, omega (arith, l .1, count-length (s .args .s .now), s .pre .0 .1 .1 .size)),
-    )
+returns c = ?
 
 pub fill-spec : {M : Type 1} → statement M
 fill-spec =
@@ -39,6 +56,10 @@ fill-spec =
     read-header-requires
     width-of-requires
     zero-record-requires
+    blank-requires
+    blank-requires-2
+    slice-aggregate-fill-lines
+    slice-aggregate-fill-lines-2
     fill-lines-requires
     same-length
     returns)

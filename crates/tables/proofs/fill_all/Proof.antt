@@ -1,74 +1,84 @@
--- `tables::fill_all` meets its contract.
-use Rattle.meaning.specs.Tables.{feedOf}
-use Rattle.tables.proofs.Feeds.{refers-trips, refers-times, feed-stops, feed-routes, feed-calendar, feed-trips}
-use Rattle.tables.proofs.Written.{walked-filled}
-use mathlib.Core.Path.{_∙_}
-use mathlib.Core.List.{[], _∷_}
-use native.Mathlib.Omega.{arith}
 use borrow.Author.Needs.{needs}
 use Rattle.tables.proofs.fill_all.Statement.{statement}
 use Rattle.tables.proofs.fill_all.Tie as tie
+use Rattle.tables.proofs.fill_all.Reads as reads
+use Rattle.tables.proofs.fill_all.Lts as lts
+use Rattle.tables.proofs.fill.Reads as fill-reads
+use Rattle.tables.proofs.fill_alone.Reads as fill-alone-reads
+use Rattle.tables.proofs.order_all.Reads as order-all-reads
+use Rattle.tables.proofs.parents.settle_parents.Reads as settle-parents-reads
 
-fill-stops-requires : tie.Need-fill-stops-requires
-fill-stops-requires c κs = search needs
+-- src/lib.rt:229:9
+order-all-requires : tie.Need-order-all-requires
+order-all-requires c κs = ?
 
-fill-alone-requires : tie.Need-fill-alone-requires
-fill-alone-requires c κs = search needs
+-- src/lib.rt:240:5
+settle-parents-requires : tie.Need-settle-parents-requires
+settle-parents-requires c κs = ?
 
-fill-alone-requires-2 : tie.Need-fill-alone-requires-2
-fill-alone-requires-2 c κs = search needs
-
+-- src/lib.rt:241:5
 fill-requires : tie.Need-fill-requires
-fill-requires c κs = search needs
+fill-requires c κs = ?
 
+-- src/lib.rt:252:5
 fill-requires-2 : tie.Need-fill-requires-2
-fill-requires-2 c κs =
-    let s = c .before .before .before .before .before .before .before .before .before .before .before .before .before .before .before .before .before .before .before .before .before .before .pre in
-    ((omega arith, (omega arith, s .1 .1 .1 .1)), (c .before .before .before .before .fill .ensures .1 .1, c .before .before .before .before .before .before .before .before .before .before .before .before .before .before .before .fill-stops .ensures .1 .1))
+fill-requires-2 c κs = ?
 
+-- src/lib.rt:263:5
+fill-alone-requires : tie.Need-fill-alone-requires
+fill-alone-requires c κs = ?
+
+-- src/lib.rt:264:5
+fill-alone-requires-2 : tie.Need-fill-alone-requires-2
+fill-alone-requires-2 c κs = ?
+
+-- src/lib.rt:265:5
+fill-alone-requires-3 : tie.Need-fill-alone-requires-3
+fill-alone-requires-3 c κs = ?
+
+-- src/lib.rt:198:1
 same-length : tie.Need-same-length
-same-length c = search needs
+same-length c = ?
 
+-- src/lib.rt:198:1
 same-length-2 : tie.Need-same-length-2
-same-length-2 c = search needs
+same-length-2 c = ?
 
+-- src/lib.rt:198:1
 same-length-3 : tie.Need-same-length-3
-same-length-3 c = search needs
+same-length-3 c = ?
 
+-- src/lib.rt:198:1
 same-length-4 : tie.Need-same-length-4
-same-length-4 c = search needs
+same-length-4 c = ?
 
+-- src/lib.rt:198:1
 same-length-5 : tie.Need-same-length-5
 same-length-5 c = search needs
 
+-- src/lib.rt:198:1
+same-length-6 : tie.Need-same-length-6
+same-length-6 c = search needs
+
+-- src/lib.rt:198:1
 returns : tie.Need-returns
-returns c =
-    let s = c .before .before .before .before .before .before .before .before .before .before .before .before .before .before .before .before .before .before .before .before .before .before .before .before in
-    let a = s .args in
-    let w = feedOf (a .stops .now ∷ a .routes .now ∷ a .calendar .now ∷ a .trips .now ∷ a .stop-times .now ∷ []) in
-    let f1 = c .before .before .before .before .before .before .before .before .before .before .before .before .before .before .before .before .before .fill-stops .ensures in
-    let f2 = c .before .before .before .before .before .before .before .before .before .before .before .before .before .before .fill-alone .ensures in
-    let f3 = c .before .before .before .before .before .before .before .before .before .before .before .fill-alone2 .ensures in
-    let f4 = c .before .before .before .before .before .before .fill .ensures in
-    let stops = f1 .0 w (feed-stops _ _ _ _ _) in
-    let routes = f2 .0 w ∙ walked-filled 2 (omega arith) w _ _ in
-    let calendar = f3 .0 w ∙ walked-filled 3 (omega arith) w _ _ in
-    let trips = f4 .0 w (refers-trips w _ _ _ _ _ _ _ _ (s .pre .1 .0 .lines) (s .pre .1 .1 .0 .lines) (f2 .1 .0) (f3 .1 .0) (feed-routes _ _ _ _ _) routes (feed-calendar _ _ _ _ _) calendar) ∙ walked-filled 4 (omega arith) w _ _ in
-    let times = c .before .fill2 .ensures .0 w (refers-times w _ _ _ _ _ _ _ _ (s .pre .1 .1 .1 .0 .lines) (s .pre .0 .lines) (f4 .1 .0) (f1 .1 .0) (feed-trips _ _ _ _ _) trips (feed-stops _ _ _ _ _) stops) ∙ walked-filled 5 (omega arith) w _ _ in
-    (stops, (routes, (calendar, (trips, times))))
+returns c = ?
 
 pub fill-all-spec : {M : Type 1} → statement M
 fill-all-spec =
     tie.close
     (tie.spec
-    fill-stops-requires
-    fill-alone-requires
-    fill-alone-requires-2
+    order-all-requires
+    settle-parents-requires
     fill-requires
     fill-requires-2
+    fill-alone-requires
+    fill-alone-requires-2
+    fill-alone-requires-3
     same-length
     same-length-2
     same-length-3
     same-length-4
     same-length-5
+    same-length-6
     returns)

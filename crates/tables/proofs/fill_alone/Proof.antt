@@ -1,25 +1,29 @@
--- `tables::fill_alone` meets its contract.
-use Rattle.tables.proofs.Feeds.{refers-none}
 use borrow.Author.Needs.{needs}
 use Rattle.tables.proofs.fill_alone.Statement.{statement}
 use Rattle.tables.proofs.fill_alone.Tie as tie
+use Rattle.tables.proofs.fill_alone.Reads as reads
+use Rattle.tables.proofs.fill_alone.Lts as lts
+use Rattle.tables.proofs.fill.Reads as fill-reads
 
+-- src/lib.rt:158:22
 slice-aggregate-fill : tie.Need-slice-aggregate-fill
 slice-aggregate-fill c = search needs
 
+-- src/lib.rt:158:35
 slice-aggregate-fill-2 : tie.Need-slice-aggregate-fill-2
 slice-aggregate-fill-2 c = search needs
 
+-- src/lib.rt:158:5
 fill-requires : tie.Need-fill-requires
-fill-requires c κs = search needs
+fill-requires c κs = ?
 
+-- src/lib.rt:153:1
 same-length : tie.Need-same-length
 same-length c = search needs
 
+-- src/lib.rt:153:1
 returns : tie.Need-returns
-returns c =
-    let s = c .before .before .before .before .before .before .pre in
-    (λ w. c .before .fill .ensures .0 w (refers-none _ w _ _ _ _ _ _ (s .1 .0)), c .before .fill .ensures .1)
+returns c = ?
 
 pub fill-alone-spec : {M : Type 1} → statement M
 fill-alone-spec =

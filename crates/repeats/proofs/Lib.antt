@@ -1,0 +1,2 @@
+-- Laws of repeated ids.
+pub mod Laws

@@ -1,0 +1,2 @@
+-- Which records of a table repeat an id.
+pub mod Repeats
