@@ -43,14 +43,7 @@ impl Stops {
     }
 
     // The record of a line, but for its parent, number 5, which is settled before.
-    pub fn put(
-        t: &mut [i32],
-        row: StopRow,
-        id: Bounds,
-        latitude: i32,
-        longitude: i32,
-        kind: u32,
-    )
+    pub fn put(t: &mut [i32], row: StopRow, id: Bounds, latitude: i32, longitude: i32, kind: u32)
         requires { ⌜ row .0 * 6 + 5 ≤ length (now t) ⌝ }
         requires { ⌜ (id .start < 2 ^ 31) × ((id .end < 2 ^ 31) × (kind < 2 ^ 31)) ⌝ }
         ensures { λ _. ⌜ now (t .exit) ≡ putAt (now (t .entry)) (row .0 * 6)

@@ -77,7 +77,15 @@ fn mark_if(b: bool, m: &mut [u16], k: usize, r: usize)
 }
 
 // What the first walk does with a line of file f, whose record is r.
-fn place_line(f: usize, l: &[u8], at: usize, places: [usize; 10], t: &mut [i32], r: usize, m: &mut [u16])
+fn place_line(
+    f: usize,
+    l: &[u8],
+    at: usize,
+    places: [usize; 10],
+    t: &mut [i32],
+    r: usize,
+    m: &mut [u16],
+)
     requires { ⌜ (f ≤ 4) × ((at + length (now l) ≤ 16777216) × (r * widthOf f + widthOf f ≤ length (now t))) ⌝ }
     ensures { λ _. ⌜ ((ps : List ℕ) → ((k : ℕ) → getD places k 0 ≡ getD ps k 0)
         → (now (t .exit) ≡ putAt (now (t .entry)) (r * widthOf f) (placing f ps (line at (now (l .entry)))))
@@ -89,7 +97,14 @@ fn place_line(f: usize, l: &[u8], at: usize, places: [usize; 10], t: &mut [i32],
 }
 
 // The lines from `at` on, the first of which has record 1; how many records there are.
-fn place_lines(f: usize, s: &[u8], at: usize, known: [usize; 10], t: &mut [i32], m: &mut [u16]) -> usize
+fn place_lines(
+    f: usize,
+    s: &[u8],
+    at: usize,
+    known: [usize; 10],
+    t: &mut [i32],
+    m: &mut [u16],
+) -> usize
     requires { ⌜ (1 ≤ f) × ((f ≤ 4) × Room f (now s) (now t)) ⌝ }
     requires { ⌜ Heading f (now s) known at ⌝ }
     ensures { λ _. ⌜ ((lent : List ℤ) → now (t .entry) ≡ laid (flat (take 1 (placedOf f (now (s .entry))))) lent

@@ -117,7 +117,7 @@ returns c =
     let f = s .args .f in
     let none = line-none _ _ (sym (c .before .before .next-line .ensures) ∙ c .enum-told .given .1) in
     λ w lent refs parents e.
-        walk-end (s .args .s .now) (l .here) (l .r) (l .inv .1 .0) f (recordOf f w (places f (headerOf (linesOf (s .args .s .now))))) (λ x. record-wide f w _ x (s .pre .0 .0) (omega (arith, s .pre .0 .1 .0))) _ lent (s .pre .0 .1 .1 .lines) none (l .inv .1 .1 .1 .1 w lent refs parents e)
+    walk-end (s .args .s .now) (l .here) (l .r) (l .inv .1 .0) f (recordOf f w (places f (headerOf (linesOf (s .args .s .now))))) (λ x. record-wide f w _ x (s .pre .0 .0) (omega (arith, s .pre .0 .1 .0))) _ lent (s .pre .0 .1 .1 .lines) none (l .inv .1 .1 .1 .1 w lent refs parents e)
 
 pub fill-lines-spec : {M : Type 1} → statement M
 fill-lines-spec =

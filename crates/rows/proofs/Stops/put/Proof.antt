@@ -42,12 +42,12 @@ returns c =
     let small = s .pre .1 in
     c .before .store .ensures
     ∙ simp (
-    p .place .ensures,
-    toZ-pos w32 _ (small .0),
-    toZ-pos w32 _ (small .1 .0),
-    toZ-ofZ w32 _ (s .fits .latitude),
-    toZ-ofZ w32 _ (s .fits .longitude),
-    toZ-pos w32 _ (small .1 .1),
+      p .place .ensures,
+      toZ-pos w32 _ (small .0),
+      toZ-pos w32 _ (small .1 .0),
+      toZ-ofZ w32 _ (s .fits .latitude),
+      toZ-ofZ w32 _ (s .fits .longitude),
+      toZ-pos w32 _ (small .1 .1),
     )
 
 pub put-spec : {M : Type 1} → statement M

@@ -46,8 +46,8 @@ returns c =
     let s = c .before .before .before .before .before .before .before .before .before .before .before .args in
     let x = c .before .before .before .before .before .before .before .before .locate in
     λ ps e.
-        let loc = located (s .l .now) (s .places) _ _ (x .ensures .0) (x .ensures .1) ps e in
-        (c .before .before .before .before .before .before .put-places .ensures ps loc, rw (← c .before .before .before .before .is-noted .ensures ps loc) (c .before .before .mark-if .ensures))
+    let loc = located (s .l .now) (s .places) _ _ (x .ensures .0) (x .ensures .1) ps e in
+    (c .before .before .before .before .before .before .put-places .ensures ps loc, rw (← c .before .before .before .before .is-noted .ensures ps loc) (c .before .before .mark-if .ensures))
 
 pub place-line-spec : {M : Type 1} → statement M
 place-line-spec =

@@ -49,9 +49,9 @@ returns c =
     let b = c .before .before .before .before .field-place2 .ensures .0 in
     let e = c .before .before .before .before .before .before .id-column .ensures .0 in
     λ ps loc.
-        rw (← c .before .before .width-of .ensures)
-        (put-as _ _ _ _ _ (c .before .put-places .ensures)
-        (rw (c .before .before .width-of .ensures) (places-record ps (s .l .now) _ (s .q .start) (s .q .end) loc (s .f) _ _ _ _ (rw e at (a .0)) (rw e at (a .1)) (b .0) (b .1))))
+    rw (← c .before .before .width-of .ensures)
+    (put-as _ _ _ _ _ (c .before .put-places .ensures)
+    (rw (c .before .before .width-of .ensures) (places-record ps (s .l .now) _ (s .q .start) (s .q .end) loc (s .f) _ _ _ _ (rw e at (a .0)) (rw e at (a .1)) (b .0) (b .1))))
 
 pub put-places-spec : {M : Type 1} → statement M
 put-places-spec =

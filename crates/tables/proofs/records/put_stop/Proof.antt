@@ -44,8 +44,8 @@ returns c =
     let x = c .before .before .before .before .before .latitude in
     let y = c .before .before .before .before .longitude in
     λ w ps loc parent.
-        c .before .put .ensures
-        ∙ stop-record ps (s .l .now) _ (s .q .start) (s .q .end) loc w _ _ _ _ _ _ _ (c .before .before .before .before .before .before .before .before .pre .1) parent (i .0) (i .1) (kept-is _ _ (x .ok) (x .ensures)) (kept-is _ _ (y .ok) (y .ensures)) (c .before .before .before .choice-or-zero .ensures .0)
+    c .before .put .ensures
+    ∙ stop-record ps (s .l .now) _ (s .q .start) (s .q .end) loc w _ _ _ _ _ _ _ (c .before .before .before .before .before .before .before .before .pre .1) parent (i .0) (i .1) (kept-is _ _ (x .ok) (x .ensures)) (kept-is _ _ (y .ok) (y .ensures)) (c .before .before .before .choice-or-zero .ensures .0)
 
 pub put-stop-spec : {M : Type 1} → statement M
 put-stop-spec =
