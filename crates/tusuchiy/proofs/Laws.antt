@@ -22,6 +22,7 @@ use Rattle.meaning.proofs.Readable.{WholeKept, whole-kept, values-kept}
 use Rattle.marks.specs.Noted.{Noted}
 use Rattle.text.proofs.Lines.{ended-count}
 use Rattle.tables.specs.Fill.{Room}
+use Rattle.tables.proofs.Feeds.{room-kept}
 use Rattle.tables.proofs.Ids.{rows-count}
 use Rattle.listing.specs.Handing.{State, state, handedOut}
 use Rattle.listing.specs.declared.Sink.{Sink}
@@ -29,19 +30,8 @@ use Rattle.held.specs.Held.{Filled}
 use Rattle.file_rules.specs.Lines.{NamedTrips}
 use Rattle.rules.specs.Tabled.{Tabled}
 
--- what reading leaves of a file: room in its table, and few lines
-record Kept (f : ℕ) (s : List ℕ) (t : List ℤ) : Type 0 where
-  room : Room f s t
-  few : countLf s ≤ 65536
-
-kept : (f : ℕ) (s : List ℕ) (t : List ℤ) → WholeKept f s (length t) → Kept f s t
-kept f s t k = record {
-  room = record { lines = ended-count f s (length t) (k .ended); size = k .short; room = k .roomy };
-  few = k .few;
-}
-
-filled-of : (f : ℕ) (w : Feed) (s : List ℕ) (t t′ : List ℤ) → Kept f s t → t′ ≡ filled f w s t → Filled f w (rowsOf f s) s t′
-filled-of f w s t t′ k e = record { lent = t; is = e; roomy = k .room .room; some = k .room .lines; read = refl }
+filled-of : (f : ℕ) (w : Feed) (s : List ℕ) (t t′ : List ℤ) → Room f s t → t′ ≡ filled f w s t → Filled f w (rowsOf f s) s t′
+filled-of f w s t t′ k e = record { lent = t; is = e; roomy = k .room; some = k .lines; read = refl }
 
 module _ (s₁ s₂ s₃ s₄ s₅ : List ℕ) (t₁ t₂ t₃ t₄ t₅ : List ℤ) (read : verdictOf (s₁ ∷ s₂ ∷ s₃ ∷ s₄ ∷ s₅ ∷ []) (length t₁ ∷ length t₂ ∷ length t₃ ∷ length t₄ ∷ length t₅ ∷ []) ≡ Readable) where
   abbrev files : List (List ℕ)
@@ -50,29 +40,29 @@ module _ (s₁ s₂ s₃ s₄ s₅ : List ℕ) (t₁ t₂ t₃ t₄ t₅ : List 
   abbrev rooms : List ℕ
   rooms = length t₁ ∷ length t₂ ∷ length t₃ ∷ length t₄ ∷ length t₅ ∷ []
 
-  stops-kept : Kept 1 s₁ t₁
+  stops-kept : Room 1 s₁ t₁
   unfolding fileOf
-  stops-kept = kept 1 s₁ t₁ (whole-kept files rooms read 1 (omega arith) (omega arith) (omega arith))
+  stops-kept = room-kept 1 s₁ t₁ (whole-kept files rooms read 1 (omega arith) (omega arith) (omega arith))
 
-  routes-kept : Kept 2 s₂ t₂
+  routes-kept : Room 2 s₂ t₂
   unfolding fileOf
-  routes-kept = kept 2 s₂ t₂ (whole-kept files rooms read 2 (omega arith) (omega arith) (omega arith))
+  routes-kept = room-kept 2 s₂ t₂ (whole-kept files rooms read 2 (omega arith) (omega arith) (omega arith))
 
-  calendar-kept : Kept 3 s₃ t₃
+  calendar-kept : Room 3 s₃ t₃
   unfolding fileOf
-  calendar-kept = kept 3 s₃ t₃ (whole-kept files rooms read 3 (omega arith) (omega arith) (omega arith))
+  calendar-kept = room-kept 3 s₃ t₃ (whole-kept files rooms read 3 (omega arith) (omega arith) (omega arith))
 
-  trips-kept : Kept 4 s₄ t₄
+  trips-kept : Room 4 s₄ t₄
   unfolding fileOf
-  trips-kept = kept 4 s₄ t₄ (whole-kept files rooms read 4 (omega arith) (omega arith) (omega arith))
+  trips-kept = room-kept 4 s₄ t₄ (whole-kept files rooms read 4 (omega arith) (omega arith) (omega arith))
 
-  times-kept : Kept 5 s₅ t₅
+  times-kept : Room 5 s₅ t₅
   unfolding fileOf
-  times-kept = kept 5 s₅ t₅ (whole-kept files rooms read 5 (omega arith) (omega arith) (omega arith))
+  times-kept = room-kept 5 s₅ t₅ (whole-kept files rooms read 5 (omega arith) (omega arith) (omega arith))
 
   -- what filling asks of the five files and tables, and what the rules ask of the files
   pub rooms-kept : Room 1 s₁ t₁ × (Room 2 s₂ t₂ × (Room 3 s₃ t₃ × (Room 4 s₄ t₄ × Room 5 s₅ t₅)))
-  rooms-kept = (stops-kept .room, (routes-kept .room, (calendar-kept .room, (trips-kept .room, times-kept .room))))
+  rooms-kept = (stops-kept, (routes-kept, (calendar-kept, (trips-kept, times-kept))))
 
   pub few-kept : (countLf s₁ ≤ 65536) × ((countLf s₂ ≤ 65536) × ((countLf s₃ ≤ 65536) × ((countLf s₄ ≤ 65536) × (countLf s₅ ≤ 65536))))
   few-kept = (stops-kept .few, (routes-kept .few, (calendar-kept .few, (trips-kept .few, times-kept .few))))
@@ -107,7 +97,7 @@ module _ (s₁ s₂ s₃ s₄ s₅ : List ℕ) (t₁ t₂ t₃ t₄ t₅ : List 
     times = filled-of 5 (feedOf files) s₅ t₅ u₅ times-kept e;
     noted = m;
     named = named-trips;
-    few = omega (arith, rows-count 4 s₄, trips-kept .few, trips-kept .room .lines);
+    few = omega (arith, rows-count 4 s₄, trips-kept .few, trips-kept .lines);
   }
 
   -- and the outcome is what is answered and held
