@@ -12,3 +12,4 @@ pub mod Promises
 pub mod Held
 pub mod Calls
 pub mod Demands
+pub mod Cases

@@ -19,7 +19,8 @@ use Rattle.meaning.specs.Tables.{Feed, fileOf, feedOf, filled, tripId}
 use Rattle.meaning.specs.Refusals.{verdictOf, blank}
 use Rattle.meaning.specs.Findings.{findingsOf, answerOf, handed, page, roomOf}
 use Rattle.meaning.specs.Outcome.{Outcome, readOutcome, filledFrom, outcome}
-use Rattle.meaning.proofs.Readable.{WholeKept, whole-kept, values-kept}
+use Rattle.meaning.specs.Promises.{WholeKept}
+use Rattle.meaning.proofs.Readable.{whole-kept, values-kept}
 use Rattle.text.proofs.Lines.{ended-count}
 use Rattle.tables.specs.Fill.{Room}
 use Rattle.tables.proofs.Ids.{rows-count}
