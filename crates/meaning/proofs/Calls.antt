@@ -2,9 +2,9 @@
 use Prim.Native.Nat.{ℕ, suc, _*_, _-_, _/_, _≤_, _<_}
 use native.Mathlib.Omega.{arith}
 use mathlib.Core.Path.{_≡_, refl, sym, ap, ap₂, _∙_}
-use mathlib.Core.List.{List, [], _∷_, _++_, append-nil, map, List·Memᴰ, List·Memᴰ·head, List·Memᴰ·tail, List·Memᴰ·not-nil, List·Memᴰ·cases-cons}
+use mathlib.Core.List.{List, [], _∷_, _++_, append-nil, map, List·Memᴰ·head, List·Memᴰ·tail, List·Memᴰ·not-nil, List·Memᴰ·cases-cons}
 use mathlib.Core.Logic.{inr, ⊎-elim}
-use mathlib.Core.Bool.{Bool, true, false, cond}
+use mathlib.Core.Bool.{true, false}
 use lib.IntN.{ℤ}
 use lib.ListN.{length, getD, take, drop, length-map, length-take, length-drop, take-append-drop}
 use lib.Seq.{take-at, take-nil}
@@ -18,14 +18,14 @@ use Rattle.meaning.specs.Tables.{fileOf, feedOf, widthOf}
 use Rattle.meaning.specs.Refusals.{Test, Claim, rule1, rule2, rule3, rule4, claims, verdictOf}
 use Rattle.meaning.specs.Findings.{Finding, findingsOf, after, page, roomOf, triples, handed, answerOf, answerNumbers}
 use Rattle.meaning.specs.Outcome.{Outcome, outcome, readOutcome}
-use Rattle.meaning.specs.Promises.{Ordered, Each, comesBefore, beginning, saysAccepted, saysFindings, writtenIn, totalIn, fileTests, testOf, FileClaim, LineClaim, NoneBroken, WholeKept}
+use Rattle.meaning.specs.Promises.{Each, beginning, writtenIn, totalIn, fileTests, testOf, FileClaim, NoneBroken, WholeKept}
 use Rattle.meaning.specs.Calls.{Lending, again, anew, lentTables, lentList, written, handsNone, lastPlace, calls, LongEnough, Enough, CallsJoin}
 use Rattle.meaning.proofs.ListLaws.{both, keep-all, nothing}
 use Rattle.meaning.proofs.Laws.{each-cons}
 use Rattle.meaning.proofs.FirstBroken.{readable-exactly}
 use Rattle.meaning.proofs.Claims.{claims-exactly}
 use Rattle.meaning.proofs.Readable.{whole-kept, getD-map-in}
-use Rattle.meaning.proofs.Pages.{Left, page-is, left-page, told, total-told}
+use Rattle.meaning.proofs.Pages.{Left, page-is, left-page, total-told}
 use Rattle.meaning.proofs.TheList.{list-ordered, findings-from-beginning}
 use Rattle.meaning.proofs.Held.{triples-length, tables-long, list-long}
 
@@ -163,7 +163,6 @@ module _ (files : List (List ℕ)) (five : length files ≡ 5) where
   joined [] tables list p rest enough h e = both false e refl
   joined (x ∷ []) tables list p rest enough h e =
       let q = enough x (List·Memᴰ·head refl) in
-      let room = room-now x tables list p rest q h in
       append-nil _ ∙ given-now x tables list p rest q h .given ∙ rw (none-left x tables list p rest q h e, take-nil)
   joined (x ∷ y ∷ xs) tables list p rest enough h e =
       let q = enough x (List·Memᴰ·head refl) in

@@ -3,25 +3,24 @@ use Prim.Native.Nat.{ℕ, zero, suc, _+_, _*_, _-_, _/_, _≤_, _<_}
 use native.Mathlib.Omega.{arith}
 use mathlib.Core.Path.{_≡_, refl, sym, ap, ap₂, _∙_}
 use mathlib.Core.List.{List, [], _∷_, _++_, map}
-use mathlib.Core.Bool.{Bool, true, false, cond}
+use mathlib.Core.Bool.{cond}
 use lib.IntN.{ℤ, pos}
 use lib.ListN.{length, getD, take, length-map, length-take}
 use lib.Dec.{eqb}
 use Rattle.meaning.specs.declared.Place.{Place}
 use Rattle.meaning.specs.declared.Verdict.{Verdict}
 use Rattle.meaning.specs.declared.Verdict.the-variants.{Readable, Unreadable}
-use Rattle.meaning.specs.Lists.{empty, find, keep}
+use Rattle.meaning.specs.Lists.{keep}
 use Rattle.meaning.specs.Bytes.{linesOf}
-use Rattle.meaning.specs.Columns.{Row, places, headerOf, rowOf, rowsOf}
+use Rattle.meaning.specs.Columns.{Row, places, headerOf, rowsOf}
 use Rattle.meaning.specs.Tables.{Feed, fileOf, feedOf, refer, packFrom, packedDays, stopNumbers, routeNumbers, serviceNumbers, tripNumbers, timeNumbers, widths, widthOf, idColumn, numbersOf, idPlace, recordOf, filled}
 use Rattle.meaning.specs.Refusals.{verdictOf}
 use Rattle.meaning.specs.Rules.{row}
 use Rattle.meaning.specs.Findings.{Finding, findingsOf, after, page, roomOf, triples, handed}
 use Rattle.meaning.specs.Outcome.{outcome, readOutcome, refusedOr, filledFrom}
-use Rattle.meaning.specs.Promises.{First, noLine, WholeKept}
-use Rattle.meaning.specs.Held.{Names, lineOf, Placed, StopHeld, RouteHeld, mark, ServiceHeld, TripHeld, TimeHeld, TableHeld, TablesHeld}
+use Rattle.meaning.specs.Promises.{WholeKept}
+use Rattle.meaning.specs.Held.{Names, lineOf, StopHeld, RouteHeld, mark, ServiceHeld, TripHeld, TimeHeld, TableHeld, TablesHeld}
 use Rattle.meaning.proofs.References.{find-first}
-use Rattle.meaning.proofs.ListLaws.{both}
 use Rattle.meaning.proofs.Readable.{whole-kept, getD-map-in}
 use Rattle.meaning.proofs.Records.{laid-length, zero-held, rest-held, length-held, number-held, row-held}
 

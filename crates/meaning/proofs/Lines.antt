@@ -8,7 +8,7 @@ use mathlib.Core.List.{List, [], _∷_, List·Memᴰ, List·Memᴰ·head, List·
 use lib.ListN.{length, getD}
 use lib.Dec.{ltb}
 use borrow.Author.Tests.{ltb-true, lt-ltb}
-use Rattle.meaning.specs.Refusals.{Test, test, Claim, claim, onLine}
+use Rattle.meaning.specs.Refusals.{Test, Claim, claim, onLine}
 use Rattle.meaning.specs.Promises.{Ordered, Each, sooner2, sooner3, testOf}
 use Rattle.meaning.proofs.ListLaws.{and-both}
 use Rattle.meaning.proofs.Laws.{sooner-less, sooner-same, each-cons, along, Along, along-in, along-of, along-ordered}

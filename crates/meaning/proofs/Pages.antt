@@ -13,11 +13,11 @@ use Rattle.meaning.specs.declared.Place.{Place}
 use Rattle.meaning.specs.declared.Verdict.{Verdict}
 use Rattle.meaning.specs.declared.Verdict.the-variants.{Readable, Unreadable}
 use Rattle.meaning.specs.declared.Answer.the-variants.{Accepted, Findings}
-use Rattle.meaning.specs.Lists.{keep, laid}
+use Rattle.meaning.specs.Lists.{keep}
 use Rattle.meaning.specs.Tables.{feedOf}
 use Rattle.meaning.specs.Refusals.{verdictOf}
 use Rattle.meaning.specs.Findings.{Finding, findingsOf, after, page, roomOf, triples, handed, answerOf, answerNumbers}
-use Rattle.meaning.specs.Outcome.{Outcome, outcome, readOutcome, refusedOr}
+use Rattle.meaning.specs.Outcome.{outcome, readOutcome, refusedOr}
 use Rattle.meaning.specs.Promises.{Ordered, comesBefore, saysAccepted, saysFindings, saysRead, totalIn, PageTold}
 use Rattle.meaning.specs.Calls.{lastPlace}
 use Rattle.meaning.proofs.ListLaws.{after-is-before, comes-once, keep-behind, nothing}

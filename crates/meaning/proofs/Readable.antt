@@ -1,5 +1,5 @@
 -- In a readable feed no rule of 1 to 13 is broken: what the later layers may lean on.
-use Prim.Native.Nat.{ℕ, zero, suc, _+_, _*_, _-_, _≤_, _<_}
+use Prim.Native.Nat.{ℕ, zero, suc, _+_, _-_, _≤_, _<_}
 use mathlib.Core.Path.{_≡_, refl, _∙_}
 use mathlib.Core.List.{List, [], _∷_, map, List·Memᴰ, List·Memᴰ·head, List·Memᴰ·tail, Memᴰ·append-right}
 use mathlib.Core.Bool.{Bool, true, false, cond}
@@ -8,12 +8,11 @@ use native.Mathlib.Decide.{ℕ-discrete}
 use lib.ListN.{length, getD, drop, length-map, length-drop}
 use lib.Seq.{getD-drop}
 use borrow.Author.Tests.{ne-eqb, ltb-false}
-use Rattle.meaning.specs.declared.Column.{Column}
 use Rattle.meaning.specs.declared.Verdict.the-variants.{Readable}
 use Rattle.meaning.specs.Lists.{some}
-use Rattle.meaning.specs.Bytes.{linesOf, countLf}
+use Rattle.meaning.specs.Bytes.{linesOf}
 use Rattle.meaning.specs.Columns.{columnOf, countOf, places, rowOf, headerOf, rowsOf}
-use Rattle.meaning.specs.Tables.{fileOf, widthOf}
+use Rattle.meaning.specs.Tables.{fileOf}
 use Rattle.meaning.specs.Refusals.{Test, test, claim, rule1, rule2, rule3, rule4, rule11, rule12, rule13, long, blank, formless, overRow, textTests, rowTests, lineTests, verdictOf}
 use Rattle.meaning.specs.Promises.{fileTests, testsOn, noLine, ValueKept}
 pub use Rattle.meaning.specs.Promises.{WholeKept}

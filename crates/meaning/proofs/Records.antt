@@ -2,7 +2,7 @@
 use Prim.Native.Nat.{ℕ, zero, suc, _+_, _*_, _-_, _≤_, _<_}
 use native.Mathlib.Omega.{arith}
 use native.Mathlib.Nat.{add-mul, mul-comm, mul-le-mul-right}
-use mathlib.Core.Path.{_≡_, refl, sym, ap, ap₂, _∙_}
+use mathlib.Core.Path.{_≡_, refl, _∙_}
 use mathlib.Core.List.{List, [], _∷_, _++_, append-assoc, map}
 use mathlib.Core.Bool.{Bool, true, false, cond, not, _||_}
 use lib.IntN.{ℤ, pos}
@@ -10,8 +10,8 @@ use lib.ListN.{length, getD, drop, replicate, length-append, length-drop, length
 use lib.Seq.{getD-append-add, getD-drop, drop-at}
 use lib.Dec.{eqb}
 use borrow.Author.Tests.{eq-eqb, eqb-true, eqb-false}
-use Rattle.meaning.specs.Lists.{same, flat, laid}
-use Rattle.meaning.specs.Bytes.{Line, leadingMark, startOf, countLf, cuts, lineOf, linesFrom, linesOf}
+use Rattle.meaning.specs.Lists.{flat, laid}
+use Rattle.meaning.specs.Bytes.{Line, startOf, countLf, cuts, lineOf, linesFrom, linesOf}
 use Rattle.meaning.specs.Columns.{places, headerOf, rowOf, rowsOf}
 use Rattle.meaning.specs.Tables.{Feed, stopNumbers, routeNumbers, serviceNumbers, tripNumbers, timeNumbers, widths, widthOf, numbersOf, idPlace, recordOf, recordsOf, filled}
 use Rattle.meaning.specs.Refusals.{rule4}
