@@ -19,7 +19,7 @@ use Rattle.meaning.specs.Rules.{row}
 use Rattle.meaning.specs.Findings.{Finding, findingsOf, after, page, roomOf, triples, handed}
 use Rattle.meaning.specs.Outcome.{outcome, readOutcome, refusedOr, filledFrom}
 use Rattle.meaning.specs.Promises.{WholeKept}
-use Rattle.meaning.specs.Held.{Names, lineOf, StopHeld, RouteHeld, mark, ServiceHeld, TripHeld, TimeHeld, TableHeld, TablesHeld}
+use Rattle.meaning.specs.Held.{Names, lineAt, StopHeld, RouteHeld, mark, ServiceHeld, TripHeld, TimeHeld, TableHeld, TablesHeld}
 use Rattle.meaning.proofs.References.{find-first}
 use Rattle.meaning.proofs.Readable.{whole-kept, getD-map-in}
 use Rattle.meaning.proofs.Records.{laid-length, zero-held, rest-held, length-held, number-held, row-held}
@@ -37,7 +37,7 @@ packed r = omega arith
 -- the record of a line whose row is r
 abbrev recordBy : ℕ → Feed → List ℕ → ℕ → Row → List ℤ
 recordBy f w s i r =
-    let id = idPlace (getD (places f (headerOf (linesOf s))) (idColumn f) 0) (lineOf s i) in
+    let id = idPlace (getD (places f (headerOf (linesOf s))) (idColumn f) 0) (lineAt s i) in
     cond (eqb f 5) (numbersOf f w r) (id ++ numbersOf f w r)
 
 -- a table that is filled for a file with these rows

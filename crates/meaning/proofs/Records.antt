@@ -80,16 +80,16 @@ lines-few s =
     omega (arith, length-map cs (lineOf s), cuts-count (startOf s) (startOf s) (drop (startOf s) s), count-drop (startOf s) s)
 
 -- an LF counts
-count-some : (s : List ℕ) (i : ℕ) → i < length s → getD s i 0 ≡ 10 → 1 ≤ countLf s
+pub count-some : (s : List ℕ) (i : ℕ) → i < length s → getD s i 0 ≡ 10 → 1 ≤ countLf s
 unfolding countLf
 count-some [] i h e = absurd (omega arith)
 count-some (b ∷ r) zero h e = rw (eq-eqb b 10 e) (omega arith)
 count-some (b ∷ r) (suc i) h e = omega (arith, count-some r i (omega arith) e, count-tail b r)
 
 -- a file that rule 4 lets pass has an LF
-ended-some : (f : ℕ) (s : List ℕ) (room : ℕ) → rule4 f s room ≡ false → 1 ≤ countLf s
+pub ended-count : (f : ℕ) (s : List ℕ) (room : ℕ) → rule4 f s room ≡ false → 1 ≤ countLf s
 unfolding rule4
-ended-some f s room p = go (eqb (length s) 0) refl (eqb (getD s (length s - 1) 0) 10) refl p
+ended-count f s room p = go (eqb (length s) 0) refl (eqb (getD s (length s - 1) 0) 10) refl p
   where
     go : (t : Bool) → eqb (length s) 0 ≡ t → (u : Bool) → eqb (getD s (length s - 1) 0) 10 ≡ u → (t || not u) ≡ false → 1 ≤ countLf s
     go true t u q z = both true refl z
@@ -101,7 +101,7 @@ ended-some f s room p = go (eqb (length s) 0) refl (eqb (getD s (length s - 1) 0
 -- ---- a file's table
 
 -- a record has as many numbers as its file's width says
-record-wide : (f : ℕ) (w : Feed) (ps : List ℕ) (l : Line) → 1 ≤ f → f ≤ 5 → length (recordOf f w ps l) ≡ widthOf f
+pub record-wide : (f : ℕ) (w : Feed) (ps : List ℕ) (l : Line) → 0 < f → f < 6 → length (recordOf f w ps l) ≡ widthOf f
 unfolding recordOf idPlace numbersOf stopNumbers routeNumbers serviceNumbers tripNumbers timeNumbers widthOf widths
 record-wide zero w ps l a b = absurd (omega arith)
 record-wide (suc zero) w ps l a b = refl
@@ -122,7 +122,7 @@ module _ (f : ℕ) (low : 1 ≤ f) (high : f ≤ 5) (w : Feed) (s : List ℕ) (l
   body = flat (map (recordOf f w columns) (drop 1 (linesOf s)))
 
   wide : (l : Line) → length (recordOf f w columns l) ≡ widthOf f
-  wide l = record-wide f w columns l low high
+  wide l = record-wide f w columns l low (omega arith)
 
   rows-are : length (rowsOf f s) ≡ length (drop 1 (linesOf s))
   unfolding rowsOf
@@ -150,7 +150,7 @@ module _ (f : ℕ) (low : 1 ≤ f) (high : f ≤ 5) (w : Feed) (s : List ℕ) (l
   pub length-held : WholeKept f s (length lent) → length (filled f w s lent) ≡ length lent
   unfolding filled recordsOf flat
   length-held k =
-      let some = ended-some f s (length lent) (k .ended) in
+      let some = ended-count f s (length lent) (k .ended) in
       let n : length (rowsOf f s) + 1 ≤ countLf s = omega (arith, rows-are, length-drop 1 (linesOf s), lines-few s) in
       let m : (length (rowsOf f s) + 1) * widthOf f ≤ countLf s * widthOf f = mul-le-mul-right (widthOf f) n in
       laid-length (zeros ++ body) lent (omega (arith, written-count, mul-comm (countLf s) (widthOf f), k .roomy))

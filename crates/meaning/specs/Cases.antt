@@ -26,6 +26,11 @@ use Rattle.meaning.specs.Refusals.{verdictOf}
 use Rattle.meaning.specs.Findings.{Finding, finding, findingsOf}
 use Rattle.meaning.specs.Outcome.{Outcome, outcome}
 use Rattle.meaning.specs.Promises.{beginning}
+use Rattle.meaning.specs.Calls.{Lending, again, written, calls}
+
+-- n numbers as they may be lent
+abbrev pub sevens : ℕ → List ℤ
+sevens n = replicate n (pos 7)
 
 -- a text, and what document 01 says of it
 pub data Case : Type 0 where
@@ -40,6 +45,7 @@ pub data Case : Type 0 where
   records : ℕ → List String → List (List ℤ) → Case
   call : List String → List (List ℤ) → List ℤ → Place → Outcome → Case
   handed : List String → List ℤ → Place → Answer → List ℤ → Case
+  called : List String → List ℤ → List Lending → List (List ℤ) → Case
 
 abbrev pub Holds : Case → Type 0
 Holds (time s t) = timeOf (ascii s) ≡ t
@@ -53,8 +59,10 @@ Holds (read files v) = verdictOf (map ascii files) (replicate 5 99) ≡ v
 Holds (records f files rs) = recordsOf f (feedOf (map ascii files)) (fileOf (map ascii files) f) ≡ rs
 Holds (call files tables list p o) = outcome (map ascii files) tables list p ≡ o
 Holds (handed files list p a after) =
-    let o = outcome (map ascii files) (replicate 5 (replicate 99 (pos 7))) list p in
+    let o = outcome (map ascii files) (replicate 5 (sevens 99)) list p in
     (o .answer ≡ a) × (o .list ≡ after)
+Holds (called files list lendings each) =
+    map written (calls (map ascii files) (replicate 5 (sevens 99)) list beginning lendings) ≡ each
 
 abbrev pub AllHold : List Case → Type 0
 AllHold [] = Unit {0}
@@ -69,10 +77,6 @@ example =
     ∷ "route_id,service_id,trip_id\nR,W,T\nR,X,U\n"
     ∷ "trip_id,arrival_time,departure_time,stop_id,stop_sequence\nT,08:00:00,08:00:00,A,1\nT,07:59:59,08:05:00,B,2\nT,,,C,2\n"
     ∷ []
-
--- n numbers as they may be lent
-abbrev pub sevens : ℕ → List ℤ
-sevens n = replicate n (pos 7)
 
 -- Values at the edges, starred, and the feed above.
 abbrev pub starred : List Case
@@ -201,7 +205,16 @@ secondPage =
     handed example (sevens 8) (record { file = pos 4; line = pos 3; rule = pos 21 })
     (Findings 2 6) (pos 4 ∷ pos 3 ∷ pos 30 ∷ pos 5 ∷ pos 3 ∷ pos 29 ∷ pos 7 ∷ pos 7 ∷ [])
 
--- 23: the resolved stop isn't type 0. Line 2 stops at A, of type 0, and line 3 at S, the station behind it.
+-- The same feed in calls with room for four: four findings, then two, then none.
+abbrev pub threeCalls : Case
+threeCalls =
+    called example (sevens 12) (again ∷ again ∷ again ∷ [])
+    ((pos 4 ∷ pos 2 ∷ pos 31 ∷ pos 4 ∷ pos 3 ∷ pos 21 ∷ pos 4 ∷ pos 3 ∷ pos 30 ∷ pos 5 ∷ pos 3 ∷ pos 29 ∷ [])
+    ∷ (pos 5 ∷ pos 4 ∷ pos 21 ∷ pos 5 ∷ pos 4 ∷ pos 28 ∷ [])
+    ∷ []
+    ∷ [])
+
+-- 23: the resolved stop isn't type 0. Line 2 stops at A, of type 0, and line 3 at S, the station on the line below.
 abbrev pub stationServed : Case
 stationServed =
     found (around "stop_id,stop_name,stop_lat,stop_lon,location_type\nA,Alder,1.5,2,0\nS,Spruce,1.5,2,1\n" oneTrip
@@ -269,6 +282,7 @@ worked =
     acceptedCall
     ∷ refusedCall
     ∷ secondPage
+    ∷ threeCalls
     ∷ stationServed
     ∷ quotedId
     ∷ entranceAlone

@@ -20,14 +20,14 @@ pub record Names (v : List ℕ) (ids : List (List ℕ)) (z : ℤ) : Type 0 where
   pub none : empty v ≡ true → to ≡ 0
   pub first : empty v ≡ false → First v 1 ids to
 
--- the line with index i after the header of file f
-abbrev pub lineOf : List ℕ → ℕ → Line
-lineOf s i = getD (linesOf s) (i + 1) noLine
+-- the line with index i after the header of a file
+abbrev pub lineAt : List ℕ → ℕ → Line
+lineAt s i = getD (linesOf s) (i + 1) noLine
 
 -- the start and the end of the raw field under known column k, counted from the file's first byte
 pub record Placed (f k : ℕ) (s : List ℕ) (i : ℕ) (start end : ℤ) : Type 0 where
-  pub from : start ≡ pos (lineOf s i .start + fieldAt (lineOf s i .text) (getD (places f (headerOf (linesOf s))) k 0) .start)
-  pub to : end ≡ pos (lineOf s i .start + fieldAt (lineOf s i .text) (getD (places f (headerOf (linesOf s))) k 0) .end)
+  pub from : start ≡ pos (lineAt s i .start + fieldAt (lineAt s i .text) (getD (places f (headerOf (linesOf s))) k 0) .start)
+  pub to : end ≡ pos (lineAt s i .start + fieldAt (lineAt s i .text) (getD (places f (headerOf (linesOf s))) k 0) .end)
 
 -- stops, 6 numbers
 pub record StopHeld (w : Feed) (s : List ℕ) (i : ℕ) (n : ℕ → ℤ) : Type 0 where
