@@ -10,7 +10,7 @@ use Rattle.num.specs.Signs.{natOf}
 use Rattle.meaning.specs.Lists.{laid}
 use Rattle.meaning.specs.Bytes.{countLf}
 use Rattle.rows.specs.Cells.{natAt}
-use Rattle.meaning.proofs.Readable.{WholeKept}
+use Rattle.meaning.specs.Promises.{WholeKept}
 use Rattle.text.proofs.Lines.{ended-count}
 use Rattle.meaning.specs.Columns.{rowsOf}
 use Rattle.meaning.specs.Tables.{Feed, under, idColumn, widths, widthOf, parentStation, stopIds, routeIds, serviceIds, tripIds, fileOf, feedOf}

@@ -1,5 +1,5 @@
 -- Laws: a readable feed is ready to be filled, and a filled one to be judged.
-use Prim.Native.Nat.{ℕ, _-_, _≤_}
+use Prim.Native.Nat.{ℕ, _-_, _≤_, _<_}
 use mathlib.Core.Path.{_≡_, refl, ap}
 use mathlib.Core.List.{List, [], _∷_, map}
 use mathlib.Core.Bool.{cond}
@@ -18,9 +18,8 @@ use Rattle.meaning.specs.Tables.{Feed, fileOf, feedOf, filled}
 use Rattle.meaning.specs.Refusals.{verdictOf, blank}
 use Rattle.meaning.specs.Findings.{findingsOf, answerOf, handed, page, roomOf}
 use Rattle.meaning.specs.Outcome.{Outcome, readOutcome, filledFrom, outcome}
-use Rattle.meaning.proofs.Readable.{WholeKept, whole-kept, values-kept}
+use Rattle.meaning.proofs.Readable.{whole-kept, values-kept}
 use Rattle.marks.specs.Noted.{Noted}
-use Rattle.text.proofs.Lines.{ended-count}
 use Rattle.tables.specs.Fill.{Room}
 use Rattle.tables.proofs.Feeds.{room-kept}
 use Rattle.tables.proofs.Ids.{rows-count}
