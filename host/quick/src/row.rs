@@ -43,61 +43,87 @@ impl<'a> Row<'_, 'a> {
     }
 
     /// The value under a column, empty where the column is absent.
+    #[inline(always)]
     pub fn text(&self, column: usize) -> &'a [u8] {
-        self.id(column).value
-    }
-
-    fn id(&self, column: usize) -> Id<'a> {
-        let (start, end) = self.header.place(column).map_or((0, 0), |field| self.line.bounds(field));
-        Id { start: start as i32, end: end as i32, value: inside(&self.file[start..end]) }
-    }
-
-    /// Rule 12 on a column whose values may be anything else.
-    pub fn needed_text(&mut self, column: usize) {
-        if self.text(column).is_empty() {
-            self.breaks(12);
+        match self.header.place(column) {
+            Some(field) => inside(self.raw(field)),
+            None => b"",
         }
     }
 
-    /// An id or a reference that may be empty.
-    pub fn reference(&mut self, column: usize) -> &'a [u8] {
-        let value = self.text(column);
+    #[inline(always)]
+    fn raw(&self, field: usize) -> &'a [u8] {
+        let (start, end) = self.line.bounds(field);
+        &self.file[start..end]
+    }
+
+    /// Rule 11.
+    #[inline(always)]
+    fn limited(&mut self, value: &'a [u8]) -> &'a [u8] {
         if value.len() > ID_BYTES && length(value) > ID_BYTES {
             self.breaks(11);
         }
         value
     }
 
-    /// A reference that is needed.
-    pub fn needed_reference(&mut self, column: usize) -> &'a [u8] {
-        self.needed_text(column);
-        self.reference(column)
-    }
-
-    /// The id of the line.
-    pub fn needed_id(&mut self, column: usize) -> Id<'a> {
-        self.needed_reference(column);
-        self.id(column)
-    }
-
-    /// The number under a column that is needed.
-    pub fn needed(&mut self, column: usize, form: fn(&[u8]) -> Option<i32>) -> i32 {
-        self.needed_text(column);
-        self.formed(self.text(column), form)
-    }
-
-    /// The number under a column, or what empty means.
-    pub fn number(&mut self, column: usize, empty: i32, form: fn(&[u8]) -> Option<i32>) -> i32 {
-        match self.text(column) {
-            b"" => empty,
-            value => self.formed(value, form),
+    /// Rule 12.
+    #[inline(always)]
+    fn given(&mut self, value: &'a [u8]) -> &'a [u8] {
+        if value.is_empty() {
+            self.breaks(12);
         }
+        value
     }
 
-    fn formed(&mut self, value: &[u8], form: fn(&[u8]) -> Option<i32>) -> i32 {
-        form(value).unwrap_or_else(|| {
+    /// Rule 13.
+    #[inline(always)]
+    fn formed(&mut self, number: Option<i32>) -> i32 {
+        number.unwrap_or_else(|| {
             self.breaks(13);
             0
         })
+    }
+
+    /// A text that is needed.
+    #[inline(always)]
+    pub fn needed_text(&mut self, column: usize) -> &'a [u8] {
+        self.given(self.text(column))
+    }
+
+    /// A reference that may be empty.
+    #[inline(always)]
+    pub fn reference(&mut self, column: usize) -> &'a [u8] {
+        self.limited(self.text(column))
+    }
+
+    /// A reference that is needed.
+    #[inline(always)]
+    pub fn needed_reference(&mut self, column: usize) -> &'a [u8] {
+        let value = self.needed_text(column);
+        self.limited(value)
+    }
+
+    /// The id of the line.
+    #[inline(always)]
+    pub fn needed_id(&mut self, column: usize) -> Id<'a> {
+        let value = self.needed_reference(column);
+        let (start, end) = self.header.place(column).map_or((0, 0), |field| self.line.bounds(field));
+        Id { start: start as i32, end: end as i32, value }
+    }
+
+    /// The number under a column that is needed.
+    #[inline(always)]
+    pub fn needed(&mut self, column: usize, form: impl Fn(&[u8]) -> Option<i32>) -> i32 {
+        let value = self.needed_text(column);
+        self.formed(form(value))
+    }
+
+    /// The number under a column, or what empty means.
+    #[inline(always)]
+    pub fn number(&mut self, column: usize, empty: i32, form: impl Fn(&[u8]) -> Option<i32>) -> i32 {
+        match self.text(column) {
+            b"" => empty,
+            value => self.formed(form(value)),
+        }
     }
 }

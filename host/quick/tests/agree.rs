@@ -1,5 +1,6 @@
 //! The hash-map check against the customer's cases and the model: the answer, all tables and the list, whole.
 
+use cases::large::{self, families::FAMILIES};
 use cases::{by_model, difference, edges, generate, vectors, Case, Outcome};
 
 /// How many seeds it is compared with the model on.
@@ -38,5 +39,19 @@ fn on_generated_feeds() {
     for seed in 0..SEEDS {
         let case = generate::case(seed);
         compare(&case, &by_model(&case));
+    }
+}
+
+/// The benchmark's feeds, with a list for all findings and with one that ends before them.
+#[test]
+fn on_the_benchmarks_feeds() {
+    for family in &FAMILIES {
+        for (lines, room) in [(64, 1000), (64, 10), (4096, 100_000)] {
+            let files = (family.feed)(lines);
+            let tables = large::tables(&files, -1);
+            let name = format!("{}, {lines} lines", family.name);
+            let case = Case { name, files, tables, list: vec![-1; room], start: [0, 0, 0] };
+            compare(&case, &by_model(&case));
+        }
     }
 }
