@@ -55,3 +55,24 @@ fn on_the_benchmarks_feeds() {
         }
     }
 }
+
+/// A feed with tables of just the length that rule 3 asks for, compared with the model.
+fn compare_files(name: &str, files: [Vec<u8>; 5]) {
+    let tables = large::tables(&files, -1);
+    let case = Case { name: name.to_string(), files, tables, list: vec![-1; 10], start: [0, 0, 0] };
+    compare(&case, &by_model(&case));
+}
+
+/// Rules 1 and 2, at the limit and one over it.
+#[test]
+fn at_the_limits() {
+    for over in [0, 1] {
+        compare_files("65,536 lines", large::feed(65_535 + over));
+        let mut files = large::feed(2);
+        // The name of the last stop fills the file up.
+        let more = 16_777_216 + over - files[0].len();
+        let last = files[0].iter().rposition(|&byte| byte == b'S').expect("a stop's name");
+        files[0].splice(last..last, vec![b'x'; more]);
+        compare_files("16,777,216 bytes", files);
+    }
+}
