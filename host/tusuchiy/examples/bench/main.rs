@@ -5,6 +5,7 @@
 mod clock;
 mod measure;
 mod report;
+mod table;
 
 use cases::large::families::{Family, FAMILIES};
 use measure::{fastest, parts, Checker};
@@ -44,17 +45,10 @@ fn main() {
         stop(&format!("the feeds are: {}", FAMILIES.each_ref().map(|family| family.name).join(", ")));
     }
     report::introduce(&families);
-    let mut rows = Vec::new();
-    report::head();
-    for family in &families {
-        rows.extend(sizes(family, options.lines));
-    }
+    let rows: Vec<Row> = families.iter().flat_map(|family| sizes(family, options.lines)).collect();
+    let parts: Vec<Parts> = families.iter().map(|family| parts_of(family, &rows)).collect();
+    report::parts(&parts);
     report::summary(&rows);
-    report::head_of_parts();
-    for family in families {
-        report::parts(&parts_of(family, &rows));
-    }
-    report::explain_parts();
 }
 
 fn stop(words: &str) -> ! {

@@ -1,13 +1,27 @@
-//! What the benchmark prints: two tables in Markdown, and how the figures stand to the aims.
+//! What the benchmark prints: what it measures, two tables, and how the figures stand to the aims.
 
 use crate::measure::{ROOM, SPENT};
+use crate::table::Table;
 use cases::large::families::{Family, Kind};
-use std::cmp::Ordering;
 
 /// The aims: growth for four times the lines, ratio on plain feeds, ratio on any.
 const GROWTH: f64 = 5.0;
 const PLAIN_RATIO: f64 = 8.0;
 const RATIO: f64 = 20.0;
+
+const TIMES: Table =
+    Table(&[("feed", 11), ("lines", 7), ("bytes", 9), ("check", 10), ("quick", 10), ("ratio", 7), ("growth", 6)]);
+
+const PARTS: Table = Table(&[
+    ("feed", 11),
+    ("lines", 7),
+    ("check: rules 1-4", 10),
+    ("reading", 10),
+    ("the rest", 10),
+    ("quick: rules 1-4", 10),
+    ("reading", 10),
+    ("the rest", 10),
+]);
 
 /// A feed at one size.
 pub struct Row {
@@ -25,6 +39,17 @@ impl Row {
     fn ratio(&self) -> Option<f64> {
         self.check.map(|check| check / self.quick)
     }
+
+    /// What of it misses an aim, in words.
+    fn missed(&self) -> Vec<&'static str> {
+        let ratio_aim = if self.family.kind == Kind::Plain { PLAIN_RATIO } else { RATIO };
+        let over = |figure: Option<f64>, aim: f64| figure.is_some_and(|figure| figure > aim);
+        let mut missed = vec![];
+        missed.extend(over(self.growth, GROWTH).then_some("growth"));
+        missed.extend(over(self.ratio(), ratio_aim).then_some("ratio"));
+        missed.extend(self.check.is_none().then_some("skipped"));
+        missed
+    }
 }
 
 /// Seconds spent before lines are read, reading them, and after.
@@ -39,84 +64,80 @@ pub fn introduce(families: &[&Family]) {
     for family in families {
         println!("{:>11}: {}", family.name, family.about);
     }
+    println!("Processor: {}.", processor());
     println!("Processor time of one call. A call is made again until {SPENT} s are spent; the fastest counts.");
     println!("The lent list has room for {ROOM} findings. Growth: the check's time by that in the row above.\n");
+    TIMES.head();
 }
 
-pub fn head() {
-    println!("| feed        |   lines |      bytes |      check |      quick |   ratio | growth |");
-    println!("|-------------|---------|------------|------------|------------|---------|--------|");
+/// The processor as the system names it. An emulator hides it or names itself, and its times are no x86-64 times.
+fn processor() -> String {
+    let system = std::fs::read_to_string("/proc/cpuinfo").unwrap_or_default();
+    let name = system.lines().find_map(|line| line.strip_prefix("model name")?.split_once(": "));
+    let emulated = "none of x86-64, so an emulator: neither times nor ratios are those of x86-64";
+    name.map_or(emulated, |name| name.1).to_string()
 }
 
 pub fn row(row: &Row) {
-    let check = row.check.map_or("skipped".to_string(), shown);
-    let ratio = row.ratio().map_or("-".to_string(), |ratio| format!("{ratio:.1}"));
-    let growth = row.growth.map_or("-".to_string(), |growth| format!("{growth:.1}"));
-    let (name, lines, bytes, quick) = (row.family.name, row.lines, row.bytes, shown(row.quick));
-    println!("| {name:<11} | {lines:>7} | {bytes:>10} | {check:>10} | {quick:>10} | {ratio:>7} | {growth:>6} |");
+    let shown = |figure: Option<f64>| figure.map_or("-".to_string(), |figure| format!("{figure:.1}"));
+    let check = row.check.map_or("skipped".to_string(), seconds);
+    let sizes = [row.family.name.to_string(), row.lines.to_string(), row.bytes.to_string()];
+    let figures = [check, seconds(row.quick), shown(row.ratio()), shown(row.growth)];
+    TIMES.row(sizes.into_iter().chain(figures));
 }
 
-fn shown(seconds: f64) -> String {
+fn seconds(seconds: f64) -> String {
     match seconds {
         1.0.. => format!("{seconds:.2} s"),
         _ => format!("{:.2} ms", seconds * 1000.0),
     }
 }
 
-pub fn head_of_parts() {
-    println!("\n| feed        |   lines | check: rules 1-4 |    reading |   the rest | quick: rules 1-4 |    reading |   the rest |");
-    println!("|-------------|---------|------------------|------------|------------|------------------|------------|------------|");
-}
-
-pub fn parts(parts: &Parts) {
-    let [wholes, reading, rest] = parts.proved.map(shown);
-    let [quick_wholes, quick_reading, quick_rest] = parts.quick.map(shown);
+pub fn parts(all: &[Parts]) {
+    println!();
+    PARTS.head();
+    for parts in all {
+        let sizes = [parts.family.name.to_string(), parts.lines.to_string()];
+        PARTS.row(sizes.into_iter().chain(parts.proved.map(seconds)).chain(parts.quick.map(seconds)));
+    }
     println!(
-        "| {:<11} | {:>7} | {wholes:>16} | {reading:>10} | {rest:>10} | {quick_wholes:>16} | {quick_reading:>10} | {quick_rest:>10} |",
-        parts.family.name, parts.lines
-    );
-}
-
-pub fn explain_parts() {
-    println!(
-        "Rules 1-4: the feed without its last LF, refused before any line is read. Reading: the feed with a letter in"
+        "Rules 1-4: the feed without its last LF, refused before any line is read. Reading: the feed with a letter"
     );
     println!(
-        "its last value, refused once all is read, less the part before. The rest (ids, references, tables, findings):"
+        "in its last value, refused once all is read, less that. The rest (ids, references, tables, findings): the"
     );
-    println!("the whole check, less both.");
+    println!("whole call, less both.\n");
 }
 
 /// The worst figures and the feeds that miss an aim; those whose trips stand nowhere are told apart.
 pub fn summary(rows: &[Row]) {
-    println!();
-    let judged = || rows.iter().filter(|row| row.family.kind != Kind::Nowhere);
-    worst("growth over all feeds", judged(), |row| row.growth, GROWTH);
-    worst("ratio over all feeds", judged(), Row::ratio, RATIO);
-    worst("ratio over plain feeds", judged().filter(|row| row.family.kind == Kind::Plain), Row::ratio, PLAIN_RATIO);
-    let apart = || rows.iter().filter(|row| row.family.kind == Kind::Nowhere);
-    worst("growth where trips stand nowhere", apart(), |row| row.growth, GROWTH);
-    worst("ratio where trips stand nowhere", apart(), Row::ratio, RATIO);
-    let missed: Vec<String> =
-        rows.iter().filter(|row| misses(row)).map(|row| format!("{} at {}", row.family.name, row.lines)).collect();
-    match missed[..] {
-        [] => println!("No feed misses an aim."),
-        _ => println!("An aim is missed by: {}.", missed.join(", ")),
-    }
+    let nowhere = |row: &&Row| row.family.kind == Kind::Nowhere;
+    let (apart, judged): (Vec<&Row>, Vec<&Row>) = rows.iter().partition(nowhere);
+    let plain: Vec<&Row> = judged.iter().copied().filter(|row| row.family.kind == Kind::Plain).collect();
+    worst("growth over all feeds", &judged, |row| row.growth, GROWTH);
+    worst("ratio over all feeds", &judged, Row::ratio, RATIO);
+    worst("ratio over plain feeds", &plain, Row::ratio, PLAIN_RATIO);
+    misses("Aims missed", &judged);
+    worst("growth where trips stand nowhere", &apart, |row| row.growth, GROWTH);
+    worst("ratio where trips stand nowhere", &apart, Row::ratio, RATIO);
+    misses("Aims missed where trips stand nowhere", &apart);
 }
 
-/// Prints the row with the greatest figure of a kind.
-fn worst<'r>(what: &str, rows: impl Iterator<Item = &'r Row>, figure: fn(&Row) -> Option<f64>, aim: f64) {
-    let figures = rows.filter_map(|row| figure(row).map(|figure| (figure, row)));
-    let by_figure = |a: &(f64, &Row), b: &(f64, &Row)| a.0.partial_cmp(&b.0).unwrap_or(Ordering::Equal);
-    if let Some((figure, row)) = figures.max_by(by_figure) {
+/// Prints the greatest figure of a kind, and whose it is.
+fn worst(what: &str, rows: &[&Row], figure: fn(&Row) -> Option<f64>, aim: f64) {
+    let figures = rows.iter().filter_map(|row| figure(row).map(|figure| (figure, row)));
+    if let Some((figure, row)) = figures.max_by(|one, other| one.0.total_cmp(&other.0)) {
         println!("Worst {what}: {figure:.1} ({}, {} lines; aim: {aim:.0} at most)", row.family.name, row.lines);
     }
 }
 
-/// Is a figure of the row past its aim, or was it skipped?
-fn misses(row: &Row) -> bool {
-    let ratio_aim = if row.family.kind == Kind::Plain { PLAIN_RATIO } else { RATIO };
-    let over = |figure: Option<f64>, aim: f64| figure.is_some_and(|figure| figure > aim);
-    row.check.is_none() || over(row.ratio(), ratio_aim) || over(row.growth, GROWTH)
+/// Prints the rows that miss an aim, and which.
+fn misses(what: &str, rows: &[&Row]) {
+    let words = |row: &&&Row| format!("{} at {} ({})", row.family.name, row.lines, row.missed().join(", "));
+    let missed: Vec<String> = rows.iter().filter(|row| !row.missed().is_empty()).map(|row| words(&row)).collect();
+    match (rows, &missed[..]) {
+        ([], _) => {}
+        (_, []) => println!("{what}: none."),
+        _ => println!("{what}: {}.", missed.join("; ")),
+    }
 }
