@@ -1,5 +1,5 @@
 //! A benchmark, not a test: the proved check beside a check by hash maps, on the same feeds, in one run.
-//! Run it with: cargo run --release --example bench [-- --only FEED] [-- --lines N]
+//! Run it with: cargo run --release --example bench -- [--only FEED] [--lines N]
 #![deny(unsafe_code)]
 
 mod clock;
@@ -9,6 +9,7 @@ mod table;
 
 use cases::large::families::{Family, FAMILIES};
 use measure::{fastest, parts, Checker};
+use model::Answer;
 use report::{Parts, Row};
 
 /// The lines of the longest file, the header counted: the most that rule 2 allows.
@@ -72,6 +73,9 @@ fn sizes(family: &'static Family, most: usize) -> Vec<Row> {
 fn size(family: &'static Family, lines: usize, before: Option<Option<f64>>) -> Row {
     let files = (family.feed)(lines);
     let (quick, outcome) = fastest(Checker::Quick, &files);
+    if let Answer::Refused { number, .. } = outcome.answer {
+        stop(&format!("{} of {lines} lines is refused by rule {number}, and a refusal is no measure", family.name));
+    }
     let patient = before.map_or(true, |before| before.is_some_and(|before| before * 16.0 <= PATIENCE));
     let check = patient.then(|| {
         let (time, proved) = fastest(Checker::Proved, &files);
