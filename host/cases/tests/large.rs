@@ -1,4 +1,4 @@
-//! The benchmark's feeds are readable, within the limits, of the size asked for, and find what was meant.
+//! The benchmark's feeds are readable, of the size asked for, and what they are said to be.
 
 use cases::large::families::{Family, Kind, FAMILIES};
 use cases::large::tables;
@@ -23,14 +23,12 @@ fn findings(name: &str) -> Option<usize> {
     }
 }
 
-fn answer(files: &[Vec<u8>; 5]) -> Answer {
-    model::check(files, &mut tables(files, 0), &mut [], [0, 0, 0])
-}
-
 #[test]
 fn small_ones_find_what_was_meant() {
     for family in &FAMILIES {
-        let answer = answer(&(family.feed)(64));
+        let files = (family.feed)(64);
+        assert_eq!(files.iter().map(|file| line_ends(file)).max(), Some(64), "{}", family.name);
+        let answer = model::check(&files, &mut tables(&files, 0), &mut [], [0, 0, 0]);
         let total = match answer {
             Answer::Accepted => 0,
             Answer::Findings { total, .. } => total,
@@ -107,14 +105,4 @@ fn lines_stand_in_the_order_said() {
     assert_eq!(trips("few-ids").iter().max(), Some(&4));
     assert_eq!(calls("quoted"), calls("plain"));
     assert!(filled("quoted").0.iter().all(|file| file.starts_with(b"\"") && file.ends_with(b"\"\n")));
-}
-
-#[test]
-fn the_largest_are_as_long_as_rule_2_allows() {
-    for family in &FAMILIES {
-        let files = (family.feed)(65_536);
-        let lines = files.each_ref().map(|file| line_ends(file));
-        assert_eq!(lines.iter().max(), Some(&65_536), "{}", family.name);
-        assert!(!matches!(answer(&files), Answer::Refused { .. }), "{}", family.name);
-    }
 }

@@ -2,6 +2,8 @@
 
 use cases::large::{self, families::FAMILIES};
 use cases::{by_model, difference, edges, generate, vectors, Case, Outcome};
+use model::fields::line_ends;
+use model::Answer;
 
 /// How many seeds it is compared with the model on.
 const SEEDS: u64 = 4000;
@@ -53,6 +55,17 @@ fn on_the_benchmarks_feeds() {
             let case = Case { name, files, tables, list: vec![-1; room], start: [0, 0, 0] };
             compare(&case, &by_model(&case));
         }
+    }
+}
+
+/// The model would take minutes here under an emulator, so this only shows that none is refused.
+#[test]
+fn the_benchmarks_largest_feeds_can_be_read() {
+    for family in &FAMILIES {
+        let files = (family.feed)(65_536);
+        assert_eq!(files.iter().map(|file| line_ends(file)).max(), Some(65_536), "{}", family.name);
+        let answer = quick::check(&files, &mut large::tables(&files, 0), &mut [], [0, 0, 0]);
+        assert!(!matches!(answer, Answer::Refused { .. }), "{}: {answer:?}", family.name);
     }
 }
 

@@ -5,8 +5,9 @@ use cases::Outcome;
 use model::Answer;
 use tusuchiy::Verdict;
 
-/// A call is made again until this many seconds are spent; the fastest counts.
+/// A call is made again until this many seconds are spent, but so many times at most; the fastest counts.
 pub const SPENT: f64 = 0.4;
+pub const RUNS: usize = 20;
 
 /// The command's list: room for so many findings.
 pub const ROOM: usize = 65_536;
@@ -52,17 +53,19 @@ fn lend(files: &Files) -> Outcome {
 
 /// The time of the fastest call, and what a call gave.
 pub fn fastest(checker: Checker, files: &Files) -> (f64, Outcome) {
-    let mut least = f64::INFINITY;
-    let mut spent = 0.0;
-    loop {
-        let mut lent = lend(files);
+    let mut lent = lend(files);
+    let mut least = checker.call(files, &mut lent);
+    let mut spent = least;
+    for _ in 1..RUNS {
+        if spent >= SPENT {
+            break;
+        }
+        lent = lend(files);
         let time = checker.call(files, &mut lent);
         least = least.min(time);
         spent += time;
-        if spent >= SPENT {
-            return (least, lent);
-        }
     }
+    (least, lent)
 }
 
 /// The parts of a call that takes this long: rules 1 to 4, reading, and all that follows.

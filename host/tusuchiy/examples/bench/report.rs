@@ -1,6 +1,6 @@
 //! What the benchmark prints: what it measures, two tables, and how the figures stand to the aims.
 
-use crate::measure::{ROOM, SPENT};
+use crate::measure::{ROOM, RUNS, SPENT};
 use crate::table::Table;
 use cases::large::families::{Family, Kind};
 
@@ -65,7 +65,7 @@ pub fn introduce(families: &[&Family]) {
         println!("{:>11}: {}", family.name, family.about);
     }
     println!("Processor: {}.", processor());
-    println!("Processor time of one call. A call is made again until {SPENT} s are spent; the fastest counts.");
+    println!("Processor time of one call: the fastest of {RUNS}, or of as many as {SPENT} s allow.");
     println!("The lent list has room for {ROOM} findings. Growth: the check's time by that in the row above.\n");
     TIMES.head();
 }
@@ -131,13 +131,26 @@ fn worst(what: &str, rows: &[&Row], figure: fn(&Row) -> Option<f64>, aim: f64) {
     }
 }
 
-/// Prints the rows that miss an aim, and which.
+/// Prints the feeds that miss an aim, and which.
 fn misses(what: &str, rows: &[&Row]) {
-    let words = |row: &&&Row| format!("{} at {} ({})", row.family.name, row.lines, row.missed().join(", "));
-    let missed: Vec<String> = rows.iter().filter(|row| !row.missed().is_empty()).map(|row| words(&row)).collect();
-    match (rows, &missed[..]) {
+    let mut feeds: Vec<(&str, Vec<&str>)> = Vec::new();
+    for row in rows {
+        match feeds.last_mut() {
+            Some((name, missed)) if *name == row.family.name => missed.extend(row.missed()),
+            _ => feeds.push((row.family.name, row.missed())),
+        }
+    }
+    feeds.retain(|(_, missed)| !missed.is_empty());
+    let words = |(name, missed): &(&str, Vec<&str>)| format!("{name} ({})", distinct(missed).join(", "));
+    match (rows, &feeds[..]) {
         ([], _) => {}
         (_, []) => println!("{what}: none."),
-        _ => println!("{what}: {}.", missed.join("; ")),
+        _ => println!("{what}: {}.", feeds.iter().map(words).collect::<Vec<_>>().join("; ")),
     }
+}
+
+/// The words in order, each once.
+fn distinct<'w>(words: &[&'w str]) -> Vec<&'w str> {
+    let first = |&place: &usize| !words[..place].contains(&words[place]);
+    (0..words.len()).filter(first).map(|place| words[place]).collect()
 }
