@@ -100,13 +100,9 @@ pub fn parts(all: &[Parts]) {
         let sizes = [parts.family.name.to_string(), parts.lines.to_string()];
         PARTS.row(sizes.into_iter().chain(parts.proved.map(seconds)).chain(parts.quick.map(seconds)));
     }
-    println!(
-        "Rules 1-4: the feed without its last LF, refused before any line is read. Reading: the feed with a letter"
-    );
-    println!(
-        "in its last value, refused once all is read, less that. The rest (ids, references, tables, findings): the"
-    );
-    println!("whole call, less both.\n");
+    println!("\nRules 1-4: the feed without its last LF, refused before any line is read. Reading: the feed with a");
+    println!("letter in its last value, refused once all is read, less that. The rest (ids, references, tables,");
+    println!("findings): the whole call, less both.\n");
 }
 
 /// The worst figures and the feeds that miss an aim; those whose trips stand nowhere are told apart.
