@@ -4,7 +4,7 @@ program=$top/host/target/tusuchiy
 log=$top/host/target/setup.log
 
 # What the command is made from. The archive is made from the crates, unless one lies in TUSUCHIY_ARCHIVE_DIR.
-sources=("$top/docs/RULES.md" "$top"/host/Cargo.{toml,lock} "$top"/host/tusuchiy/{Cargo.toml,build.rs,src})
+sources=("$top/docs/RULES.md" "$top"/host/{,tusuchiy/}Cargo.toml "$top"/host/tusuchiy/{build.rs,src})
 if [ -z "${TUSUCHIY_ARCHIVE_DIR:-}" ]; then
     unset TUSUCHIY_ARCHIVE_DIR
     archive=$top/target/staticlib/libtusuchiy_c.a
@@ -79,6 +79,13 @@ tools_arm() {
     export CARGO_TARGET_X86_64_UNKNOWN_LINUX_GNU_RUNNER=qemu-x86_64
 }
 
+# Debian's packages of crates, where Cargo.toml of the command names some.
+crates_debian() {
+    local packages
+    mapfile -t packages < <(grep -o 'librust-[a-z0-9.+-]*-dev' "$top/host/tusuchiy/Cargo.toml")
+    [ "${#packages[@]}" = 0 ] || dpkg -s "${packages[@]}" >/dev/null 2>&1 || install "${packages[@]}"
+}
+
 # pin_cargo: where cargo builds, for which machine and with which flags is said here, not by the user's environment or configuration.
 pin_cargo() {
     local name
@@ -99,6 +106,7 @@ host_tools() {
         aarch64 | arm64) tools_arm ;;
         *) fail "this machine is neither x86-64 nor Arm" ;;
     esac
+    crates_debian
 }
 
 # proved: is the archive there, and not older than the crates? One in TUSUCHIY_ARCHIVE_DIR is taken as it is.
