@@ -158,10 +158,10 @@ host_setup() {
     if [ "${1-}" != first ] || ! [ -x "$program" ]; then
         # Asked first, so that nothing is installed in vain.
         proved || can_prove
+        host_tools
         # Archive and program get the time of the beginning, so that what is edited meanwhile is newer.
         begun=$top/host/target/setup.begun
         : >"$begun" || fail "can't write $begun"
-        host_tools
         proved || host_archive
         host_command
     fi
