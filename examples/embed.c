@@ -1,12 +1,19 @@
 /* embed.c: the check called from C. It reads the five files of a feed and prints the verdict and all findings. */
+#define _POSIX_C_SOURCE 200809L
+#include <fcntl.h>
 #include <stdio.h>
 #include <stdlib.h>
+#include <string.h>
+#include <sys/stat.h>
 
 #include "tusuchiy.h"
 
 static const char *const NAMES[5] = {"stops.txt", "routes.txt", "calendar.txt", "trips.txt", "stop_times.txt"};
 static const size_t WIDTHS[5] = {TUSUCHIY_STOPS_WIDTH, TUSUCHIY_ROUTES_WIDTH, TUSUCHIY_CALENDAR_WIDTH,
                                  TUSUCHIY_TRIPS_WIDTH, TUSUCHIY_STOP_TIMES_WIDTH};
+
+/* Rules 1 and 2 refuse longer files and more lines, so nothing past these need be lent. */
+enum { MOST_BYTES = 16777216 + 1, MOST_LINES = 65536 };
 
 /* A file and the table lent for it. */
 struct lent {
@@ -29,23 +36,34 @@ static void *memory(size_t count, size_t size) {
     return got;
 }
 
-/* Reads a file whole and lends a table for its lines. */
-static struct lent lend(const char *folder, int file) {
-    struct lent lent = {0};
-    char path[4096];
-    snprintf(path, sizeof path, "%s/%s", folder, NAMES[file]);
-    FILE *from = fopen(path, "rb");
-    if (!from || fseek(from, 0, SEEK_END))
-        stop(path);
-    long length = ftell(from);
-    if (length < 0)
-        stop(path);
-    rewind(from);
-    lent.bytes = memory((size_t)length, 1);
-    lent.length = fread(lent.bytes, 1, (size_t)length, from);
+/* Opens a file of the folder. A pipe, which would be waited for, isn't one, nor is a device or a folder. */
+static FILE *opened(int folder, const char *name) {
+    int file = openat(folder, name, O_RDONLY | O_NONBLOCK | O_CLOEXEC);
+    struct stat about;
+    if (file < 0 || fstat(file, &about))
+        stop(name);
+    if (!S_ISREG(about.st_mode)) {
+        fprintf(stderr, "%s: not a file\n", name);
+        exit(3);
+    }
+    FILE *from = fdopen(file, "rb");
+    if (!from)
+        stop(name);
+    return from;
+}
+
+/* Reads a file and lends a table for its lines. */
+static struct lent lend(int folder, int file) {
+    struct lent lent = {.bytes = memory(MOST_BYTES, 1)};
+    FILE *from = opened(folder, NAMES[file]);
+    lent.length = fread(lent.bytes, 1, MOST_BYTES, from);
+    if (ferror(from))
+        stop(NAMES[file]);
     fclose(from);
-    for (size_t place = 0; place < lent.length; place++)
-        lent.numbers += lent.bytes[place] == '\n' ? WIDTHS[file] : 0;
+    size_t lines = 0;
+    for (size_t place = 0; place < lent.length && lines < MOST_LINES; place++)
+        lines += lent.bytes[place] == '\n';
+    lent.numbers = lines * WIDTHS[file];
     lent.table = memory(lent.numbers, sizeof *lent.table);
     return lent;
 }
@@ -58,32 +76,50 @@ static tusuchiy_answer check(const struct lent *f, int32_t *list, size_t length,
                           f[4].table, f[4].numbers, list, length, after[0], after[1], after[2]);
 }
 
-int main(int count, char **words) {
-    if (count != 2) {
-        fprintf(stderr, "usage: embed FEED\n");
-        return 3;
+/* Prints a page of findings and gives the place of the last. */
+static void print(const int32_t *list, int32_t written, int32_t *after) {
+    for (const int32_t *found = list; found < list + 3 * written; found += 3) {
+        printf("%s %d %d\n", NAMES[found[0] - 1], found[1], found[2]);
+        memcpy(after, found, 3 * sizeof *after);
     }
-    struct lent files[5];
-    for (int file = 0; file < 5; file++)
-        files[file] = lend(words[1], file);
+}
 
-    /* Pages of four findings, each from the last one handed out, until a page is empty. */
+/* Prints the verdict and all findings, in pages of four, each from the last finding handed out. */
+static int report(const struct lent *files) {
     int32_t list[12], after[3] = {0, 0, 0};
     tusuchiy_answer answer = check(files, list, 12, after);
     if (answer.verdict == TUSUCHIY_REFUSED) {
         printf("refused %d %s %d\n", answer.number, NAMES[answer.file - 1], answer.line);
-        return 2;
+        return answer.verdict;
     }
     printf("%s %d\n", answer.verdict == TUSUCHIY_ACCEPTED ? "accepted" : "findings", answer.total);
-    while (answer.written > 0) {
-        for (int32_t found = 0; found < answer.written; found++)
-            printf("%s %d %d\n", NAMES[list[3 * found] - 1], list[3 * found + 1], list[3 * found + 2]);
-        for (int number = 0; number < 3; number++)
-            after[number] = list[3 * (answer.written - 1) + number];
+    int32_t had = answer.written;
+    print(list, answer.written, after);
+    while (had < answer.total) {
         answer = check(files, list, 12, after);
+        print(list, answer.written, after);
+        had += answer.written;
     }
     /* The tables are filled now: where the second line of stops.txt lies, if there is one. */
     if (files[0].numbers >= 2 * TUSUCHIY_STOPS_WIDTH)
         printf("first stop at %d %d\n", files[0].table[6 + 2], files[0].table[6 + 3]);
     return answer.verdict;
+}
+
+int main(int count, char **words) {
+    if (count != 2) {
+        fprintf(stderr, "usage: embed FEED\n");
+        return 3;
+    }
+    int folder = open(words[1], O_RDONLY | O_DIRECTORY | O_CLOEXEC);
+    if (folder < 0)
+        stop(words[1]);
+    struct lent files[5];
+    for (int file = 0; file < 5; file++)
+        files[file] = lend(folder, file);
+    int status = report(files);
+    /* What was printed must have arrived: a verdict that nobody could read is none. */
+    if (ferror(stdout) || fclose(stdout))
+        stop("standard output");
+    return status;
 }

@@ -1,50 +1,31 @@
 -- Laws: a line whose table is filled is judged by what its definitions say.
 use Prim.Native.Nat.{ℕ, _+_, _*_, _-_, _≤_, _<_}
-use mathlib.Core.Path.{_≡_, sym, ap, _∙_}
-use mathlib.Core.List.{List, [], map}
-use mathlib.Core.Bool.{Bool, false}
+use mathlib.Core.Path.{_≡_, refl, sym, ap, _∙_}
+use mathlib.Core.List.{List, []}
+use mathlib.Core.Bool.{Bool, true, false, not}
 use native.Mathlib.Omega.{arith}
-use borrow.Author.Tests.{ltb-false}
+use borrow.Author.Tests.{ltb-true, ltb-false}
 use lib.IntN.{ℤ}
 use lib.Dec.{ltb}
 use lib.ListN.{length, getD, length-map}
-use Rattle.meaning.specs.Lists.{empty, find}
-use Rattle.meaning.specs.Columns.{Row}
-use Rattle.meaning.specs.Tables.{Feed, under, idColumn, widths, widthOf, refer, stopIds, routeIds, serviceIds, tripIds, tripId, parentStation}
-use Rattle.meaning.specs.Rules.{row, stopRules, routeRules, serviceRules, tripRules, rulesOf}
-use Rattle.meaning.proofs.References.{named}
-use Rattle.meaning.proofs.ListLaws.{same-self}
-use Rattle.rows.specs.Cells.{natAt, timeAt}
+use Rattle.meaning.specs.Lists.{same, empty, find}
+use Rattle.meaning.specs.Tables.{Feed, under, refer, stopIds, tripIds, tripId, parentStation}
+use Rattle.meaning.specs.Rules.{row, rule20, recordCounts, recordCount, stopRules, routeRules, serviceRules, tripRules, rulesOf}
+use Rattle.meaning.proofs.References.{First, absent, found, find-first, twentieth, named}
+use Rattle.meaning.proofs.ListLaws.{both, same-self}
 use Rattle.meaning.proofs.Readable.{getD-map-in}
-use Rattle.seeking.specs.First.{First, idIs}
-use Rattle.seeking.proofs.First.{find-held, find-first}
-use Rattle.columns.specs.Columns.{startsOf, endsOf}
-use Rattle.columns.proofs.Laws.{cells-inside}
-use Rattle.tables.specs.Fill.{valueIn, Within}
+use Rattle.marks.specs.Marks.{marked, parentMark, namelessMark}
+use Rattle.marks.specs.Noted.{Noted, idsIn}
+use Rattle.rows.specs.Cells.{natAt, timeAt}
 use Rattle.held.specs.Held.{Filled}
-use Rattle.held.proofs.Numbers.{ids-of, stop-kind, stop-parent, service-start, service-end, trip-route, trip-service, time-arrival, time-departure}
+use Rattle.held.proofs.Numbers.{stop-kind, stop-parent, service-start, service-end, trip-route, trip-service, time-arrival, time-departure}
 use Rattle.trip_order.specs.Trips.{isOf, timedAt, nearLine, farLine}
 use Rattle.trip_order.proofs.Laws.{last-below, first-below}
 use Rattle.trip_order.proofs.Trips.{near-by-record, far-by-record}
 use Rattle.judging.specs.Judging.{bothGiven, stopJudged, routeJudged, serviceJudged, tripJudged, testsFrom}
-use Rattle.judging.proofs.Seen.{IsFirst, KindAt, TripLines}
+use Rattle.judging.proofs.Seen.{KindAt, TripLines}
 use Rattle.judging.proofs.Judged.{timed-is, stop-judged, route-judged, service-judged, trip-judged}
 use Rattle.file_rules.specs.Lines.{rowsIn, ruleNumbers, ruleCount, Stands, Marked}
-
--- the first record with the id of line i
-seen-first :
-    (f : ℕ) → 1 ≤ f → f ≤ 4 → {w : Feed} {rows : List Row} {s : List ℕ} {t : List ℤ} {count i : ℕ} {l st en : List ℕ}
-    → Stands f w rows s t count i l st en
-    → (first : ℕ)
-    → First (idIs s t (widthOf f) (valueIn l st en (idColumn f))) count first
-    → IsFirst (map (under (idColumn f)) rows) i first
-seen-first f low four {w} {rows} {s} {t} {count} {i} {l} {st} {en} h first g =
-    let ids : List (List ℕ) = map (under (idColumn f)) rows in
-    let v : List ℕ = valueIn l st en (idColumn f) in
-    let n : count ≡ length ids + 1 = h .all ∙ ap (λ m. m + 1) (sym (length-map rows (under (idColumn f)))) in
-    let e : v ≡ getD ids i [] = h .says (idColumn f) ∙ sym (getD-map-in (under (idColumn f)) rows i [] [] (h .inside)) in
-    find-held s t (widthOf f) ids v (ids-of f low four w rows s t (h .table)) first (rw n at g)
-    ∙ ap (λ x. find x 1 ids) e
 
 -- ---- stops.txt
 
@@ -57,71 +38,88 @@ kind-referred w s t v k kind h e g z =
     let inside : k - 1 < length (w .stops) = omega (arith, n .is, n .within, length-map (w .stops) (under 0)) in
     g ∙ ap (λ j. natAt t (j * 6 + 4)) (sym one) ∙ stop-kind w s t (k - 1) h inside
 
-module _ {w : Feed} {s : List ℕ} {t : List ℤ} {count i : ℕ} {l st en : List ℕ} where
+-- a parent is written, or none is
+twice-not : (b : Bool) → not (not b) ≡ b
+twice-not true = refl
+twice-not false = refl
+
+module _ {w : Feed} {t : List ℤ} {marks : List ℕ} {i : ℕ} where
   pub stop-line-is :
-      Stands 1 w (w .stops) s t count i l st en
-      → {first : ℕ} {none : Bool} {parent kind parentKind : ℕ} {r : List Bool}
-      → First (idIs s t 6 (valueIn l st en 0)) count first
-      → none ≡ empty (valueIn l st en 5)
+      Stands 1 w (w .stops) t marks i
+      → {repeats parented : Bool} {parent kind parentKind : ℕ} {r : List Bool}
+      → repeats ≡ marked marks 1 (i + 1)
+      → parented ≡ marked marks parentMark (i + 1)
       → parent ≡ natAt t ((i + 1) * 6 + 5)
       → kind ≡ natAt t ((i + 1) * 6 + 4)
       → parentKind ≡ natAt t (parent * 6 + 4)
-      → r ≡ stopJudged (i + 1) first none parent kind parentKind
+      → r ≡ stopJudged repeats (not parented) parent kind parentKind
       → testsFrom (ruleNumbers 1) r (ruleCount 1) ≡ stopRules w i
-  unfolding ruleNumbers ruleCount widthOf widths idColumn stopIds
-  stop-line-is h {first} {none} {parent} {kind} {parentKind} g b p k pk e =
+  unfolding ruleNumbers ruleCount recordCount recordCounts idsIn
+  stop-line-is h {repeats} {parented} {parent} {kind} {parentKind} a b p k pk e =
+      let s = h .file in
       let v = parentStation (row (w .stops) i) in
       let is : parent ≡ refer v (stopIds w) = p ∙ stop-parent w s t i (h .table) (h .inside) in
-      rw e (sym (stop-judged (h .inside) (record {
-        is-first = seen-first 1 (omega arith) (omega arith) h first g;
-        parents = record { bare = b ∙ ap empty (h .says 5); resolves = is };
+      rw e (sym (stop-judged (record {
+        again = a ∙ h .noted .repeats 1 i (omega arith) (omega arith) (h .inside);
+        parents = record { bare = ap not (b ∙ h .noted .parents i (h .inside)) ∙ twice-not (empty v); resolves = is };
         kinds = k ∙ stop-kind w s t i (h .table) (h .inside);
         parent-kinds = kind-referred w s t v parent parentKind (h .table) is pk;
       })))
 
-  pub route-line-is :
-      Stands 2 w (w .routes) s t count i l st en
-      → {first : ℕ} {noShort noLong : Bool} {r : List Bool}
-      → First (idIs s t 3 (valueIn l st en 0)) count first
-      → noShort ≡ empty (valueIn l st en 2)
-      → noLong ≡ empty (valueIn l st en 3)
-      → r ≡ routeJudged (i + 1) first noShort noLong
-      → testsFrom (ruleNumbers 2) r (ruleCount 2) ≡ routeRules w i
-  unfolding ruleNumbers ruleCount widthOf widths idColumn routeIds
-  route-line-is h {first} g a b e =
-      rw e (sym (route-judged (h .inside) (record {
-        is-first = seen-first 2 (omega arith) (omega arith) h first g;
-        shorts = a ∙ ap empty (h .says 2);
-        longs = b ∙ ap empty (h .says 3);
-      })))
+-- ---- routes.txt
 
+pub route-line-is :
+    {w : Feed} {marks : List ℕ} {i : ℕ}
+    → Noted w marks
+    → i < length (w .routes)
+    → {repeats nameless : Bool} {r : List Bool}
+    → repeats ≡ marked marks 2 (i + 1)
+    → nameless ≡ marked marks namelessMark (i + 1)
+    → r ≡ routeJudged repeats nameless
+    → testsFrom (ruleNumbers 2) r (ruleCount 2) ≡ routeRules w i
+unfolding ruleNumbers ruleCount recordCount recordCounts idsIn
+route-line-is {i = i} h inside a b e =
+    rw e (sym (route-judged (record {
+      again = a ∙ h .repeats 2 i (omega arith) (omega arith) inside;
+      names = b ∙ h .nameless i inside;
+    })))
+
+-- ---- calendar.txt
+
+module _ {w : Feed} {t : List ℤ} {marks : List ℕ} {i : ℕ} where
   pub service-line-is :
-      Stands 3 w (w .calendar) s t count i l st en
-      → {first start end : ℕ} {r : List Bool}
-      → First (idIs s t 5 (valueIn l st en 0)) count first
+      Stands 3 w (w .calendar) t marks i
+      → {repeats : Bool} {start end : ℕ} {r : List Bool}
+      → repeats ≡ marked marks 3 (i + 1)
       → start ≡ natAt t ((i + 1) * 5 + 3)
       → end ≡ natAt t ((i + 1) * 5 + 4)
-      → r ≡ serviceJudged (i + 1) first start end
+      → r ≡ serviceJudged repeats start end
       → testsFrom (ruleNumbers 3) r (ruleCount 3) ≡ serviceRules w i
-  unfolding ruleNumbers ruleCount widthOf widths idColumn serviceIds
-  service-line-is h {first} g a b e =
-      rw e (sym (service-judged (h .inside) (record {
-        is-first = seen-first 3 (omega arith) (omega arith) h first g;
-        starts = a ∙ service-start w s t i (h .table) (h .inside);
-        ends = b ∙ service-end w s t i (h .table) (h .inside);
+  unfolding ruleNumbers ruleCount recordCount recordCounts idsIn
+  service-line-is h a b d e =
+      rw e (sym (service-judged (record {
+        again = a ∙ h .noted .repeats 3 i (omega arith) (omega arith) (h .inside);
+        starts = b ∙ service-start w (h .file) t i (h .table) (h .inside);
+        ends = d ∙ service-end w (h .file) t i (h .table) (h .inside);
       })))
 
 -- ---- trips.txt
 
 -- a line whose id stands on no earlier one is that of its id's record
-own-record : (ids : List (List ℕ)) (i first : ℕ) → i < length ids → IsFirst ids i first → ltb first (i + 1) ≡ false → empty (getD ids i []) ≡ false → refer (getD ids i []) ids ≡ i + 1
+own-record : (ids : List (List ℕ)) (i : ℕ) → i < length ids → rule20 ids i ≡ false → empty (getD ids i []) ≡ false → refer (getD ids i []) ids ≡ i + 1
 unfolding refer
-own-record ids i first h e late some =
-    let v = getD ids i [] in
-    let one : i + 1 - 1 ≡ i = omega arith in
-    let b = find-first v ids .least (i + 1) (omega arith) (omega arith) (rw one (same-self v)) in
-    let c : i + 1 ≤ first = ltb-false first (i + 1) late in
-    rw some (omega (arith, e, b .1))
+own-record ids i h late some = rw some (go (find v 1 ids) (find-first v 1 ids) (ltb-false _ (i + 1) (sym (twentieth ids i h) ∙ late)))
+  where
+    v : List ℕ
+    v = getD ids i []
+
+    go : (r : ℕ) → First v 1 ids r → i + 1 ≤ r → r ≡ i + 1
+    go r (absent e none) g = absurd (omega arith)
+    go r (found k e within here before) g = cases (ltb i k) refl
+      where
+        cases : (b : Bool) → ltb i k ≡ b → r ≡ i + 1
+        cases true l = both (same v v) (same-self v) (before i (ltb-true i k l))
+        cases false l = omega (arith, ltb-false i k l)
 
 -- a line of stop_times that is there is timed as its record says
 line-timed : (w : Feed) (s : List ℕ) (times : List ℤ) (k : ℕ) (b : Bool) → Filled 5 w (w .stopTimes) s times → k ≤ length (w .stopTimes) → b ≡ bothGiven (timeAt times (k * 8 + 3)) (timeAt times (k * 8 + 4)) → (k ≡ 0 → ⊥) → b ≡ timedAt w (k - 1)
@@ -158,50 +156,43 @@ trip-ends w times firsts lasts m v i first last firstTimed lastTimed h is a e b 
     }
 
 pub trip-line-is :
-    {w : Feed} {s : List ℕ} {t times : List ℤ} {firsts lasts : List ℕ} {count i : ℕ} {l st en : List ℕ}
-    → Stands 4 w (w .trips) s t count i l st en
+    {w : Feed} {t times : List ℤ} {marks firsts lasts : List ℕ} {i : ℕ}
+    → Stands 4 w (w .trips) t marks i
     → Marked w times firsts lasts
-    → {first : ℕ} {noRoute : Bool} {route : ℕ} {noService : Bool} {service firstLine lastLine : ℕ} {firstTimed lastTimed : Bool} {r : List Bool}
-    → First (idIs s t 7 (valueIn l st en 2)) count first
-    → noRoute ≡ empty (valueIn l st en 0)
+    → {repeats : Bool} {route service firstLine lastLine : ℕ} {firstTimed lastTimed : Bool} {r : List Bool}
+    → repeats ≡ marked marks 4 (i + 1)
     → route ≡ natAt t ((i + 1) * 7 + 2)
-    → noService ≡ empty (valueIn l st en 1)
     → service ≡ natAt t ((i + 1) * 7 + 3)
     → firstLine ≡ getD firsts (i + 1) 0
     → lastLine ≡ getD lasts (i + 1) 0
     → firstTimed ≡ bothGiven (timeAt times (firstLine * 8 + 3)) (timeAt times (firstLine * 8 + 4))
     → lastTimed ≡ bothGiven (timeAt times (lastLine * 8 + 3)) (timeAt times (lastLine * 8 + 4))
-    → r ≡ tripJudged (i + 1) first noRoute route noService service firstLine lastLine firstTimed lastTimed
+    → r ≡ tripJudged repeats route service firstLine lastLine firstTimed lastTimed
     → testsFrom (ruleNumbers 4) r (ruleCount 4) ≡ tripRules w i
-unfolding ruleNumbers ruleCount widthOf widths idColumn tripIds
-trip-line-is {w} {s} {t} {times} {firsts} {lasts} {count} {i} h m {first} g a b c d x y u v e =
+unfolding ruleNumbers ruleCount recordCount recordCounts idsIn tripIds
+trip-line-is {w} {t} {times} {marks} {firsts} {lasts} {i} h m a b d x y u v e =
+    let s = h .file in
     let ids = tripIds w in
     let is : getD ids i [] ≡ tripId (row (w .trips) i) = getD-map-in (under 2) (w .trips) i [] [] (h .inside) in
-    let f : IsFirst ids i first = seen-first 4 (omega arith) (omega arith) h first g in
-    rw e (sym (trip-judged (h .inside) (record {
-      is-first = f;
-      routed = record { bare = a ∙ ap empty (h .says 0); resolves = b ∙ trip-route w s t i (h .table) (h .inside) };
-      served = record { bare = c ∙ ap empty (h .says 1); resolves = d ∙ trip-service w s t i (h .table) (h .inside) };
-      lines = λ late.
+    let again = a ∙ h .noted .repeats 4 i (omega arith) (omega arith) (h .inside) in
+    rw e (sym (trip-judged (record {
+      again = again;
+      routed = record { bare = sym (m .named .routes i (h .inside)); resolves = b ∙ trip-route w s t i (h .table) (h .inside) };
+      served = record { bare = sym (m .named .services i (h .inside)); resolves = d ∙ trip-service w s t i (h .table) (h .inside) };
+      lines = λ first.
           let own : refer (tripId (row (w .trips) i)) ids ≡ i + 1 =
-          rw is at (own-record ids i first (rw length-map (h .inside)) f late (rw is (m .named i (h .inside)))) in
+          rw is at (own-record ids i (rw length-map (h .inside)) (sym again ∙ first) (rw is (m .named .ids i (h .inside)))) in
           trip-ends w times firsts lasts m (tripId (row (w .trips) i)) i _ _ _ _ (h .inside) own x y u v;
     })))
 
 -- ---- any of the four
 
--- located fields lie inside their line
-pub cells-within : (l at st en : List ℕ) → st ≡ startsOf l at → en ≡ endsOf l at → Within (length l) st en
-cells-within l at st en a b k = rw (a, b) (cells-inside l at k)
-
 -- what holds of one file holds of the file whose number that is
 pub in-file :
     (f k : ℕ)
     → f ≡ k
-    → {w : Feed} {s : List ℕ} {t : List ℤ} {count i : ℕ} {l st en : List ℕ} (at : List ℕ) (r : List Bool)
-    → st ≡ startsOf l at
-    → en ≡ endsOf l at
-    → (Stands k w (rowsIn w k) s t count i l st en → testsFrom (ruleNumbers k) r (ruleCount k) ≡ rulesOf w k i)
-    → Stands f w (rowsIn w f) s t count i l (startsOf l at) (endsOf l at)
+    → {w : Feed} {t : List ℤ} {marks : List ℕ} {i : ℕ} (r : List Bool)
+    → (Stands k w (rowsIn w k) t marks i → testsFrom (ruleNumbers k) r (ruleCount k) ≡ rulesOf w k i)
+    → Stands f w (rowsIn w f) t marks i
     → testsFrom (ruleNumbers f) r (ruleCount f) ≡ rulesOf w f i
-in-file f k e at r a b h g = rw e (h (rw (a, b) (rw e at g)))
+in-file f k e r h g = rw e (h (rw e at g))

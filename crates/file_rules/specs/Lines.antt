@@ -1,5 +1,5 @@
--- A line whose table is filled, and what its findings rest on.
-use Prim.Native.Nat.{ℕ, _+_, _<_}
+-- A line whose table is filled and whose marks are set, and what its findings rest on.
+use Prim.Native.Nat.{ℕ, _<_}
 use mathlib.Core.Path.{_≡_}
 use mathlib.Core.List.{List, [], _∷_}
 use mathlib.Core.Bool.{true, false}
@@ -7,9 +7,9 @@ use lib.IntN.{ℤ}
 use lib.ListN.{length, getD}
 use Rattle.meaning.specs.Lists.{empty}
 use Rattle.meaning.specs.Columns.{Row}
-use Rattle.meaning.specs.Tables.{Feed, under, tripId}
-use Rattle.meaning.specs.Rules.{row}
-use Rattle.tables.specs.Fill.{valueIn}
+use Rattle.meaning.specs.Tables.{Feed, tripRoute, tripService, tripId}
+use Rattle.meaning.specs.Rules.{row, recordCount}
+use Rattle.marks.specs.Noted.{Noted}
 use Rattle.held.specs.Held.{Filled}
 use Rattle.trip_order.specs.Trips.{tripAt}
 use Rattle.trip_order.specs.Marks.{LastLines, FirstLines}
@@ -34,14 +34,20 @@ ruleNumbers f =
 unfoldable pub ruleCount : ℕ → ℕ
 ruleCount f = getD (0 ∷ 3 ∷ 2 ∷ 2 ∷ 4 ∷ []) f 0
 
--- line i of a file that has these rows, `count` lines and a filled table: its text, and where its fields lie
-pub record Stands (f : ℕ) (w : Feed) (rows : List Row) (s : List ℕ) (t : List ℤ) (count i : ℕ) (l st en : List ℕ) : Type 0 where
-  pub table : Filled f w rows s t
-  pub all : count ≡ length rows + 1
-  pub inside : i < length rows
-  pub says : (k : ℕ) → valueIn l st en k ≡ under k (getD rows i [])
+-- no line of trips leaves its route, its service or its own id empty
+pub record NamedTrips (w : Feed) : Type 0 where
+  pub routes : (i : ℕ) → i < length (w .trips) → empty (tripRoute (row (w .trips) i)) ≡ false
+  pub services : (i : ℕ) → i < length (w .trips) → empty (tripService (row (w .trips) i)) ≡ false
+  pub ids : (i : ℕ) → i < length (w .trips) → empty (tripId (row (w .trips) i)) ≡ false
 
--- the filled table of stop_times, and the first and the last line of each trip that stands on a line of trips
+-- the line with index i of a file whose table is filled, in a feed whose marks are set
+pub record Stands (f : ℕ) (w : Feed) (rows : List Row) (t : List ℤ) (marks : List ℕ) (i : ℕ) : Type 0 where
+  pub file : List ℕ
+  pub table : Filled f w rows file t
+  pub noted : Noted w marks
+  pub inside : i < length rows
+
+-- the filled table of stop_times, and the first and the last line of each trip that stands on a line of trips, where no reference and no id is empty
 pub record Marked (w : Feed) (times : List ℤ) (first last : List ℕ) : Type 0 where
   pub file : List ℕ
   pub table : Filled 5 w (w .stopTimes) file times
@@ -49,9 +55,12 @@ pub record Marked (w : Feed) (times : List ℤ) (first last : List ℕ) : Type 0
   pub lasts : LastLines (tripAt w) (λ j. true) last (length (w .stopTimes))
   pub first-long : length (w .trips) < length first
   pub last-long : length (w .trips) < length last
-  pub named : (i : ℕ) → i < length (w .trips) → empty (tripId (row (w .trips) i)) ≡ false
+  pub named : NamedTrips w
 
--- all that the findings of file f rest on
-pub record Ready (f : ℕ) (w : Feed) (s : List ℕ) (t times : List ℤ) (first last : List ℕ) : Type 0 where
-  pub table : Filled f w (rowsIn w f) s t
+-- all that the findings of file f, which has n records, rest on
+pub record Ready (f n : ℕ) (w : Feed) (t : List ℤ) (marks : List ℕ) (times : List ℤ) (first last : List ℕ) : Type 0 where
+  pub file : List ℕ
+  pub table : Filled f w (rowsIn w f) file t
+  pub all : n ≡ recordCount w f
+  pub noted : Noted w marks
   pub ends : f ≡ 4 → Marked w times first last

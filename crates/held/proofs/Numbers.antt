@@ -1,7 +1,7 @@
 -- Each number of a filled table, by its record.
 use Prim.Native.Nat.{ℕ, suc, _+_, _*_, _-_, _≤_, _<_}
 use mathlib.Core.Path.{_≡_, sym, ap, _∙_}
-use mathlib.Core.List.{List, [], map}
+use mathlib.Core.List.{List, []}
 use native.Mathlib.Omega.{arith}
 use native.Mathlib.Nat.{add-zero}
 use borrow.Author.Tests.{ne-eqb}
@@ -12,11 +12,10 @@ use Rattle.rows.specs.Cells.{natAt, timeAt, timeIn}
 use Rattle.meaning.specs.Bytes.{Line, countLf, linesOf}
 use Rattle.meaning.specs.Columns.{Row, places, headerOf, rowOf}
 use Rattle.meaning.specs.Forms.{timeOf, dateOf, sequenceOf}
-use Rattle.meaning.specs.Tables.{Feed, widths, widthOf, recordOf, numbersOf, idPlace, stopNumbers, serviceNumbers, tripNumbers, timeNumbers, under, seconds, number, day, orZero, orMinus, refer, stopIds, routeIds, serviceIds, tripIds, locationType, parentStation, startDate, endDate, tripRoute, tripService, timeTrip, timeStop, stopSequence, arrivalTime, departureTime, timepoint, idColumn}
+use Rattle.meaning.specs.Tables.{Feed, widths, widthOf, recordOf, numbersOf, idPlace, stopNumbers, serviceNumbers, tripNumbers, timeNumbers, seconds, number, day, orZero, orMinus, refer, stopIds, routeIds, serviceIds, tripIds, locationType, parentStation, startDate, endDate, tripRoute, tripService, timeTrip, timeStop, stopSequence, arrivalTime, departureTime, timepoint}
 use Rattle.meaning.specs.Rules.{row}
-use Rattle.seeking.specs.First.{Held}
 use Rattle.tables.specs.Fill.{line}
-use Rattle.tables.proofs.Ids.{rows-count, row-of-line, cell-at, ids-held}
+use Rattle.tables.proofs.Ids.{rows-count, row-of-line, cell-at}
 use Rattle.held.specs.Held.{Filled}
 
 module _ (f : ℕ) (low : 1 ≤ f) (high : f ≤ 5) (w : Feed) (rows : List Row) (s : List ℕ) (t : List ℤ) (h : Filled f w rows s t) where
@@ -106,7 +105,3 @@ module _ (w : Feed) (s : List ℕ) (t : List ℤ) (i : ℕ) where
     pub time-point : natAt t ((i + 1) * 8 + 7) ≡ natOf (orMinus 1 (timepoint (row (w .stopTimes) i)))
     unfolding timeNumbers
     time-point = ap natOf (time-number 7 (omega arith))
-
--- the ids of files 1 to 4 stand where the resolver looks for them
-pub ids-of : (f : ℕ) → 1 ≤ f → f ≤ 4 → (w : Feed) (rows : List Row) (s : List ℕ) (t : List ℤ) → Filled f w rows s t → Held s t (widthOf f) (map (under (idColumn f)) rows)
-ids-of f low four w rows s t h = rw (h .is, h .read) (ids-held f low (omega arith) w s (h .lent) (h .some) four)

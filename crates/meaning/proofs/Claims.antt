@@ -14,9 +14,9 @@ use Rattle.meaning.specs.Bytes.{Line, linesOf, fields}
 use Rattle.meaning.specs.Columns.{places, headerOf}
 use Rattle.meaning.specs.Tables.{fileOf}
 use Rattle.meaning.specs.Refusals.{Test, test, Claim, claim, rule1, rule2, rule3, rule4, textTests, headTests, rowTests, lineTests, onLines, inFile, inFiles, overFiles, claims, refusal, verdictOf}
-use Rattle.meaning.specs.Promises.{Ordered, noClaim, FirstBroken, speaksBefore}
-use Rattle.meaning.proofs.Laws.{sooner-less, sooner-same, Each, each-append, getD-mem, ordered-append, ordered-by, along, Along, along-in, along-of, along-ordered}
-use Rattle.meaning.proofs.Lines.{testOf, rising, Within, rising-within, rank, rank-file, linewise, Linewise, linewise-exactly, linewise-ordered}
+use Rattle.meaning.specs.Promises.{Ordered, Each, fileTests, fieldCount, testsOn, noLine, testOf, FileClaim, LineClaim, speaksBefore, noClaim, FirstBroken, Sayable}
+use Rattle.meaning.proofs.Laws.{sooner-less, sooner-same, each-append, getD-mem, ordered-append, ordered-by, along, Along, along-in, along-of, along-ordered}
+use Rattle.meaning.proofs.Lines.{rising, Within, rising-within, rank, rank-file, linewise, Linewise, linewise-exactly, linewise-ordered}
 use Rattle.meaning.proofs.FirstBroken.{first-broken}
 
 -- two lists side by side, as far as both go
@@ -83,38 +83,6 @@ module _ (n : ℕ) (P : ℕ → List ℕ → ℕ → Bool) where
             to = omega arith;
             here = rw (pairs-at files rooms (p .file - 1) within) (List·Memᴰ·head (λ i. claim (t .number i) (p .file) (t .line i) (t .broken i)));
           })
-
--- the tests of a whole file, with its table's length
-unfoldable pub fileTests : ℕ → List ℕ → ℕ → List Test
-fileTests f s room = test 1 (rule1 f s room) ∷ test 2 (rule2 f s room) ∷ test 3 (rule3 f s room) ∷ test 4 (rule4 f s room) ∷ []
-
--- how many fields a file's header has
-unfoldable pub fieldCount : List Line → ℕ
-fieldCount [] = 0
-fieldCount (h ∷ r) = length (fields (h .text))
-
--- the tests of line n of a file with these lines: line 1 is the header
-unfoldable pub testsOn : ℕ → List Line → ℕ → Line → List Test
-testsOn f ls n l = cond (eqb n 1) (headTests f (l .text)) (lineTests f (places f (headerOf ls)) (fieldCount ls) (l .text))
-
-abbrev pub noLine : Line
-noLine = record { start = 0; text = [] }
-
--- a claim of rules 1 to 4
-pub record FileClaim (files : List (List ℕ)) (rooms : List ℕ) (p : Claim) : Type 0 where
-  pub line : p .line ≡ 0
-  pub from : 1 ≤ p .file
-  pub to : p .file ≤ length files
-  pub room : p .file ≤ length rooms
-  pub rule : List·Memᴰ (testOf p) (fileTests (p .file) (fileOf files (p .file)) (getD rooms (p .file - 1) 0))
-
--- a claim of rules 5 to 13
-pub record LineClaim (files : List (List ℕ)) (p : Claim) : Type 0 where
-  pub from : 1 ≤ p .file
-  pub to : p .file ≤ length files
-  pub first : 1 ≤ p .line
-  pub last : p .line ≤ length (linesOf (fileOf files (p .file)))
-  pub rule : List·Memᴰ (testOf p) (testsOn (p .file) (linesOf (fileOf files (p .file))) (p .line) (getD (linesOf (fileOf files (p .file))) (p .line - 1) noLine))
 
 lines-along : (head : Line → List Test) (f : ℕ) (ps : List ℕ) (count n : ℕ) (ls : List Line) → 2 ≤ n
     → onLines f ps count n ls ≡ linewise f (λ k l. cond (eqb k 1) (head l) (lineTests f ps count (l .text))) n ls
@@ -322,15 +290,6 @@ module _ (files : List (List ℕ)) (rooms : List ℕ) (p : Claim) where
   -- Of a line the tests of rules 5 to 13 are claimed, and nothing else.
   pub claim-of-line : 1 ≤ p .line → List·Memᴰ p (claims files rooms) ↔ LineClaim files p
   claim-of-line h = (λ m. ⊎-elim (λ t. absurd (omega arith)) (λ t. t) (claims-exactly .0 m), λ t. claims-exactly .1 (inr t))
-
--- what a refusal can say
-pub record Sayable (files : List (List ℕ)) (r : Refusal) : Type 0 where
-  pub lowest : 1 ≤ r .number
-  pub highest : r .number ≤ 13
-  pub file : (1 ≤ r .file) × (r .file ≤ length files)
-  pub line : r .line ≡ 0 ↔ r .number ≤ 4
-  pub last : r .line ≤ length (linesOf (fileOf files (r .file)))
-  pub column : r .column ≡ 0
 
 -- A refusal's number is 1 to 13, its file one of the files, its line one of that file's, or 0 exactly for rules 1 to 4.
 pub refusal-numbers : (files : List (List ℕ)) (rooms : List ℕ) (r : Refusal) → verdictOf files rooms ≡ Unreadable r → Sayable files r

@@ -4,13 +4,13 @@ use native.Mathlib.Omega.{arith}
 use mathlib.Core.Path.{_≡_, refl, sym, ap, _∙_}
 use mathlib.Core.Logic.{_↔_}
 use mathlib.Core.Bool.{Bool, true, false}
-use mathlib.Core.List.{List, [], _∷_, List·Memᴰ, List·Memᴰ·head, List·Memᴰ·tail, List·Memᴰ·not-nil}
+use mathlib.Core.List.{List, [], _∷_, List·Memᴰ·head, List·Memᴰ·tail, List·Memᴰ·not-nil}
 use lib.ListN.{length, getD}
 use Rattle.meaning.specs.declared.Refusal.{Refusal}
 use Rattle.meaning.specs.declared.Verdict.{Verdict}
 use Rattle.meaning.specs.declared.Verdict.the-variants.{Readable, Unreadable}
 use Rattle.meaning.specs.Refusals.{Claim, claims, refusal, speaks, verdictOf}
-use Rattle.meaning.specs.Promises.{noClaim, FirstBroken, NoneBroken}
+use Rattle.meaning.specs.Promises.{noClaim, FirstBroken, NoneBroken, SomeBroken, RefusedBy}
 use Rattle.meaning.proofs.Laws.{each-cons, getD-mem}
 
 speaks-yes : (p : Claim) (r : List Claim) → p .broken ≡ true → speaks (p ∷ r) ≡ Unreadable (refusal p)
@@ -68,17 +68,6 @@ silent-none cs = (none-of cs, of-none cs)
 -- at most one refusal is first
 pub first-unique : (cs : List Claim) (r s : Refusal) → FirstBroken cs r → FirstBroken cs s → r ≡ s
 first-unique cs r s f g = cc (spoken-first cs r .1 f, spoken-first cs s .1 g)
-
--- some claim is broken
-pub record SomeBroken (cs : List Claim) : Type 0 where
-  pub which : Claim
-  pub among : List·Memᴰ which cs
-  pub broken : which .broken ≡ true
-
--- a feed is refused
-pub record RefusedBy (files : List (List ℕ)) (rooms : List ℕ) : Type 0 where
-  pub told : Refusal
-  pub verdict : verdictOf files rooms ≡ Unreadable told
 
 module _ (files : List (List ℕ)) (rooms : List ℕ) where
   -- The refusal is the first broken claim, and the first broken claim is the refusal.

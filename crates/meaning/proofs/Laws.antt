@@ -9,7 +9,7 @@ use mathlib.Core.List.{List, [], _∷_, _++_, List·Memᴰ, List·Memᴰ·head, 
 use lib.ListN.{length, getD}
 use lib.Dec.{ltb, eqb}
 use borrow.Author.Tests.{ltb-true, ltb-false, lt-ltb, eq-eqb}
-use Rattle.meaning.specs.Promises.{Ordered}
+use Rattle.meaning.specs.Promises.{Ordered, Each}
 
 -- numbers compared in order: the first decides, or it is the same and the rest decides
 pub sooner-less : (a x : ℕ) (rest : Bool) → a < x → (ltb a x || (eqb a x && rest)) ≡ true
@@ -21,10 +21,6 @@ sooner-same a x rest h e = rw (eq-eqb a x h, e) (either (ltb a x))
     either : (t : Bool) → (t || true) ≡ true
     either true = refl
     either false = refl
-
--- every element has a property
-abbrev pub Each : {A : Type 0} → (A → Type 0) → List A → Type 0
-Each P l = (x : _) → List·Memᴰ x l → P x
 
 pub each-cons : {A : Type 0} (P : A → Type 0) (a : A) (l : List A) → P a → Each P l → Each P (a ∷ l)
 each-cons P a l p each x m = ⊎-elim (λ (e : x ≡ a). rw e p) (each x) (List·Memᴰ·cases-cons m)

@@ -9,4 +9,8 @@ pub mod Readable
 pub mod TheList
 pub mod Pages
 pub mod TimesNeverFall
+pub mod Records
+pub mod Held
+pub mod Calls
+pub mod Demands
 pub mod Starred

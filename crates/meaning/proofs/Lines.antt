@@ -8,14 +8,10 @@ use mathlib.Core.List.{List, [], _∷_, List·Memᴰ, List·Memᴰ·head, List·
 use lib.ListN.{length, getD}
 use lib.Dec.{ltb}
 use borrow.Author.Tests.{ltb-true, lt-ltb}
-use Rattle.meaning.specs.Refusals.{Test, test, Claim, claim, onLine}
-use Rattle.meaning.specs.Promises.{Ordered, sooner2, sooner3}
+use Rattle.meaning.specs.Refusals.{Test, Claim, claim, onLine}
+use Rattle.meaning.specs.Promises.{Ordered, Each, sooner2, sooner3, testOf}
 use Rattle.meaning.proofs.ListLaws.{and-both}
-use Rattle.meaning.proofs.Laws.{sooner-less, sooner-same, Each, each-cons, along, Along, along-in, along-of, along-ordered}
-
--- the test that a claim makes of its place
-abbrev pub testOf : Claim → Test
-testOf p = test (p .number) (p .broken)
+use Rattle.meaning.proofs.Laws.{sooner-less, sooner-same, each-cons, along, Along, along-in, along-of, along-ordered}
 
 -- a claim that line n of file f makes by its tests
 pub record OnLine (f n : ℕ) (ts : List Test) (p : Claim) : Type 0 where

@@ -1,5 +1,5 @@
 -- In a readable feed no rule of 1 to 13 is broken: what the later layers may lean on.
-use Prim.Native.Nat.{ℕ, zero, suc, _+_, _*_, _-_, _≤_, _<_}
+use Prim.Native.Nat.{ℕ, zero, suc, _+_, _-_, _≤_, _<_}
 use mathlib.Core.Path.{_≡_, refl, _∙_}
 use mathlib.Core.List.{List, [], _∷_, map, List·Memᴰ, List·Memᴰ·head, List·Memᴰ·tail, Memᴰ·append-right}
 use mathlib.Core.Bool.{Bool, true, false, cond}
@@ -8,15 +8,16 @@ use native.Mathlib.Decide.{ℕ-discrete}
 use lib.ListN.{length, getD, drop, length-map, length-drop}
 use lib.Seq.{getD-drop}
 use borrow.Author.Tests.{ne-eqb, ltb-false}
-use Rattle.meaning.specs.declared.Column.{Column}
 use Rattle.meaning.specs.declared.Verdict.the-variants.{Readable}
 use Rattle.meaning.specs.Lists.{some}
-use Rattle.meaning.specs.Bytes.{linesOf, countLf}
+use Rattle.meaning.specs.Bytes.{linesOf}
 use Rattle.meaning.specs.Columns.{columnOf, countOf, places, rowOf, headerOf, rowsOf}
-use Rattle.meaning.specs.Tables.{fileOf, widthOf}
+use Rattle.meaning.specs.Tables.{fileOf}
 use Rattle.meaning.specs.Refusals.{Test, test, claim, rule1, rule2, rule3, rule4, rule11, rule12, rule13, long, blank, formless, overRow, textTests, rowTests, lineTests, verdictOf}
+use Rattle.meaning.specs.Promises.{fileTests, testsOn, noLine, ValueKept}
+pub use Rattle.meaning.specs.Promises.{WholeKept}
 use Rattle.meaning.proofs.FirstBroken.{readable-exactly}
-use Rattle.meaning.proofs.Claims.{fileTests, testsOn, noLine, claim-of-file, claim-of-line}
+use Rattle.meaning.proofs.Claims.{claim-of-file, claim-of-line}
 
 -- a test that holds of none of n numbers from k on
 pub some-none : (P : ℕ → Bool) (k n : ℕ) → some P k n ≡ false → (j : ℕ) → k ≤ j → j < k + n → P j ≡ false
@@ -33,19 +34,6 @@ pub getD-map-in : {A B : Type 0} (g : A → B) (l : List A) (i : ℕ) (d : A) (e
 getD-map-in g [] i d e h = absurd (omega arith)
 getD-map-in g (x ∷ l) zero d e h = refl
 getD-map-in g (x ∷ l) (suc i) d e h = getD-map-in g l i d e (omega arith)
-
--- rules 1 to 4 are kept by a file and its table's length
-pub record WholeKept (f : ℕ) (s : List ℕ) (room : ℕ) : Type 0 where
-  pub short : length s ≤ 16777216
-  pub few : countLf s ≤ 65536
-  pub roomy : widthOf f * countLf s ≤ room
-  pub ended : rule4 f s room ≡ false
-
--- rules 11 to 13 are kept by a value under a known column
-pub record ValueKept (c : Column) (v : List ℕ) : Type 0 where
-  pub short : long c v ≡ false
-  pub there : blank c v ≡ false
-  pub formed : formless c v ≡ false
 
 module _ (files : List (List ℕ)) (rooms : List ℕ) (read : verdictOf files rooms ≡ Readable) (f : ℕ) (from : 1 ≤ f) (to : f ≤ length files) where
   none-whole : (room : f ≤ length rooms) (t : Test) → List·Memᴰ t (fileTests f (fileOf files f) (getD rooms (f - 1) 0)) → t .broken ≡ false

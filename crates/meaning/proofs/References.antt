@@ -11,12 +11,8 @@ use borrow.Author.Tests.{eq-eqb, ne-eqb, lt-ltb, le-ltb, ltb-true, ltb-false}
 use Rattle.meaning.specs.Lists.{same, empty, any, find, stands}
 use Rattle.meaning.specs.Tables.{refer}
 use Rattle.meaning.specs.Rules.{rule20, dangling}
+pub use Rattle.meaning.specs.Promises.{First, absent, found}
 use Rattle.meaning.proofs.ListLaws.{both, same-equal, same-self}
-
--- what it is to be the first place of a value among values that are counted from n, or 0
-pub data First (v : List ℕ) (n : ℕ) (vs : List (List ℕ)) (r : ℕ) : Type 0 where
-  absent : r ≡ 0 → ((j : ℕ) → j < length vs → same (getD vs j []) v ≡ false) → First v n vs r
-  found : (k : ℕ) → r ≡ n + k → k < length vs → same (getD vs k []) v ≡ true → ((j : ℕ) → j < k → same (getD vs j []) v ≡ false) → First v n vs r
 
 pub find-first : (v : List ℕ) (n : ℕ) (vs : List (List ℕ)) → First v n vs (find v n vs)
 unfolding find

@@ -2,27 +2,28 @@
 use Prim.Native.Nat.{ℕ, zero, suc, _+_, _*_, _-_, _≤_, _<_}
 use native.Mathlib.Omega.{arith}
 use native.Mathlib.Nat.{add-sub-cancel, mul-suc}
-use mathlib.Core.Path.{_≡_, refl, sym, ap}
+use mathlib.Core.Path.{_≡_, refl, sym, ap, _∙_}
 use mathlib.Core.Logic.{_↔_, ⊎-elim}
 use mathlib.Core.Bool.{Bool, true, false, cond}
 use mathlib.Core.List.{List, [], _∷_, map, append-nil, List·Memᴰ, List·Memᴰ·head, List·Memᴰ·tail, List·Memᴰ·not-nil, List·Memᴰ·cases-cons}
 use lib.IntN.{ℤ}
-use lib.ListN.{length, replicate, length-replicate, length-append, List·getD-eq-default}
+use lib.ListN.{length, getD, replicate, length-replicate, length-append, List·getD-eq-default}
 use lib.Dec.{ltb, eqb}
 use borrow.Author.Tests.{lt-ltb, ltb-true, ltb-false}
 use Rattle.meaning.specs.declared.Refusal.{Refusal}
 use Rattle.meaning.specs.declared.Place.{Place}
 use Rattle.meaning.specs.declared.Verdict.{Verdict}
 use Rattle.meaning.specs.declared.Verdict.the-variants.{Readable, Unreadable}
-use Rattle.meaning.specs.declared.Answer.the-variants.{Accepted, Findings, Refused}
+use Rattle.meaning.specs.declared.Answer.the-variants.{Accepted, Findings}
 use Rattle.meaning.specs.Tables.{Feed, feedOf}
 use Rattle.meaning.specs.Refusals.{Test, test, Claim, claim, onLine, verdictOf}
 use Rattle.meaning.specs.Rules.{stopRules, routeRules, serviceRules, tripRules, timeRules, recordCounts, recordCount, rulesOf, onRecords, bindingsOf, bindings}
-use Rattle.meaning.specs.Findings.{Finding, finding, listed, findingsOf, above, after, answerOf}
+use Rattle.meaning.specs.Findings.{Finding, finding, listed, findingsOf, above, after, page, roomOf, answerOf, answerNumbers}
 use Rattle.meaning.specs.Outcome.{readOutcome, refusedOr, outcome}
-use Rattle.meaning.specs.Promises.{Ordered, BrokenAt, comesBefore, beginning, PagesJoin, PagesEnd}
-use Rattle.meaning.proofs.Pages.{pages-join, pages-end}
-use Rattle.meaning.proofs.Laws.{Each, along, Along, along-in, along-of, along-ordered}
+use Rattle.meaning.specs.Promises.{Ordered, Each, saysAccepted, saysFindings, saysRefused, Ends, accepted, findings, refused, BrokenAt, Findable, comesBefore, beginning}
+use Rattle.meaning.proofs.Pages.{told}
+use Rattle.meaning.proofs.Claims.{refusal-numbers}
+use Rattle.meaning.proofs.Laws.{along, Along, along-in, along-of, along-ordered}
 use Rattle.meaning.proofs.Lines.{rising, rising-within, rank, rank-file, linewise, Linewise, linewise-exactly, linewise-ordered}
 
 -- the finding that a broken claim is
@@ -184,12 +185,6 @@ module _ (w : Feed) where
   unfolding findingsOf
   list-ordered = listed-ordered (bindings w) bindings-ordered
 
--- the numbers of a finding
-pub record Findable (w : Feed) (d : Finding) : Type 0 where
-  pub file : (1 ≤ d .file) × (d .file ≤ 5)
-  pub line : (2 ≤ d .line) × (d .line ≤ recordCount w (d .file) + 1)
-  pub rule : (20 ≤ d .rule) × (d .rule ≤ 31)
-
 -- A finding's file is 1 to 5, its line one of that file's records, its rule 20 to 31.
 pub finding-numbers : (w : Feed) → Each (Findable w) (findingsOf w)
 finding-numbers w d m =
@@ -202,14 +197,6 @@ finding-numbers w d m =
 pub findings-from-beginning : (w : Feed) → Each (λ d. after beginning d ≡ true) (findingsOf w)
 unfolding after above
 findings-from-beginning w d m = rw (lt-ltb 0 (d .file) (finding-numbers w d m .file .0))
-
--- Calls from the list's beginning until one hands out none together give the whole list.
-pub list-joins : (w : Feed) → PagesJoin (findingsOf w)
-list-joins w = pages-join (findingsOf w) (list-ordered w) (findings-from-beginning w)
-
--- Such calls come to an end.
-pub list-ends : (w : Feed) → PagesEnd (findingsOf w)
-list-ends w = pages-end (findingsOf w) (list-ordered w) (findings-from-beginning w)
 
 line-length : (f n : ℕ) (ts : List Test) → length (onLine f n ts) ≡ length ts
 unfolding onLine
@@ -236,25 +223,44 @@ total-bound w =
     )
 
 -- a feed that reads is not refused
-never-refused : (p : Place) (ds : List Finding) (list : List ℤ) (r : Refusal) → answerOf p ds list ≡ Refused r → ⊥
-unfolding answerOf
-never-refused p ds list r = go (eqb (length ds) 0) _ _
+never-refused : (p : Place) (ds : List Finding) (list : List ℤ) (r : Refusal) → answerNumbers (answerOf p ds list) ≡ saysRefused r → ⊥
+never-refused p ds list r e = go (eqb (length ds) 0) (ap (λ (ns : List ℕ). getD ns 0 0) (sym (told p ds list) ∙ e))
   where
-    go : (t : Bool) (written total : ℕ) → cond t Accepted (Findings written total) ≡ Refused r → ⊥
-    go true n m e = let z : _≡_ {A = ℕ} 0 1 = cc in omega arith
-    go false n m e = let z : _≡_ {A = ℕ} 0 1 = cc in omega arith
+    go : (t : Bool) → getD (cond t saysAccepted (saysFindings (length (page p (roomOf list) ds)) (length ds))) 0 0 ≡ 2 → ⊥
+    go true z = omega arith
+    go false z = omega arith
+
+-- the numbers of a refusal are those of one refusal
+one-refusal : (r s : Refusal) → saysRefused s ≡ saysRefused r → s ≡ r
+one-refusal r s e = λ i. record { number = at 1 i; file = at 2 i; line = at 3 i; column = at 4 i }
+  where
+    at : (k : ℕ) → getD (saysRefused s) k 0 ≡ getD (saysRefused r) k 0
+    at k = ap (λ (ns : List ℕ). getD ns k 0) e
 
 module _ (files : List (List ℕ)) (tables : List (List ℤ)) (list : List ℤ) (p : Place) where
   -- The answer refuses exactly what the verdict does.
-  pub refused-answer : (r : Refusal) → outcome files tables list p .answer ≡ Refused r ↔ verdictOf files (map length tables) ≡ Unreadable r
-  unfolding outcome readOutcome
+  pub refused-answer : (r : Refusal) → answerNumbers (outcome files tables list p .answer) ≡ saysRefused r ↔ verdictOf files (map length tables) ≡ Unreadable r
+  unfolding outcome readOutcome answerNumbers
   refused-answer r = (λ e. there (verdictOf files (map length tables)) refl e, λ e. rw e)
     where
-      there : (v : Verdict) → verdictOf files (map length tables) ≡ v → refusedOr v (readOutcome files tables list p) tables list .answer ≡ Refused r → verdictOf files (map length tables) ≡ Unreadable r
+      there : (v : Verdict) → verdictOf files (map length tables) ≡ v → answerNumbers (refusedOr v (readOutcome files tables list p) tables list .answer) ≡ saysRefused r → verdictOf files (map length tables) ≡ Unreadable r
       there Readable k e = absurd (never-refused p (findingsOf (feedOf files)) list r e)
-      there (Unreadable s) k e = cc
+      there (Unreadable s) k e = k ∙ ap Unreadable (one-refusal r s e)
 
   -- A refused feed leaves every table and the list as lent.
-  pub refused-untouched : (r : Refusal) → outcome files tables list p .answer ≡ Refused r → (outcome files tables list p .tables ≡ tables) × (outcome files tables list p .list ≡ list)
+  pub refused-untouched : (r : Refusal) → answerNumbers (outcome files tables list p .answer) ≡ saysRefused r → (outcome files tables list p .tables ≡ tables) × (outcome files tables list p .list ≡ list)
   unfolding outcome
   refused-untouched r e = let v = refused-answer r .0 e in (rw v, rw v)
+
+  -- The answer is accepted, findings, or a refusal that can be said.
+  pub answer-ends : Ends files (answerNumbers (outcome files tables list p .answer))
+  unfolding outcome readOutcome answerOf answerNumbers
+  answer-ends = go (verdictOf files (map length tables)) refl
+    where
+      read : (t : Bool) (n m : ℕ) → Ends files (answerNumbers (cond t Accepted (Findings n m)))
+      read true n m = accepted refl
+      read false n m = findings n m refl
+
+      go : (v : Verdict) → verdictOf files (map length tables) ≡ v → Ends files (answerNumbers (refusedOr v (readOutcome files tables list p) tables list .answer))
+      go Readable e = read (eqb (length (findingsOf (feedOf files))) 0) _ _
+      go (Unreadable r) e = refused r refl (refusal-numbers files (map length tables) r e)

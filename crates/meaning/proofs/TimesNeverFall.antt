@@ -11,15 +11,14 @@ use lib.ListN.{length, take}
 use lib.Dec.{ltb}
 use borrow.Author.Tests.{ltb-false}
 use Rattle.meaning.specs.declared.Place.{Place}
-use Rattle.meaning.specs.declared.Answer.the-variants.{Accepted}
 use Rattle.meaning.specs.Lists.{same, lastHas}
 use Rattle.meaning.specs.Columns.{Row}
 use Rattle.meaning.specs.Tables.{Feed, feedOf, timeTrip}
 use Rattle.meaning.specs.Refusals.{test}
 use Rattle.meaning.specs.Rules.{row, timed, arrives, departs, ofTrip, earlier, rule27, rule29, timeRules, rulesOf, recordCounts, recordCount}
-use Rattle.meaning.specs.Findings.{findingsOf}
+use Rattle.meaning.specs.Findings.{findingsOf, answerNumbers}
 use Rattle.meaning.specs.Outcome.{outcome}
-use Rattle.meaning.specs.Promises.{TimesNeverFall}
+use Rattle.meaning.specs.Promises.{saysAccepted, TimesNeverFall}
 use Rattle.meaning.proofs.ListLaws.{and-both, and-second, same-equal, same-self, keep-keep, LastAt, last-at}
 use Rattle.meaning.proofs.Pages.{accepted-exactly}
 use Rattle.meaning.proofs.TheList.{listed-exactly}
@@ -119,5 +118,5 @@ module _ (w : Feed) (clean : findingsOf w ≡ []) where
   times-never-fall i j a b s t u = rising j i j (omega arith) (record { before = a; within = b; trip = s; first = t; second = u })
 
 pub accepted-times : (files : List (List ℕ)) (tables : List (List ℤ)) (list : List ℤ) (p : Place)
-    → outcome files tables list p .answer ≡ Accepted → TimesNeverFall (feedOf files)
+    → answerNumbers (outcome files tables list p .answer) ≡ saysAccepted → TimesNeverFall (feedOf files)
 accepted-times files tables list p e = times-never-fall (feedOf files) (accepted-exactly files tables list p .0 e .1)

@@ -1,4 +1,4 @@
--- What document 01 means, one section a file, in its order.
+-- What document 01 means, one section a file, in its order; then what is promised of it.
 pub mod Lists
 pub mod Bytes
 pub mod Columns
@@ -9,3 +9,7 @@ pub mod Rules
 pub mod Findings
 pub mod Outcome
 pub mod Promises
+pub mod Held
+pub mod Calls
+pub mod Demands
+pub mod Cases

@@ -1,25 +1,113 @@
--- What the three demands promise, as statements about the definitions. The theorems stand in proofs/.
-use Prim.Native.Nat.{ℕ, _+_, _-_, _≤_, _<_}
+-- What the three demands promise, as statements about the definitions. The theorems stand in proofs/, the demands themselves in Demands.
+use Prim.Native.Nat.{ℕ, _+_, _*_, _-_, _≤_, _<_}
 use mathlib.Core.Path.{_≡_}
+use mathlib.Core.Logic.{_↔_, _⊎_}
 use mathlib.Core.List.{List, [], _∷_, _++_, List·Memᴰ}
 use mathlib.Core.Bool.{Bool, true, false, cond, _&&_, _||_}
-use lib.IntN.{pos}
+use lib.IntN.{ℤ, pos}
 use lib.ListN.{length, getD}
 use lib.Dec.{ltb, eqb}
+use Rattle.meaning.specs.declared.Column.{Column}
 use Rattle.meaning.specs.declared.Refusal.{Refusal}
+use Rattle.meaning.specs.declared.Verdict.the-variants.{Unreadable}
 use Rattle.meaning.specs.declared.Place.{Place}
-use Rattle.meaning.specs.Lists.{same}
-use Rattle.meaning.specs.Tables.{Feed, timeTrip}
-use Rattle.meaning.specs.Refusals.{test, Claim, claim, refusal}
+use Rattle.meaning.specs.Lists.{same, keep, laid}
+use Rattle.meaning.specs.Bytes.{Line, linesOf, countLf, fields}
+use Rattle.meaning.specs.Columns.{places, headerOf}
+use Rattle.meaning.specs.Tables.{Feed, fileOf, timeTrip, widthOf}
+use Rattle.meaning.specs.Refusals.{Test, test, Claim, claim, rule1, rule2, rule3, rule4, headTests, lineTests, long, blank, formless, refusal, verdictOf}
 use Rattle.meaning.specs.Rules.{row, timed, arrives, departs, rulesOf, recordCount}
-use Rattle.meaning.specs.Findings.{Finding, page}
+use Rattle.meaning.specs.Findings.{Finding, after, triples, answerNumbers}
+use Rattle.meaning.specs.Outcome.{Outcome}
 
 -- no element comes before one that stands earlier, and none stands twice
 abbrev pub Ordered : {A : Type 0} → (A → A → Bool) → List A → Type 0
 Ordered less [] = Unit {0}
 Ordered less (x ∷ r) = ((y : _) → List·Memᴰ y r → less x y ≡ true) × Ordered less r
 
--- Demand 1: the claim at some place is broken, it is the refusal's, and nothing that speaks before it is broken
+-- every element has a property
+abbrev pub Each : {A : Type 0} → (A → Type 0) → List A → Type 0
+Each P l = (x : _) → List·Memᴰ x l → P x
+
+-- numbers compared in order
+abbrev pub sooner2 : ℕ → ℕ → ℕ → ℕ → Bool
+sooner2 a b x y = ltb a x || (eqb a x && ltb b y)
+
+abbrev pub sooner3 : ℕ → ℕ → ℕ → ℕ → ℕ → ℕ → Bool
+sooner3 a b c x y z = ltb a x || (eqb a x && sooner2 b c y z)
+
+-- ---- the answer, in the seven numbers of `answerNumbers`
+
+abbrev pub saysAccepted : List ℕ
+saysAccepted = 0 ∷ 0 ∷ 0 ∷ 0 ∷ 0 ∷ 0 ∷ 0 ∷ []
+
+abbrev pub saysFindings : ℕ → ℕ → List ℕ
+saysFindings written total = 1 ∷ 0 ∷ 0 ∷ 0 ∷ 0 ∷ written ∷ total ∷ []
+
+abbrev pub saysRefused : Refusal → List ℕ
+saysRefused r = 2 ∷ r .number ∷ r .file ∷ r .line ∷ r .column ∷ 0 ∷ 0 ∷ []
+
+-- of a feed that reads: accepted exactly when the total is 0
+abbrev pub saysRead : ℕ → ℕ → List ℕ
+saysRead written total = cond (eqb total 0) saysAccepted (saysFindings written total)
+
+-- how many findings an answer says were written, and how many there are
+abbrev pub writtenIn : List ℕ → ℕ
+writtenIn ns = getD ns 5 0
+
+abbrev pub totalIn : List ℕ → ℕ
+totalIn ns = getD ns 6 0
+
+-- ---- Demand 1
+
+-- the tests of a whole file, with its table's length
+unfoldable pub fileTests : ℕ → List ℕ → ℕ → List Test
+fileTests f s room =
+    test 1 (rule1 f s room) ∷ test 2 (rule2 f s room) ∷ test 3 (rule3 f s room) ∷ test 4 (rule4 f s room) ∷ []
+
+-- how many fields a file's header has
+unfoldable pub fieldCount : List Line → ℕ
+fieldCount [] = 0
+fieldCount (h ∷ r) = length (fields (h .text))
+
+-- the tests of line n of a file with these lines: line 1 is the header
+unfoldable pub testsOn : ℕ → List Line → ℕ → Line → List Test
+testsOn f ls n l =
+    cond (eqb n 1) (headTests f (l .text)) (lineTests f (places f (headerOf ls)) (fieldCount ls) (l .text))
+
+abbrev pub noLine : Line
+noLine = record { start = 0; text = [] }
+
+-- the test that a claim makes of its place
+abbrev pub testOf : Claim → Test
+testOf p = test (p .number) (p .broken)
+
+-- a claim of rules 1 to 4
+pub record FileClaim (files : List (List ℕ)) (rooms : List ℕ) (p : Claim) : Type 0 where
+  pub line : p .line ≡ 0
+  pub from : 1 ≤ p .file
+  pub to : p .file ≤ length files
+  pub room : p .file ≤ length rooms
+  pub rule : List·Memᴰ (testOf p) (fileTests (p .file) (fileOf files (p .file)) (getD rooms (p .file - 1) 0))
+
+-- a claim of rules 5 to 13
+pub record LineClaim (files : List (List ℕ)) (p : Claim) : Type 0 where
+  pub from : 1 ≤ p .file
+  pub to : p .file ≤ length files
+  pub first : 1 ≤ p .line
+  pub last : p .line ≤ length (linesOf (fileOf files (p .file)))
+  pub rule :
+      List·Memᴰ (testOf p)
+      (testsOn (p .file) (linesOf (fileOf files (p .file))) (p .line) (getD (linesOf (fileOf files (p .file))) (p .line - 1) noLine))
+
+-- which of two claims speaks first: rules 1 to 4 rule by rule over the files; then file, line, number
+unfoldable pub speaksBefore : Claim → Claim → Bool
+speaksBefore p q =
+    cond (ltb (p .number) 5)
+    (cond (ltb (q .number) 5) (sooner2 (p .number) (p .file) (q .number) (q .file)) true)
+    (cond (ltb (q .number) 5) false (sooner3 (p .file) (p .line) (p .number) (q .file) (q .line) (q .number)))
+
+-- the claim at some place is broken, it is the refusal's, and nothing that speaks before it is broken
 abbrev pub noClaim : Claim
 noClaim = claim 0 0 0 false
 
@@ -34,72 +122,59 @@ pub record FirstBroken (cs : List Claim) (r : Refusal) : Type 0 where
 abbrev pub NoneBroken : List Claim → Type 0
 NoneBroken cs = (p : Claim) → List·Memᴰ p cs → p .broken ≡ false
 
--- numbers compared in order
-abbrev pub sooner2 : ℕ → ℕ → ℕ → ℕ → Bool
-sooner2 a b x y = ltb a x || (eqb a x && ltb b y)
+-- some claim is broken
+pub record SomeBroken (cs : List Claim) : Type 0 where
+  pub which : Claim
+  pub among : List·Memᴰ which cs
+  pub broken : which .broken ≡ true
 
-abbrev pub sooner3 : ℕ → ℕ → ℕ → ℕ → ℕ → ℕ → Bool
-sooner3 a b c x y z = ltb a x || (eqb a x && sooner2 b c y z)
+-- a feed is refused
+pub record RefusedBy (files : List (List ℕ)) (rooms : List ℕ) : Type 0 where
+  pub told : Refusal
+  pub verdict : verdictOf files rooms ≡ Unreadable told
 
--- which of two claims speaks first: rules 1 to 4 rule by rule over the files; then file, line, number
-unfoldable pub speaksBefore : Claim → Claim → Bool
-speaksBefore p q =
-    cond (ltb (p .number) 5)
-    (cond (ltb (q .number) 5) (sooner2 (p .number) (p .file) (q .number) (q .file)) true)
-    (cond (ltb (q .number) 5) false (sooner3 (p .file) (p .line) (p .number) (q .file) (q .line) (q .number)))
+-- what a refusal can say: a number from 1 to 13, its file, its line, or line 0 exactly for a whole file
+pub record Sayable (files : List (List ℕ)) (r : Refusal) : Type 0 where
+  pub lowest : 1 ≤ r .number
+  pub highest : r .number ≤ 13
+  pub file : (1 ≤ r .file) × (r .file ≤ length files)
+  pub line : r .line ≡ 0 ↔ r .number ≤ 4
+  pub last : r .line ≤ length (linesOf (fileOf files (r .file)))
+  pub column : r .column ≡ 0
 
--- Demand 3: binding rule r is broken on line n of file f
-pub record BrokenAt (w : Feed) (f n r : ℕ) : Type 0 where
-  pub from : 2 ≤ n
-  pub to : n < recordCount w f + 2
-  pub rule : List·Memᴰ (test r true) (rulesOf w f (n - 2))
+-- an answer, by its numbers: accepted, findings, or a refusal
+pub data Ends (files : List (List ℕ)) (ns : List ℕ) : Type 0 where
+  accepted : ns ≡ saysAccepted → Ends files ns
+  findings : (written total : ℕ) → ns ≡ saysFindings written total → Ends files ns
+  refused : (r : Refusal) → ns ≡ saysRefused r → Sayable files r → Ends files ns
 
--- which of two findings comes first: by file, line, rule
-unfoldable pub comesBefore : Finding → Finding → Bool
-comesBefore d e = sooner3 (d .file) (d .line) (d .rule) (e .file) (e .line) (e .rule)
+-- ---- Demand 2
 
--- the beginning of the list
-abbrev pub beginning : Place
-beginning = record { file = pos 0; line = pos 0; rule = pos 0 }
+-- rules 1 to 4 are kept by a file and its table's length
+pub record WholeKept (f : ℕ) (s : List ℕ) (room : ℕ) : Type 0 where
+  pub short : length s ≤ 16777216
+  pub few : countLf s ≤ 65536
+  pub roomy : widthOf f * countLf s ≤ room
+  pub ended : rule4 f s room ≡ false
 
--- where the call after one from p starts: from the last finding handed out
-unfoldable pub nextPlace : Place → List Finding → Place
-nextPlace p [] = p
-nextPlace p (d ∷ r) = nextPlace (record { file = pos (d .file); line = pos (d .line); rule = pos (d .rule) }) r
+-- rules 11 to 13 are kept by a value under a known column
+pub record ValueKept (c : Column) (v : List ℕ) : Type 0 where
+  pub short : long c v ≡ false
+  pub there : blank c v ≡ false
+  pub formed : formless c v ≡ false
 
--- all that calls with these rooms hand out, the first from p and each later one from the last finding handed out
-unfoldable pub pages : List Finding → Place → List ℕ → List Finding
-pages ds p [] = []
-pages ds p (room ∷ rooms) = let g = page p room ds in g ++ pages ds (nextPlace p g) rooms
+-- what it is to be the first place of a value among values that are counted from n, or 0
+pub data First (v : List ℕ) (n : ℕ) (vs : List (List ℕ)) (r : ℕ) : Type 0 where
+  absent : r ≡ 0 → ((j : ℕ) → j < length vs → same (getD vs j []) v ≡ false) → First v n vs r
+  found :
+      (k : ℕ)
+      → r ≡ n + k
+      → k < length vs
+      → same (getD vs k []) v ≡ true
+      → ((j : ℕ) → j < k → same (getD vs j []) v ≡ false)
+      → First v n vs r
 
--- where those calls leave off
-unfoldable pub placeAfter : List Finding → Place → List ℕ → Place
-placeAfter ds p [] = p
-placeAfter ds p (room ∷ rooms) = placeAfter ds (nextPlace p (page p room ds)) rooms
-
--- room for at least one finding in each call
-abbrev pub Roomy : List ℕ → Type 0
-Roomy [] = Unit {0}
-Roomy (room ∷ rooms) = (1 ≤ room) × Roomy rooms
-
--- Over unchanged files, calls from the list's beginning until one hands out none together give the whole list.
-abbrev pub PagesJoin : List Finding → Type 0
-PagesJoin ds =
-    (rooms : List ℕ) (last : ℕ)
-    → Roomy rooms
-    → 1 ≤ last
-    → page (placeAfter ds beginning rooms) last ds ≡ []
-    → pages ds beginning rooms ≡ ds
-
--- such calls come to an end: as many as there are findings leave nothing to hand out
-abbrev pub PagesEnd : List Finding → Type 0
-PagesEnd ds =
-    (rooms : List ℕ) (last : ℕ)
-    → Roomy rooms
-    → length ds ≤ length rooms
-    → page (placeAfter ds beginning rooms) last ds ≡ []
-
--- Demand 2: times never fall between any two timed lines of one trip, taken in trip order
+-- times never fall between any two timed lines of one trip, taken in trip order
 abbrev pub TimesNeverFall : Feed → Type 0
 TimesNeverFall w =
     (i j : ℕ)
@@ -109,3 +184,36 @@ TimesNeverFall w =
     → timed (row (w .stopTimes) i) ≡ true
     → timed (row (w .stopTimes) j) ≡ true
     → departs (row (w .stopTimes) i) ≤ arrives (row (w .stopTimes) j)
+
+-- ---- Demand 3
+
+-- binding rule r is broken on line n of file f
+pub record BrokenAt (w : Feed) (f n r : ℕ) : Type 0 where
+  pub from : 2 ≤ n
+  pub to : n < recordCount w f + 2
+  pub rule : List·Memᴰ (test r true) (rulesOf w f (n - 2))
+
+-- the numbers of a finding: file 1 to 5, a line of that file's records, rule 20 to 31
+pub record Findable (w : Feed) (d : Finding) : Type 0 where
+  pub file : (1 ≤ d .file) × (d .file ≤ 5)
+  pub line : (2 ≤ d .line) × (d .line ≤ recordCount w (d .file) + 1)
+  pub rule : (20 ≤ d .rule) × (d .rule ≤ 31)
+
+-- which of two findings comes first: by file, line, rule
+unfoldable pub comesBefore : Finding → Finding → Bool
+comesBefore d e = sooner3 (d .file) (d .line) (d .rule) (e .file) (e .line) (e .rule)
+
+-- What a call from p hands out of the findings ds into a lent list: of those after p the earliest, none skipped, as many as fit,
+-- three numbers each, the rest of the list unchanged; and how many were written, and the total over the whole feed.
+pub record PageTold (ds : List Finding) (p : Place) (lent : List ℤ) (o : Outcome) : Type 0 where
+  pub given : List Finding
+  pub later : List Finding
+  pub after-p : keep (after p) ds ≡ given ++ later
+  pub fits : 3 * length given ≤ length lent
+  pub full : (later ≡ []) ⊎ (length lent < 3 * length given + 3)
+  pub list : o .list ≡ laid (triples given) lent
+  pub answer : answerNumbers (o .answer) ≡ saysRead (length given) (length ds)
+
+-- the beginning of the list
+abbrev pub beginning : Place
+beginning = record { file = pos 0; line = pos 0; rule = pos 0 }

@@ -9,8 +9,8 @@ use native.Mathlib.Omega.{arith}
 use borrow.Author.Tests.{le-ltb}
 use lib.Dec.{T}
 use lib.IntN.{ℤ, pos, negsuc}
-use lib.ListN.{length, drop, set, getD, replicate, length-append, length-take, length-drop, length-replicate, List·getD-eq-default}
-use lib.Seq.{paste, paste-suc, take-length}
+use lib.ListN.{length, drop, take, set, getD, replicate, length-append, length-take, length-drop, length-replicate, List·getD-eq-default}
+use lib.Seq.{paste, paste-suc, take-length, length-take-le}
 use lib.Signed.{ltZ}
 use Rattle.num.specs.Signs.{natOf}
 use Rattle.meaning.specs.declared.Time.the-variants.{Seconds, Untimed}
@@ -100,3 +100,7 @@ untimed (negsuc n) e = refl
 pub timed : (z : ℤ) → ltZ z (pos 0) ≡ false → Seconds (natOf z) ≡ timeIn z
 timed (pos n) e = refl
 timed (negsuc n) e = absurd (subst T e tt)
+
+-- room for the first numbers of a list
+pub take-room : (v : List ℤ) (n at m : ℕ) → n ≤ length v → at + n ≤ m → at + length (take n v) ≤ m
+take-room v n at m h k = rw (length-take-le n v h) k

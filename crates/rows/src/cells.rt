@@ -1,8 +1,9 @@
 // Whole records written and single numbers read, for tables of any width.
 ghost use mathlib.Core.Path.{_≡_};
-ghost use Prim.Native.Nat.{_+_, _*_, _<_, _≤_};
+ghost use mathlib.Core.List.{_∷_, []};
+ghost use Prim.Native.Nat.{_+_, _*_, _^_, _<_, _≤_};
 ghost use lib.IntN.{pos};
-ghost use lib.ListN.{length, getD, replicate};
+ghost use lib.ListN.{length, getD, take, replicate};
 ghost use Rattle.meaning.specs.Lists.{laid};
 ghost use Rattle.rows.specs.Cells.{putAt, natAt, boundsAt, timeAt};
 use meaning::Bounds;
@@ -18,6 +19,25 @@ pub fn store(t: &mut [i32], at: usize, r: &[i32])
         t[at + j] = r[j];
         j += 1;
     }
+}
+
+// The place of a record's id and, where the record is wide enough, of one more field; zeros beside them.
+pub fn put_places(t: &mut [i32], row: usize, width: usize, id: Bounds, other: Bounds)
+    requires { ⌜ (width ≤ 7) × (row * width + width ≤ length (now t)) ⌝ }
+    requires { ⌜ (id .start < 2 ^ 31) × ((id .end < 2 ^ 31) × ((other .start < 2 ^ 31) × (other .end < 2 ^ 31))) ⌝ }
+    ensures { λ _. ⌜ now (t .exit) ≡ putAt (now (t .entry)) (row * width)
+        (take width (pos (id .start) ∷ pos (id .end) ∷ pos 0 ∷ pos (other .start) ∷ pos (other .end) ∷ pos 0 ∷ pos 0 ∷ [])) ⌝ }
+{
+    let r = [
+        id.start as i32,
+        id.end as i32,
+        0,
+        other.start as i32,
+        other.end as i32,
+        0,
+        0,
+    ];
+    store(t, row * width, &r[..width]);
 }
 
 // Record 0 is all zero.

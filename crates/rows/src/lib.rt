@@ -1,10 +1,9 @@
 // A type per file that knows its width and number, a row type per file, and the records that they place.
 ghost use mathlib.Core.Path.{_≡_};
 ghost use mathlib.Core.List.{_∷_, []};
-ghost use Prim.Native.Nat.{_+_, _*_, _^_, _/_, _%_, _<_, _≤_};
+ghost use Prim.Native.Nat.{_+_, _*_, _^_, _<_, _≤_};
 ghost use lib.IntN.{pos};
-ghost use lib.ListN.{length};
-ghost use Rattle.meaning.specs.Bytes.{bounds};
+ghost use lib.ListN.{length, set};
 ghost use Rattle.meaning.specs.Tables.{widthOf};
 ghost use Rattle.rows.specs.Cells.{putAt, natAt, boundsAt, timeAt};
 use meaning::Bounds;
@@ -43,53 +42,38 @@ impl Stops {
         row.0 * Stops::WIDTH
     }
 
-    // The record of a line. Where the field of its parent lies waits in it: the end, four times, beside the kind, and the start.
-    pub fn put(
-        t: &mut [i32],
-        row: StopRow,
-        id: Bounds,
-        latitude: i32,
-        longitude: i32,
-        kind: u32,
-        parent: Bounds,
-    )
-        requires { ⌜ row .0 * 6 + 6 ≤ length (now t) ⌝ }
-        requires { ⌜ (id .start < 2 ^ 31) × ((id .end < 2 ^ 31) × ((kind < 4) × ((parent .start < 2 ^ 31) × (parent .end < 2 ^ 29)))) ⌝ }
+    // The record of a line, but for its parent, number 5, which is settled before.
+    pub fn put(t: &mut [i32], row: StopRow, id: Bounds, latitude: i32, longitude: i32, kind: u32)
+        requires { ⌜ row .0 * 6 + 5 ≤ length (now t) ⌝ }
+        requires { ⌜ (id .start < 2 ^ 31) × ((id .end < 2 ^ 31) × (kind < 2 ^ 31)) ⌝ }
         ensures { λ _. ⌜ now (t .exit) ≡ putAt (now (t .entry)) (row .0 * 6)
-            (pos (id .start) ∷ pos (id .end) ∷ latitude ∷ longitude ∷ pos (kind + 4 * parent .end) ∷ pos (parent .start) ∷ []) ⌝ }
+            (pos (id .start) ∷ pos (id .end) ∷ latitude ∷ longitude ∷ pos kind ∷ []) ⌝ }
     {
-        let packed = kind as usize + 4 * parent.end;
         let r = [
             id.start as i32,
             id.end as i32,
             latitude,
             longitude,
-            packed as i32,
-            parent.start as i32,
+            kind as i32,
         ];
         cells::store(t, Stops::place(row), &r);
     }
 
-    // Where the field of a parent that waits lies.
+    // Where the field of a parent lies that waits in a stop's record: numbers 3 and 4.
     pub fn waiting_at(t: &[i32], row: StopRow) -> Bounds
-        ensures { λ r. ⌜ r ≡ bounds (natAt (now (t .entry)) (row .0 * 6 + 5)) (natAt (now (t .entry)) (row .0 * 6 + 4) / 4) ⌝ }
+        ensures { λ r. ⌜ r ≡ boundsAt (now (t .entry)) (row .0 * 6 + 3) ⌝ }
     {
-        let start = cells::nat_of(t, row.0, Stops::WIDTH, 5);
-        let packed = cells::nat_of(t, row.0, Stops::WIDTH, 4);
-        Bounds {
-            start,
-            end: packed / 4,
-        }
+        let start = cells::nat_of(t, row.0, Stops::WIDTH, 3);
+        let end = cells::nat_of(t, row.0, Stops::WIDTH, 4);
+        Bounds { start, end }
     }
 
-    // The parent's record where its field waited; the kind stays by itself.
+    // The parent's record, number 5.
     pub fn settle(t: &mut [i32], row: StopRow, parent: StopRow)
         requires { ⌜ (row .0 * 6 + 6 ≤ length (now t)) × (parent .0 < 2 ^ 31) ⌝ }
-        ensures { λ _. ⌜ now (t .exit) ≡ putAt (now (t .entry)) (row .0 * 6 + 4) (pos (natAt (now (t .entry)) (row .0 * 6 + 4) % 4) ∷ pos (parent .0) ∷ []) ⌝ }
+        ensures { λ _. ⌜ now (t .exit) ≡ set (now (t .entry)) (row .0 * 6 + 5) (pos (parent .0)) ⌝ }
     {
-        let packed = cells::nat_of(t, row.0, Stops::WIDTH, 4);
-        let r = [(packed % 4) as i32, parent.0 as i32];
-        cells::store(t, Stops::place(row) + 4, &r);
+        t[Stops::place(row) + 5] = parent.0 as i32;
     }
 
     // Where the id of a record stands in the file.

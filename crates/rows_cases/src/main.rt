@@ -48,33 +48,34 @@ fn both(a: bool, b: bool) -> bool {
     false
 }
 
-// Negative coordinates in a second record whose parent waits; the first and what follows stay.
+// The places of a second record's id and of its parent's field wait; then its parent, and negative coordinates. The first record and what follows stay.
 fn stops() {
     let mut t = [7i32; 13];
     let id = Bounds { start: 36, end: 37 };
-    let parent = Bounds { start: 41, end: 44 };
-    Stops::put(&mut t, StopRow(1), id, -338674999, -1800000000, 2, parent);
-    let waits = [
-        7,
-        7,
-        7,
-        7,
-        7,
-        7,
-        36,
-        37,
-        -338674999,
-        -1800000000,
-        178,
-        41,
-        7,
-    ];
-    told(b"stops", same(&t, &waits));
+    let field = Bounds { start: 41, end: 44 };
+    rows::cells::put_places(&mut t, 1, Stops::WIDTH, id, field);
+    told(
+        b"places",
+        same(&t, &[7, 7, 7, 7, 7, 7, 36, 37, 0, 41, 44, 0, 7]),
+    );
     let place = Stops::waiting_at(&t, StopRow(1));
     told(b"waiting", both(place.start == 41, place.end == 44));
     Stops::settle(&mut t, StopRow(1), StopRow(1));
+    told(
+        b"settled",
+        same(&t, &[7, 7, 7, 7, 7, 7, 36, 37, 0, 41, 44, 1, 7]),
+    );
+    Stops::put(
+        &mut t,
+        StopRow(1),
+        id,
+        -338674999,
+        -1800000000,
+        2,
+        StopRow(1),
+    );
     let want = [7, 7, 7, 7, 7, 7, 36, 37, -338674999, -1800000000, 2, 1, 7];
-    told(b"settled", same(&t, &want));
+    told(b"stops", same(&t, &want));
 }
 
 // Record 0 and a record of the largest number.

@@ -17,12 +17,14 @@ use Rattle.listing.specs.Handing.{State, lentOnly, noting, handedOut}
 use Rattle.listing.proofs.Laws.{noting-all, noting-append}
 use Rattle.trip_order.specs.Marks.{LastLines, FirstLines}
 use Rattle.trip_order.proofs.Marks.{none-last, none-first}
+use Rattle.held.specs.Held.{Filled}
 use Rattle.held.proofs.Numbers.{lines-held}
 use Rattle.file_rules.specs.Lines.{rowsIn, Ready, Marked}
+use Rattle.file_rules.proofs.Walk.{rows-records}
 use Rattle.file_rules.proofs.Marks.{firsts-of, lasts-of}
 use Rattle.rules.specs.Tabled.{Tabled}
 
-module _ (w : Feed) (s₁ s₂ s₃ s₄ s₅ : List ℕ) (t₁ t₂ t₃ t₄ t₅ : List ℤ) (h : Tabled w s₁ s₂ s₃ s₄ s₅ t₁ t₂ t₃ t₄ t₅) where
+module _ (w : Feed) (s₁ s₂ s₃ s₄ s₅ : List ℕ) (t₁ t₂ t₃ t₄ t₅ : List ℤ) (marks : List ℕ) (h : Tabled w s₁ s₂ s₃ s₄ s₅ t₁ t₂ t₃ t₄ t₅ marks) where
   -- the marks that one walk along stop_times has set are those of the feed's trips
   pub all-marked :
       (n : ℕ) (a b first last : List ℕ)
@@ -46,23 +48,36 @@ module _ (w : Feed) (s₁ s₂ s₃ s₄ s₅ : List ℕ) (t₁ t₂ t₃ t₄ t
         named = h .named;
       }
 
-  -- what the findings of each of files 1 to 4 rest on
-  module _ (first last : List ℕ) (m : Marked w t₅ first last) where
-    pub stops-ready : Ready 1 w s₁ t₁ t₅ first last
-    unfolding rowsIn
-    stops-ready = record { table = h .stops; ends = λ e. m }
+  -- what the findings of each of files 1 to 4 rest on, which has a record for each line but the header
+  module _ (first last : List ℕ) (m : Marked w t₅ first last) (n : ℕ) where
+    ready :
+        (f : ℕ) → 1 ≤ f → f ≤ 4 → (s : List ℕ) (t : List ℤ)
+        → Filled f w (rowsIn w f) s t
+        → n ≡ countLf s - 1
+        → Ready f n w t marks t₅ first last
+    ready f low four s t k e = record {
+      file = s;
+      table = k;
+      all = omega (arith, lines-held f low (omega arith) w (rowsIn w f) s t k, rows-records w f);
+      noted = h .noted;
+      ends = λ is. m;
+    }
 
-    pub routes-ready : Ready 2 w s₂ t₂ t₅ first last
+    pub stops-ready : n ≡ countLf s₁ - 1 → Ready 1 n w t₁ marks t₅ first last
     unfolding rowsIn
-    routes-ready = record { table = h .routes; ends = λ e. m }
+    stops-ready e = ready 1 (omega arith) (omega arith) s₁ t₁ (h .stops) e
 
-    pub calendar-ready : Ready 3 w s₃ t₃ t₅ first last
+    pub routes-ready : n ≡ countLf s₂ - 1 → Ready 2 n w t₂ marks t₅ first last
     unfolding rowsIn
-    calendar-ready = record { table = h .calendar; ends = λ e. m }
+    routes-ready e = ready 2 (omega arith) (omega arith) s₂ t₂ (h .routes) e
 
-    pub trips-ready : Ready 4 w s₄ t₄ t₅ first last
+    pub calendar-ready : n ≡ countLf s₃ - 1 → Ready 3 n w t₃ marks t₅ first last
     unfolding rowsIn
-    trips-ready = record { table = h .trips; ends = λ e. m }
+    calendar-ready e = ready 3 (omega arith) (omega arith) s₃ t₃ (h .calendar) e
+
+    pub trips-ready : n ≡ countLf s₄ - 1 → Ready 4 n w t₄ marks t₅ first last
+    unfolding rowsIn
+    trips-ready e = ready 4 (omega arith) (omega arith) s₄ t₄ (h .trips) e
 
 -- the findings of four files, one file after the other
 pub four-noted :
@@ -88,5 +103,5 @@ all-noted w p lent four five a b =
     b ∙ ap (noting p (bindingsOf w 5)) a ∙ sym (noting-append p cs (bindingsOf w 5) (lentOnly lent)) ∙ ap (λ l. noting p l (lentOnly lent)) e ∙ noting-all p (bindings w) lent
 
 -- a file of at most 65,536 lines adds at most so many findings to at most m
-pub total-more : (r k n m : ℕ) → r ≤ k + 4 * n → n ≤ 65536 → k ≤ m → r ≤ m + 4 * 65536
-total-more r k n m e h g = omega arith
+pub total-more : (r k n l m : ℕ) → r ≤ k + 4 * n → n ≡ l - 1 → l ≤ 65536 → k ≤ m → r ≤ m + 4 * 65536
+total-more r k n l m e a h g = omega arith

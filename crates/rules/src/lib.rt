@@ -35,6 +35,7 @@ fn list_four(
     calendar_table: &[i32],
     trips_table: &[i32],
     times: &[i32],
+    marks: &[u16],
     first: &[u32],
     last: &[u32],
     out: &mut [i32],
@@ -43,7 +44,7 @@ fn list_four(
     requires { ⌜ (countLf (now stops) ≤ 65536) × ((countLf (now routes) ≤ 65536) × ((countLf (now calendar) ≤ 65536) × (countLf (now trips) ≤ 65536))) ⌝ }
     ensures { λ r. ⌜ ((w : Feed) (file : List ℕ)
         → Tabled w (now (stops .entry)) (now (routes .entry)) (now (calendar .entry)) (now (trips .entry)) file
-        (now («stops_table» .entry)) (now («routes_table» .entry)) (now («calendar_table» .entry)) (now («trips_table» .entry)) (now (times .entry))
+        (now («stops_table» .entry)) (now («routes_table» .entry)) (now («calendar_table» .entry)) (now («trips_table» .entry)) (now (times .entry)) (now (marks .entry))
         → Marked w (now (times .entry)) (now (first .entry)) (now (last .entry))
         → state (now (out .exit)) r ≡ noting p (bindingsOf w 1 ++ (bindingsOf w 2 ++ (bindingsOf w 3 ++ bindingsOf w 4))) (state (now (out .entry)) (record { written = 0; total = 0 }))) ⌝ }
     ensures { λ r. ⌜ r .total ≤ 16 * 65536 ⌝ }
@@ -52,10 +53,14 @@ fn list_four(
         written: 0,
         total: 0,
     };
-    let one = file_rules::list_file(1, stops, stops_table, times, first, last, out, none, p);
-    let two = file_rules::list_file(2, routes, routes_table, times, first, last, out, one, p);
-    let three = file_rules::list_file(3, calendar, calendar_table, times, first, last, out, two, p);
-    file_rules::list_file(4, trips, trips_table, times, first, last, out, three, p)
+    let n = records_of(stops);
+    let one = file_rules::list_file(1, n, stops_table, marks, times, first, last, out, none, p);
+    let n = records_of(routes);
+    let two = file_rules::list_file(2, n, routes_table, marks, times, first, last, out, one, p);
+    let n = records_of(calendar);
+    let three = file_rules::list_file(3, n, calendar_table, marks, times, first, last, out, two, p);
+    let n = records_of(trips);
+    file_rules::list_file(4, n, trips_table, marks, times, first, last, out, three, p)
 }
 
 // All findings: those after the starting place are written, as many as fit; the rest of the list stays.
@@ -70,13 +75,14 @@ pub fn list_findings(
     calendar_table: &[i32],
     trips_table: &[i32],
     times: &[i32],
+    marks: &[u16],
     out: &mut [i32],
     p: Place,
 ) -> Sink
     requires { ⌜ (countLf (now stops) ≤ 65536) × ((countLf (now routes) ≤ 65536) × ((countLf (now calendar) ≤ 65536) × ((countLf (now trips) ≤ 65536) × (countLf (now «stop_times») ≤ 65536)))) ⌝ }
     ensures { λ r. ⌜ ((w : Feed)
         → Tabled w (now (stops .entry)) (now (routes .entry)) (now (calendar .entry)) (now (trips .entry)) (now («stop_times» .entry))
-        (now («stops_table» .entry)) (now («routes_table» .entry)) (now («calendar_table» .entry)) (now («trips_table» .entry)) (now (times .entry))
+        (now («stops_table» .entry)) (now («routes_table» .entry)) (now («calendar_table» .entry)) (now («trips_table» .entry)) (now (times .entry)) (now (marks .entry))
         → state (now (out .exit)) r ≡ handedOut p (findingsOf w) (now (out .entry))) ⌝ }
     ensures { λ r. ⌜ r .total ≤ 22 * 65536 ⌝ }
 {
@@ -93,6 +99,7 @@ pub fn list_findings(
         calendar_table,
         trips_table,
         times,
+        marks,
         &first,
         &last,
         out,

@@ -1,77 +1,126 @@
--- What each file of a feed refers to.
-use mathlib.Core.Path.{_≡_, refl, _∙_}
+-- What each file of a feed refers to, and what it is looked up in.
+use mathlib.Core.Path.{_≡_, refl, sym, ap, _∙_}
 use mathlib.Core.List.{List, [], _∷_}
-use Prim.Native.Nat.{ℕ, _≤_}
-use lib.ListN.{length}
+use Prim.Native.Nat.{ℕ, _+_, _*_, _-_, _≤_, _<_}
+use lib.ListN.{length, getD, replicate, length-map, length-replicate}
 use native.Mathlib.Omega.{arith}
-use lib.IntN.{ℤ}
+use native.Mathlib.Nat.{add-zero}
+use lib.IntN.{ℤ, pos}
+use Rattle.num.specs.Signs.{natOf}
+use Rattle.meaning.specs.Lists.{laid}
 use Rattle.meaning.specs.Bytes.{countLf}
-use Rattle.meaning.proofs.Readable.{WholeKept}
+use Rattle.rows.specs.Cells.{natAt}
+use Rattle.meaning.specs.Promises.{WholeKept}
 use Rattle.text.proofs.Lines.{ended-count}
 use Rattle.meaning.specs.Columns.{rowsOf}
-use Rattle.meaning.specs.Tables.{Feed, idColumn, widths, widthOf, stopIds, routeIds, serviceIds, tripIds, filled, fileOf, feedOf}
-use Rattle.tables.specs.Fill.{Lists, Refers, Room}
-use Rattle.tables.proofs.Ids.{filled-lists}
+use Rattle.meaning.specs.Tables.{Feed, under, idColumn, widths, widthOf, parentStation, stopIds, routeIds, serviceIds, tripIds, fileOf, feedOf}
+use Rattle.ordering.specs.Ids.{Placed, Arranged}
+use Rattle.seeking.specs.First.{Held}
+use Rattle.seeking.proofs.First.{refer-held, held-as}
+use Rattle.seeking.proofs.Laws.{held-placed, arranged-as}
+use Rattle.memo.specs.Memo.{Ready}
+use Rattle.memo.proofs.Laws.{ready-blank}
+use Rattle.tables.specs.Fill.{Lists, Indexed, Refers, Room, Sought}
+use Rattle.tables.specs.Walk.{idsOf, Beyond, Ordered, Settled, Parents}
+use Rattle.tables.proofs.Past.{beyond-trans, settled-beyond, laid-rest}
+use Rattle.tables.proofs.Ids.{rows-count}
+use Rattle.tables.proofs.Settling.{placed-as}
 
-pub refers-none :
-    (f : ℕ) (w : Feed) (a : List ℕ) (at : List ℤ) (an : ℕ) (b : List ℕ) (bt : List ℤ) (bn : ℕ)
-    → f ≤ 3
-    → Refers f w a at an b bt bn
-refers-none f w a at an b bt bn h = record {
-  routes = λ p. absurd (omega arith);
-  services = λ p. absurd (omega arith);
-  trips = λ p. absurd (omega arith);
-  stops = λ p. absurd (omega arith);
-}
-
--- a table that was filled lists its ids, whatever else it was filled for
-module _ (w : Feed) (s : List ℕ) (lent t : List ℤ) (some : 1 ≤ countLf s) where
-  stops-in : w .stops ≡ rowsOf 1 s → t ≡ filled 1 w s lent → Lists s t 6 (countLf s) (stopIds w)
-  unfolding stopIds idColumn widthOf widths
-  stops-in e f = filled-lists 1 (omega arith) (omega arith) w s lent some (omega arith) t (stopIds w) f (rw e)
-
-  routes-in : w .routes ≡ rowsOf 2 s → t ≡ filled 2 w s lent → Lists s t 3 (countLf s) (routeIds w)
-  unfolding routeIds idColumn widthOf widths
-  routes-in e f = filled-lists 2 (omega arith) (omega arith) w s lent some (omega arith) t (routeIds w) f (rw e)
-
-  services-in : w .calendar ≡ rowsOf 3 s → t ≡ filled 3 w s lent → Lists s t 5 (countLf s) (serviceIds w)
-  unfolding serviceIds idColumn widthOf widths
-  services-in e f = filled-lists 3 (omega arith) (omega arith) w s lent some (omega arith) t (serviceIds w) f (rw e)
-
-  trips-in : w .trips ≡ rowsOf 4 s → t ≡ filled 4 w s lent → Lists s t 7 (countLf s) (tripIds w)
-  unfolding tripIds idColumn widthOf widths
-  trips-in e f = filled-lists 4 (omega arith) (omega arith) w s lent some (omega arith) t (tripIds w) f (rw e)
-
-counted :
-    (s : List ℕ) (t : List ℤ) (width n m : ℕ) (ids : List (List ℕ)) → n ≡ m → Lists s t width m ids → Lists s t width n ids
-counted s t width n m ids e l = record { held = l .held; count = e ∙ l .count }
-
-module _ (w : Feed) (a : List ℕ) (alent at : List ℤ) (an : ℕ) (b : List ℕ) (blent bt : List ℤ) (bn : ℕ) (some : 1 ≤ countLf a) (more : 1 ≤ countLf b) (first : an ≡ countLf a) (second : bn ≡ countLf b) where
-  pub refers-trips :
-      w .routes ≡ rowsOf 2 a
-      → at ≡ filled 2 w a alent
-      → w .calendar ≡ rowsOf 3 b
-      → bt ≡ filled 3 w b blent
-      → Refers 4 w a at an b bt bn
-  refers-trips e f g h = record {
-    routes = λ _. counted a at 3 an (countLf a) (routeIds w) first (routes-in w a alent at some e f);
-    services = λ _. counted b bt 5 bn (countLf b) (serviceIds w) second (services-in w b blent bt more g h);
+-- a file that refers to none
+module _ (f : ℕ) (a : List ℕ) (at : List ℤ) (an : ℕ) (b : List ℕ) (bt : List ℤ) (bn : ℕ) (three : f ≤ 3) where
+  pub refers-none : (w : Feed) → Refers f w a at an b bt bn
+  refers-none w = record {
+    routes = λ p. absurd (omega arith);
+    services = λ p. absurd (omega arith);
     trips = λ p. absurd (omega arith);
     stops = λ p. absurd (omega arith);
   }
 
-  pub refers-times :
-      w .trips ≡ rowsOf 4 a
-      → at ≡ filled 4 w a alent
-      → w .stops ≡ rowsOf 1 b
-      → bt ≡ filled 1 w b blent
-      → Refers 5 w a at an b bt bn
-  refers-times e f g h = record {
+  pub indexed-none : Indexed f a at an b bt bn
+  indexed-none = record {
     routes = λ p. absurd (omega arith);
     services = λ p. absurd (omega arith);
-    trips = λ _. counted a at 7 an (countLf a) (tripIds w) first (trips-in w a alent at some e f);
-    stops = λ _. counted b bt 6 bn (countLf b) (stopIds w) second (stops-in w b blent bt more g h);
+    trips = λ p. absurd (omega arith);
+    stops = λ p. absurd (omega arith);
   }
+
+module _ (f : ℕ) (a : List ℕ) (at : List ℤ) (an : ℕ) (am b : List ℕ) (bt : List ℤ) (bn : ℕ) (bm : List ℕ) where
+  pub sought-blank : Indexed f a at an b bt bn → ((k : ℕ) → getD am k 0 ≡ 0) → ((k : ℕ) → getD bm k 0 ≡ 0) → Sought f a at an am b bt bn bm
+  sought-blank i x y = record {
+    routes = λ p. ready-blank a at 3 an am (i .routes p .0) (i .routes p .1) x;
+    services = λ p. ready-blank b bt 5 bn bm (i .services p .0) (i .services p .1) y;
+    trips = λ p. ready-blank a at 7 an am (i .trips p .0) (i .trips p .1) x;
+    stops = λ p. ready-blank b bt 6 bn bm (i .stops p .0) (i .stops p .1) y;
+  }
+
+  pub sought-trips : f ≡ 4 → Ready a at 3 an am → Ready b bt 5 bn bm → Sought f a at an am b bt bn bm
+  sought-trips e x y = record {
+    routes = λ _. x;
+    services = λ _. y;
+    trips = λ p. absurd (omega arith);
+    stops = λ p. absurd (omega arith);
+  }
+
+  pub sought-times : f ≡ 5 → Ready a at 7 an am → Ready b bt 6 bn bm → Sought f a at an am b bt bn bm
+  sought-times e x y = record {
+    routes = λ p. absurd (omega arith);
+    services = λ p. absurd (omega arith);
+    trips = λ _. x;
+    stops = λ _. y;
+  }
+
+-- a table that holds the ids of its file in their order
+module _ (f : ℕ) (s : List ℕ) (n : ℕ) (t u : List ℤ) (o : Ordered f s n t u) where
+  pub ordered-count : n ≡ length (idsOf f s)
+  ordered-count = sym (length-map (rowsOf f s) (under (idColumn f)) ∙ rows-count f s ∙ omega (arith, o .count))
+
+  pub ordered-index : Placed s u (widthOf f) n × Arranged s (widthOf f) n u
+  ordered-index = (rw (← ordered-count) at (held-placed s u (widthOf f) (idsOf f s) (o .held)), o .arranged)
+
+  pub ordered-lists : (ids : List (List ℕ)) → ids ≡ idsOf f s → Lists s u (widthOf f) n ids
+  ordered-lists ids e = record { held = rw e (o .held); count = rw e ordered-count }
+
+  pub ordered-room : Room f s t → Room f s u
+  ordered-room r = record { lines = r .lines; few = r .few; size = r .size; room = rw (o .beyond .size) (r .room) }
+
+-- stops whose parents are settled
+module _ (s : List ℕ) (n : ℕ) (t u v : List ℤ) (o : Ordered 1 s n t u) (settled : Settled s n u v) where
+  same3 : (r k : ℕ) → k < 3 → getD v (r * 6 + k) (pos 0) ≡ getD u (r * 6 + k) (pos 0)
+  same3 r k h = settled .same (r * 6 + k) (λ q a b e. omega arith)
+
+  pub settled-index : Placed s v 6 n × Arranged s 6 n v
+  unfolding widthOf widths
+  settled-index =
+      let i = ordered-index 1 s n t u o in
+      (placed-as s 6 u v (settled .size) same3 n (i .0), arranged-as s 6 n u v (settled .size) same3 (i .1))
+
+  pub settled-lists : (ids : List (List ℕ)) → ids ≡ idsOf 1 s → Lists s v 6 n ids
+  unfolding widthOf widths
+  settled-lists ids e =
+      let l = ordered-lists 1 s n t u o ids e in
+      record {
+        held = held-as s u v 6 ids (l .held) (settled .size) (λ r. (ap natOf (start r), ap natOf (same3 r 1 (omega arith))));
+        count = l .count;
+      }
+    where
+      start : (r : ℕ) → getD v (r * 6) (pos 0) ≡ getD u (r * 6) (pos 0)
+      start r = rw (add-zero (r * 6)) at (same3 r 0 (omega arith))
+
+  pub settled-room : Room 1 s t → Room 1 s v
+  settled-room r = record { lines = r .lines; few = r .few; size = r .size; room = rw (settled .size, o .beyond .size) (r .room) }
+
+  pub settled-past : Beyond (countLf s * widthOf 1) t v
+  unfolding widthOf widths
+  settled-past = beyond-trans (o .beyond) (rw (o .count) at (settled-beyond s n u v settled))
+
+  pub settled-parents : (w : Feed) → stopIds w ≡ idsOf 1 s → Parents 1 w s v
+  unfolding widthOf widths
+  settled-parents w e one r a b =
+      let l : r ≤ n = omega (arith, o .count) in
+      let c : n ≡ length (idsOf 1 s) = ordered-count 1 s n t u o in
+      let first = rw (o .waits one r a l, c) at (settled .named r a l) in
+      settled .stored r a l
+      ∙ ap pos (rw e (refer-held s u 6 (idsOf 1 s) (parentStation (getD (rowsOf 1 s) (r - 1) [])) (o .held) (natAt v (r * 6 + 5)) first))
 
 -- the rows of a feed are those of its files
 module _ (a b c d e : List ℕ) where
@@ -91,6 +140,73 @@ module _ (a b c d e : List ℕ) where
   unfolding feedOf fileOf
   feed-trips = refl
 
+-- .. and so are their ids
+module _ (a b c d e : List ℕ) where
+  pub stop-ids : stopIds (feedOf (a ∷ b ∷ c ∷ d ∷ e ∷ [])) ≡ idsOf 1 a
+  unfolding feedOf fileOf stopIds idColumn
+  stop-ids = refl
+
+  pub route-ids : routeIds (feedOf (a ∷ b ∷ c ∷ d ∷ e ∷ [])) ≡ idsOf 2 b
+  unfolding feedOf fileOf routeIds idColumn
+  route-ids = refl
+
+  pub service-ids : serviceIds (feedOf (a ∷ b ∷ c ∷ d ∷ e ∷ [])) ≡ idsOf 3 c
+  unfolding feedOf fileOf serviceIds idColumn
+  service-ids = refl
+
+  pub trip-ids : tripIds (feedOf (a ∷ b ∷ c ∷ d ∷ e ∷ [])) ≡ idsOf 4 d
+  unfolding feedOf fileOf tripIds idColumn
+  trip-ids = refl
+
+-- what trips and stop_times are looked up in, and what they refer to
+pub indexed-trips :
+    (a : List ℕ) (at : List ℤ) (an : ℕ) (b : List ℕ) (bt : List ℤ) (bn : ℕ)
+    → Placed a at 3 an × Arranged a 3 an at → Placed b bt 5 bn × Arranged b 5 bn bt → Indexed 4 a at an b bt bn
+indexed-trips a at an b bt bn x y = record {
+  routes = λ _. x;
+  services = λ _. y;
+  trips = λ p. absurd (omega arith);
+  stops = λ p. absurd (omega arith);
+}
+
+pub indexed-times :
+    (a : List ℕ) (at : List ℤ) (an : ℕ) (b : List ℕ) (bt : List ℤ) (bn : ℕ)
+    → Placed a at 7 an × Arranged a 7 an at → Placed b bt 6 bn × Arranged b 6 bn bt → Indexed 5 a at an b bt bn
+indexed-times a at an b bt bn x y = record {
+  routes = λ p. absurd (omega arith);
+  services = λ p. absurd (omega arith);
+  trips = λ _. x;
+  stops = λ _. y;
+}
+
+pub refers-trips :
+    (w : Feed) (a : List ℕ) (at : List ℤ) (an : ℕ) (b : List ℕ) (bt : List ℤ) (bn : ℕ)
+    → Lists a at 3 an (routeIds w) → Lists b bt 5 bn (serviceIds w) → Refers 4 w a at an b bt bn
+refers-trips w a at an b bt bn x y = record {
+  routes = λ _. x;
+  services = λ _. y;
+  trips = λ p. absurd (omega arith);
+  stops = λ p. absurd (omega arith);
+}
+
+pub refers-times :
+    (w : Feed) (a : List ℕ) (at : List ℤ) (an : ℕ) (b : List ℕ) (bt : List ℤ) (bn : ℕ)
+    → Lists a at 7 an (tripIds w) → Lists b bt 6 bn (stopIds w) → Refers 5 w a at an b bt bn
+refers-times w a at an b bt bn x y = record {
+  routes = λ p. absurd (omega arith);
+  services = λ p. absurd (omega arith);
+  trips = λ _. x;
+  stops = λ _. y;
+}
+
+-- record 0 is written over no parent
+pub parents-zeroed :
+    (f : ℕ) (w : Feed) (s : List ℕ) (t u : List ℤ) → u ≡ laid (replicate (widthOf f) (pos 0)) t → Parents f w s t → Parents f w s u
+unfolding widthOf widths
+parents-zeroed f w s t u e p one r a b =
+    let l : length (replicate (widthOf f) (pos 0)) ≡ 6 = length-replicate (widthOf f) (pos 0) ∙ ap widthOf one in
+    rw e (laid-rest (replicate (widthOf f) (pos 0)) t (r * 6 + 5) (omega arith)) ∙ p one r a b
+
 -- what reading guarantees: rules 1 to 4 are kept
 pub room-kept : (f : ℕ) (s : List ℕ) (t : List ℤ) → WholeKept f s (length t) → Room f s t
-room-kept f s t h = record { lines = ended-count f s (length t) (h .ended); size = h .short; room = h .roomy }
+room-kept f s t h = record { lines = ended-count f s (length t) (h .ended); few = h .few; size = h .short; room = h .roomy }

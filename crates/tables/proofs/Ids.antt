@@ -21,9 +21,10 @@ use Rattle.meaning.proofs.Readable.{getD-map-in}
 use Rattle.rows.proofs.Records.{flat-length, laid-cell, rows-length, record-wide}
 use Rattle.columns.proofs.Laws.{row-at}
 use Rattle.seeking.specs.First.{IdAt, Held}
-use Rattle.tables.specs.Fill.{line, Lists}
+use Rattle.tables.specs.Fill.{line}
 use Rattle.tables.specs.Walk.{placeOf, tabled}
-use Rattle.tables.proofs.Turns.{two-wide, wide, table-length, table-at}
+use Rattle.text.proofs.Walk.{line-here}
+use Rattle.tables.proofs.Turns.{two-wide, wide, table-length, table-at, walk-inside}
 use Rattle.tables.proofs.Written.{IdFirst, record-id}
 
 -- a line lies inside its file
@@ -89,6 +90,20 @@ row-of-line f s k d h =
     let i : k < length (drop 1 (linesOf s)) = omega (arith, length-drop 1 (linesOf s), lines-all s) in
     let one : 1 + k ≡ k + 1 = omega arith in
     getD-map-in g (drop 1 (linesOf s)) k d [] i ∙ ap g (getD-drop 1 (linesOf s) k d ∙ ap (λ (j : ℕ). getD (linesOf s) j d) one)
+
+-- the row of the line that a walk has come to
+pub row-here :
+    (f : ℕ) (s : List ℕ) (at r : ℕ) (left : linesFrom s at ≡ drop r (linesOf s)) (a e n : ℕ) (stands : LineStands s at a e n)
+    → 1 ≤ r
+    → rowOf (places f (headerOf (linesOf s))) (part s (bounds a e)) ≡ getD (rowsOf f s) (r - 1) []
+row-here f s at r left a e n stands h =
+    let x : Line = line a (part s (bounds a e)) in
+    let g : r - 1 + 1 ≡ r = omega arith in
+    let i : r - 1 + 1 < countLf s = rw g (walk-inside s at r left a e n stands) in
+    sym
+    (row-of-line f s (r - 1) x i
+    ∙ ap (λ (k : ℕ). rowOf (places f (headerOf (linesOf s))) (getD (linesOf s) k x .text)) g
+    ∙ ap (λ (y : Line). rowOf (places f (headerOf (linesOf s))) (y .text)) (line-here s (linesOf s) at r left a e n stands x))
 
 -- a table that was laid for a file
 module _ (f : ℕ) (s : List ℕ) (lent : List ℤ) (some : 1 ≤ countLf s) (g : Line → List ℤ) (long : (x : Line) → length (g x) ≡ widthOf f) where
@@ -161,18 +176,6 @@ module _ (f : ℕ) (s : List ℕ) (lent : List ℤ) (some : 1 ≤ countLf s) (g 
               rw (getD-map-in (under (idColumn f)) (rowsOf f s) k [] [] (omega (arith, rows-count f s))) (id-at k (omega arith));
         }
 
-    -- the same of any table with these ids
-    pub listed :
-        (t : List ℤ) (ids : List (List ℕ))
-        → t ≡ laid (flat (tabled f g s)) lent
-        → ids ≡ map (under (idColumn f)) (rowsOf f s)
-        → Lists s t (widthOf f) (countLf s) ids
-    listed t ids e i =
-        record {
-          held = rw (e, i) ids-laid;
-          count = rw (i, length-map (rowsOf f s) (under (idColumn f)), rows-count f s) (omega arith);
-        }
-
 -- a table that is filled for a file
 module _ (f : ℕ) (low : 1 ≤ f) (high : f ≤ 5) (w : Feed) (s : List ℕ) (lent : List ℤ) (some : 1 ≤ countLf s) where
   abbrev pub by-record : Line → List ℤ
@@ -206,11 +209,3 @@ module _ (f : ℕ) (low : 1 ≤ f) (high : f ≤ 5) (w : Feed) (s : List ℕ) (l
     ids-held =
         rw filled-as
         (ids-laid f s lent some by-record by-width low high (record-id f low four w (places f (headerOf (linesOf s)))))
-
-    pub filled-lists :
-        (t : List ℤ) (ids : List (List ℕ))
-        → t ≡ filled f w s lent
-        → ids ≡ map (under (idColumn f)) (rowsOf f s)
-        → Lists s t (widthOf f) (countLf s) ids
-    filled-lists t ids e i =
-        listed f s lent some by-record by-width low high (record-id f low four w (places f (headerOf (linesOf s)))) t ids (e ∙ filled-as) i

@@ -1,8 +1,12 @@
 -- Laws of located lines, records and tables.
+pub mod Past
 pub mod LineRecords
 pub mod Written
 pub mod Readings
 pub mod Turns
 pub mod Ids
-pub mod StopParents
+pub mod FirstWalk
+pub mod SecondWalk
+pub mod Settling
+pub mod Marking
 pub mod Feeds

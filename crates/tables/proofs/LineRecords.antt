@@ -2,15 +2,18 @@
 use mathlib.Core.Path.{_≡_, _∙_}
 use mathlib.Core.List.{List, [], _∷_}
 use Prim.Native.Nat.{ℕ, _+_, _*_, _≤_}
+use native.Mathlib.Omega.{arith}
 use lib.IntN.{ℤ, pos}
-use lib.ListN.{length, getD, List·getD-map}
+use lib.ListN.{length, getD, take, List·getD-map}
 use Rattle.meaning.specs.Columns.{fieldAt, cell, rowOf}
 use Rattle.meaning.specs.Forms.{latitudeOf, longitudeOf, timeOf, dateOf, sequenceOf, routeTypeOf}
-use Rattle.meaning.specs.Tables.{Feed, degrees, day, number, seconds, picked, orZero, orMinus, refer, packedDays, stopIds, routeIds, serviceIds, tripIds, idPlace, idColumn, recordOf, numbersOf, routeNumbers, serviceNumbers, tripNumbers, timeNumbers}
+use Rattle.meaning.specs.Tables.{Feed, degrees, day, number, seconds, picked, orZero, orMinus, refer, packedDays, stopIds, routeIds, serviceIds, tripIds, idPlace, idColumn, parentStation, widthOf, recordOf, numbersOf, stopNumbers, routeNumbers, serviceNumbers, tripNumbers, timeNumbers}
+use Rattle.rows.specs.Cells.{putAt}
 use Rattle.columns.specs.Columns.{startsOf, endsOf}
 use Rattle.columns.proofs.Laws.{row-at, located-inside}
 use Rattle.tables.specs.Fill.{line, valueIn, Located, Within, Lies}
-use Rattle.tables.specs.Walk.{waiting}
+use Rattle.tables.specs.Walk.{placing}
+use Rattle.tables.proofs.Past.{put-last}
 
 -- the value under a column is the row's
 pub in-row :
@@ -23,19 +26,30 @@ module _ (ps l : List ℕ) (at : ℕ) (st en : List ℕ) (loc : Located l ps st 
   unfolding idPlace
   id-in k a e p q = rw (← loc k, p, q)
 
-  pub waiting-record :
-      (a e kind from to : ℕ) (lat lon : ℤ)
+  pub places-record :
+      (f a e from to : ℕ)
+      → a ≡ at + getD st (idColumn f) 0
+      → e ≡ at + getD en (idColumn f) 0
+      → from ≡ at + getD st 5 0
+      → to ≡ at + getD en 5 0
+      → take (widthOf f) (pos a ∷ pos e ∷ pos 0 ∷ pos from ∷ pos to ∷ pos 0 ∷ pos 0 ∷ []) ≡ placing f ps (line at l)
+  unfolding placing
+  places-record f a e from to p q g h = rw (id-in (idColumn f) a e p q, ← loc 5, g, h)
+
+  pub stop-record :
+      (w : Feed) (t : List ℤ) (r a e kind : ℕ) (lat lon : ℤ)
+      → r * 6 + 6 ≤ length t
+      → getD t (r * 6 + 5) (pos 0) ≡ pos (refer (parentStation (rowOf ps l)) (stopIds w))
       → a ≡ at + getD st 0 0
       → e ≡ at + getD en 0 0
       → lat ≡ degrees (latitudeOf (valueIn l st en 2))
       → lon ≡ degrees (longitudeOf (valueIn l st en 3))
       → pos kind ≡ orZero 2 (valueIn l st en 4)
-      → from ≡ at + getD st 5 0
-      → to ≡ at + getD en 5 0
-      → pos a ∷ pos e ∷ lat ∷ lon ∷ pos (kind + 4 * to) ∷ pos from ∷ [] ≡ waiting ps (line at l)
-  unfolding waiting
-  waiting-record a e kind from to lat lon p q x y z g h =
-      rw (id-in 0 a e p q, in-row ps l st en loc 2, in-row ps l st en loc 3, in-row ps l st en loc 4, ← loc 5, ← x, ← y, ← z, g, h)
+      → putAt t (r * 6) (pos a ∷ pos e ∷ lat ∷ lon ∷ pos kind ∷ []) ≡ putAt t (r * 6) (recordOf 1 w ps (line at l))
+  unfolding recordOf idColumn numbersOf stopNumbers
+  stop-record w t r a e kind lat lon room parent p q x y z =
+      put-last t (r * 6) (pos a ∷ pos e ∷ lat ∷ lon ∷ pos kind ∷ []) (pos (refer (parentStation (rowOf ps l)) (stopIds w))) (omega arith) parent
+      ∙ rw (id-in 0 a e p q, in-row ps l st en loc 2, in-row ps l st en loc 3, in-row ps l st en loc 4, ← x, ← y, ← z)
 
   pub route-record :
       (w : Feed) (a e kind : ℕ)

@@ -19,9 +19,7 @@ use Rattle.rows.specs.Cells.{putAt}
 use Rattle.seeking.specs.First.{First, names}
 use Rattle.seeking.proofs.First.{refer-held}
 use Rattle.tables.specs.Fill.{valueIn, Located, Lists}
-use Rattle.tables.specs.Walk.{waiting, written}
 use Rattle.tables.proofs.LineRecords.{in-row}
-use Rattle.tables.proofs.Written.{written-record}
 
 -- a form read from the raw field under a column
 pub through : {A : Type 0} (f : List ℕ → A) (x : A) (r p : List ℕ) → x ≡ f (value r) → r ≡ p → x ≡ f (value p)
@@ -78,29 +76,11 @@ pack-last ps l n d h e = let z : d ≡ 0 = omega arith in rw z at e
 pub referred :
     (s : List ℕ) (t : List ℤ) (width n : ℕ) (ids : List (List ℕ)) (raw p : List ℕ) (r : ℕ)
     → Lists s t width n ids
-    → First (names s t width (value raw)) n r
+    → First (names s t width (value raw)) (n + 1) r
     → raw ≡ p
     → r ≡ refer (value p) ids
 referred s t width n ids raw p r h f e =
     refer-held s t width ids (value p) (h .held) r (rw (← e, ← h .count) f)
-
--- a parent that was looked up by the bytes at the place that waits
-pub waited :
-    (s : List ℕ) (t : List ℤ) (n : ℕ) (ids : List (List ℕ)) (raw : List ℕ) (p : Bounds) (r a e : ℕ)
-    → Lists s t 6 n ids
-    → First (names s t 6 (value raw)) n r
-    → (p .start ≤ p .end → p .end ≤ length s → raw ≡ part s p)
-    → {x y : ℕ}
-    → p ≡ bounds x y
-    → x ≡ a
-    → y ≡ e
-    → a ≤ e
-    → e ≤ length s
-    → r ≡ refer (value (part s (bounds a e))) ids
-waited s t n ids raw p r a e h f bytes is from to low high =
-    let q : p ≡ bounds a e = rw (is, from, to) in
-    let raw-is : raw ≡ part s (bounds a e) = rw q at bytes low high in
-    referred s t 6 n ids raw (part s (bounds a e)) r h f raw-is
 
 -- a record that was written is another's equal
 pub put-as :
@@ -114,18 +94,9 @@ file-room f k r n e h = rw e at h
 pub file-put :
     (f k r : ℕ) (w : Feed) (ps : List ℕ) (x : Line) (t t′ : List ℤ)
     → f ≡ k
-    → 2 ≤ k
     → t′ ≡ putAt t (r * widthOf k) (recordOf k w ps x)
-    → t′ ≡ putAt t (r * widthOf f) (written f w ps x)
-file-put f k r w ps x t t′ e h p = rw (e, written-record k h w ps x) p
-
-pub stop-put :
-    (f r : ℕ) (w : Feed) (ps : List ℕ) (x : Line) (t t′ : List ℤ)
-    → f ≡ 1
-    → t′ ≡ putAt t (r * widthOf 1) (waiting ps x)
-    → t′ ≡ putAt t (r * widthOf f) (written f w ps x)
-unfolding written
-stop-put f r w ps x t t′ e p = rw e p
+    → t′ ≡ putAt t (r * widthOf f) (recordOf f w ps x)
+file-put f k r w ps x t t′ e p = rw e p
 
 pub fifth : (f : ℕ) → 1 ≤ f → f ≤ 5 → (f ≡ 1 → ⊥) → (f ≡ 2 → ⊥) → (f ≡ 3 → ⊥) → (f ≡ 4 → ⊥) → f ≡ 5
 fifth f h k a b c d =

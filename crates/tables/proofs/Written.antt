@@ -1,16 +1,13 @@
--- What a walk writes for a line: as wide as the record, with the same id, and the record itself but for stops.
+-- What each walk writes for a line: as wide as the record, the place of its id first.
 use mathlib.Core.Path.{_≡_, refl}
-use mathlib.Core.List.{List, [], _∷_, map}
+use mathlib.Core.List.{List}
 use Prim.Native.Nat.{ℕ, zero, suc, _≤_}
 use native.Mathlib.Omega.{arith}
-use borrow.Author.Tests.{ne-eqb}
 use lib.IntN.{ℤ, pos}
-use lib.ListN.{length, getD, drop}
-use Rattle.meaning.specs.Bytes.{Line, linesOf}
-use Rattle.meaning.specs.Columns.{places, headerOf}
-use Rattle.meaning.specs.Tables.{Feed, widths, widthOf, idPlace, idColumn, recordOf, recordsOf, filled}
-use Rattle.rows.proofs.Records.{record-wide}
-use Rattle.tables.specs.Walk.{placeOf, waiting, written, tabled, walked}
+use lib.ListN.{length, getD}
+use Rattle.meaning.specs.Bytes.{Line}
+use Rattle.meaning.specs.Tables.{Feed, widths, widthOf, idPlace, idColumn, recordOf}
+use Rattle.tables.specs.Walk.{placeOf, placing}
 
 -- the first two numbers are the place of the line's id
 abbrev pub IdFirst : ℕ → List ℕ → (Line → List ℤ) → Type 0
@@ -28,32 +25,20 @@ record-id (suc (suc (suc zero))) h k w ps x = (refl, refl)
 record-id (suc (suc (suc (suc zero)))) h k w ps x = (refl, refl)
 record-id (suc (suc (suc (suc (suc f))))) h k w ps x = absurd (omega arith)
 
-pub waiting-id : (w : Feed) (ps : List ℕ) → IdFirst 1 ps (written 1 w ps)
-unfolding written waiting idPlace idColumn
-waiting-id w ps x = (refl, refl)
+pub placing-id : (f : ℕ) → 1 ≤ f → f ≤ 4 → (ps : List ℕ) → IdFirst f ps (placing f ps)
+unfolding placing idPlace widthOf widths
+placing-id zero h k ps x = absurd (omega arith)
+placing-id (suc zero) h k ps x = (refl, refl)
+placing-id (suc (suc zero)) h k ps x = (refl, refl)
+placing-id (suc (suc (suc zero))) h k ps x = (refl, refl)
+placing-id (suc (suc (suc (suc zero)))) h k ps x = (refl, refl)
+placing-id (suc (suc (suc (suc (suc f))))) h k ps x = absurd (omega arith)
 
--- but for stops it is the record
-pub written-record :
-    (f : ℕ) → 2 ≤ f → (w : Feed) (ps : List ℕ) (x : Line) → written f w ps x ≡ recordOf f w ps x
-unfolding written
-written-record f h w ps x = rw (ne-eqb f 1 (λ e. omega arith))
-
-pub written-wide :
-    (f : ℕ) → 1 ≤ f → f ≤ 5 → (w : Feed) (ps : List ℕ) (x : Line) → length (written f w ps x) ≡ widthOf f
-unfolding written waiting idPlace widthOf widths
-written-wide zero h k w ps x = absurd (omega arith)
-written-wide (suc zero) h k w ps x = refl
-written-wide (suc (suc f)) h k w ps x =
-    rw (written-record (suc (suc f)) (omega arith) w ps x) (record-wide (suc (suc f)) w ps x (omega arith) (omega arith))
-
-map-same :
-    (g h : Line → List ℤ) → ((x : Line) → g x ≡ h x) → (xs : List Line) → map g xs ≡ map h xs
-map-same g h e [] = refl
-map-same g h e (x ∷ xs) = rw (e x, map-same g h e xs)
-
--- and a walk fills the table
-pub walked-filled : (f : ℕ) → 2 ≤ f → (w : Feed) (s : List ℕ) (lent : List ℤ) → walked f w s lent ≡ filled f w s lent
-unfolding tabled recordsOf filled
-walked-filled f h w s lent =
-    let ps = places f (headerOf (linesOf s)) in
-    rw (map-same (written f w ps) (recordOf f w ps) (written-record f h w ps) (drop 1 (linesOf s)))
+pub placing-wide : (f : ℕ) → 1 ≤ f → f ≤ 4 → (ps : List ℕ) (x : Line) → length (placing f ps x) ≡ widthOf f
+unfolding placing idPlace widthOf widths
+placing-wide zero h k ps x = absurd (omega arith)
+placing-wide (suc zero) h k ps x = refl
+placing-wide (suc (suc zero)) h k ps x = refl
+placing-wide (suc (suc (suc zero))) h k ps x = refl
+placing-wide (suc (suc (suc (suc zero)))) h k ps x = refl
+placing-wide (suc (suc (suc (suc (suc f))))) h k ps x = absurd (omega arith)

@@ -9,6 +9,8 @@ use Rattle.meaning.specs.Bytes.{bounds, part, value, countLf, Line, linesFrom, 
 use Rattle.meaning.specs.Columns.{fieldAt, places, headerOf}
 use Rattle.meaning.specs.Tables.{Feed, stopIds, routeIds, serviceIds, tripIds, widthOf}
 use Rattle.seeking.specs.First.{Held}
+use Rattle.ordering.specs.Ids.{Placed, Arranged}
+use Rattle.memo.specs.Memo.{Ready}
 
 -- a line that starts at a byte
 abbrev pub line : ℕ → List ℕ → Line
@@ -34,10 +36,10 @@ Located l ps st en = (k : ℕ) → fieldIn st en k ≡ fieldAt l (getD ps k 0)
 abbrev pub Lies : List ℕ → ℕ → List ℕ → List ℕ → Type 0
 Lies l at st en = Within (length l) st en × (at + length l ≤ 16777216)
 
--- a table of n records, record 0 among them, holds ids
+-- a table of n records, record 0 aside, holds ids
 pub record Lists (s : List ℕ) (t : List ℤ) (width n : ℕ) (ids : List (List ℕ)) : Type 0 where
   pub held : Held s t width ids
-  pub count : n ≡ length ids + 1
+  pub count : n ≡ length ids
 
 -- what a file refers to: two files with their tables and their numbers of records
 pub record Refers (f : ℕ) (w : Feed) (a : List ℕ) (at : List ℤ) (an : ℕ) (b : List ℕ) (bt : List ℤ) (bn : ℕ) : Type 0 where
@@ -46,9 +48,24 @@ pub record Refers (f : ℕ) (w : Feed) (a : List ℕ) (at : List ℤ) (an : ℕ)
   pub trips : f ≡ 5 → Lists a at 7 an (tripIds w)
   pub stops : f ≡ 5 → Lists b bt 6 bn (stopIds w)
 
+-- those tables keep the order of their ids
+pub record Indexed (f : ℕ) (a : List ℕ) (at : List ℤ) (an : ℕ) (b : List ℕ) (bt : List ℤ) (bn : ℕ) : Type 0 where
+  pub routes : f ≡ 4 → Placed a at 3 an × Arranged a 3 an at
+  pub services : f ≡ 4 → Placed b bt 5 bn × Arranged b 5 bn bt
+  pub trips : f ≡ 5 → Placed a at 7 an × Arranged a 7 an at
+  pub stops : f ≡ 5 → Placed b bt 6 bn × Arranged b 6 bn bt
+
+-- .. and are looked up in behind a memo each
+pub record Sought (f : ℕ) (a : List ℕ) (at : List ℤ) (an : ℕ) (am b : List ℕ) (bt : List ℤ) (bn : ℕ) (bm : List ℕ) : Type 0 where
+  pub routes : f ≡ 4 → Ready a at 3 an am
+  pub services : f ≡ 4 → Ready b bt 5 bn bm
+  pub trips : f ≡ 5 → Ready a at 7 an am
+  pub stops : f ≡ 5 → Ready b bt 6 bn bm
+
 -- a file that has a line, no longer than allowed, and a table with room for its records
 pub record Room (f : ℕ) (s : List ℕ) (t : List ℤ) : Type 0 where
   pub lines : 1 ≤ countLf s
+  pub few : countLf s ≤ 65536
   pub size : length s ≤ 16777216
   pub room : widthOf f * countLf s ≤ length t
 

@@ -1,3 +1,4 @@
--- What a located line, a walk along a file and the tables that it refers to hold.
+-- What a located line, the walks along a file and the tables that it refers to hold.
 pub mod Fill
 pub mod Walk
+pub mod Noting

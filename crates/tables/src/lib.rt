@@ -1,15 +1,17 @@
 // The five lent tables, filled from the five files.
 ghost use mathlib.Core.Path.{_≡_};
 ghost use mathlib.Core.List.{List, [], _∷_};
-ghost use Prim.Native.Nat.{_+_, _<_, _≤_};
+ghost use Prim.Native.Nat.{ℕ, _+_, _<_, _≤_};
 ghost use lib.IntN.{ℤ};
-ghost use lib.ListN.{take};
+ghost use lib.ListN.{length, take};
 ghost use Rattle.meaning.specs.Lists.{flat, laid};
 ghost use Rattle.meaning.specs.Bytes.{countLf};
 ghost use Rattle.meaning.specs.Columns.{rowsOf};
-ghost use Rattle.meaning.specs.Tables.{Feed, feedOf, filled};
-ghost use Rattle.tables.specs.Fill.{Heading, Refers, Room};
-ghost use Rattle.tables.specs.Walk.{walkedOf, walked};
+ghost use Rattle.meaning.specs.Tables.{Feed, feedOf, recordsOf, filled};
+ghost use Rattle.marks.specs.Marks.{entries, Blank};
+ghost use Rattle.marks.specs.Noted.{Noted};
+ghost use Rattle.tables.specs.Fill.{Heading, Indexed, Refers, Room, Sought};
+ghost use Rattle.tables.specs.Walk.{Ordered, Parents};
 use rows::Calendar;
 use rows::Routes;
 use rows::StopTimes;
@@ -19,7 +21,8 @@ use text::LineStep;
 
 pub mod values; // values.rt: the numbers that the fields of one located line say
 mod records; // records.rt: the record of one located line, written into its table
-mod parents; // parents.rt: the parents of stops, once every stop is in the table
+mod placing; // placing.rt: the first walk along files 1 to 4, and the order of their ids
+mod parents; // parents.rt: the parents of stops, once every stop's id is in the table
 
 // What a file's header tells: the columns of its known names, and where the next line starts.
 struct Header {
@@ -46,7 +49,7 @@ fn read_header(f: usize, s: &[u8]) -> Header
     }
 }
 
-// What is written for the lines from `at` on, the first of which has record 1; how many records there are.
+// The records of the lines from `at` on, the first of which is record 1.
 fn fill_lines(
     f: usize,
     s: &[u8],
@@ -56,18 +59,21 @@ fn fill_lines(
     a: &[u8],
     a_table: &[i32],
     a_count: usize,
+    a_memo: &mut [u32],
     b: &[u8],
     b_table: &[i32],
     b_count: usize,
-) -> usize
+    b_memo: &mut [u32],
+)
     requires { ⌜ (1 ≤ f) × ((f ≤ 5) × Room f (now s) (now t)) ⌝ }
     requires { ⌜ Heading f (now s) known at ⌝ }
     requires { ⌜ («a_count» ≤ 16777216) × («b_count» ≤ 16777216) ⌝ }
+    requires { ⌜ Sought f (now a) (now «a_table») «a_count» (now «a_memo») (now b) (now «b_table») «b_count» (now «b_memo») ⌝ }
     ensures { λ _. ⌜ ((w : Feed) (lent : List ℤ)
         → Refers f w (now (a .entry)) (now («a_table» .entry)) «a_count» (now (b .entry)) (now («b_table» .entry)) «b_count»
-        → now (t .entry) ≡ laid (flat (take 1 (walkedOf f w (now (s .entry))))) lent
-        → now (t .exit) ≡ walked f w (now (s .entry)) lent) ⌝ }
-    ensures { λ r. ⌜ r ≡ countLf (now (s .entry)) ⌝ }
+        → Parents f w (now (s .entry)) (now (t .entry))
+        → now (t .entry) ≡ laid (flat (take 1 (recordsOf f w (now (s .entry))))) lent
+        → now (t .exit) ≡ filled f w (now (s .entry)) lent) ⌝ }
 {
     let mut here = at;
     let mut r = 1;
@@ -84,21 +90,23 @@ fn fill_lines(
                     a,
                     a_table,
                     a_count,
+                    a_memo,
                     b,
                     b_table,
                     b_count,
+                    b_memo,
                 );
                 here = next;
                 r += 1;
             }
             LineStep::Done => {
-                return r;
+                return;
             }
         }
     }
 }
 
-// One walk along a file: record 0, then what is written for each line; references go to the records of files a and b.
+// The records of a file, record 0 first; references go to the records of files a and b.
 fn fill(
     f: usize,
     s: &[u8],
@@ -109,18 +117,21 @@ fn fill(
     b: &[u8],
     b_table: &[i32],
     b_count: usize,
-) -> usize
+)
     requires { ⌜ (1 ≤ f) × ((f ≤ 5) × Room f (now s) (now t)) ⌝ }
     requires { ⌜ («a_count» ≤ 16777216) × («b_count» ≤ 16777216) ⌝ }
+    requires { ⌜ Indexed f (now a) (now «a_table») «a_count» (now b) (now «b_table») «b_count» ⌝ }
     ensures { λ _. ⌜ ((w : Feed)
         → Refers f w (now (a .entry)) (now («a_table» .entry)) «a_count» (now (b .entry)) (now («b_table» .entry)) «b_count»
-        → now (t .exit) ≡ walked f w (now (s .entry)) (now (t .entry))) ⌝ }
-    ensures { λ r. ⌜ (r ≡ countLf (now (s .entry))) × (r ≤ 16777216) ⌝ }
+        → Parents f w (now (s .entry)) (now (t .entry))
+        → now (t .exit) ≡ filled f w (now (s .entry)) (now (t .entry))) ⌝ }
 {
     let h = read_header(f, s);
     rows::cells::zero_record(t, rows::width_of(f));
     let known = h.known;
     let next = h.next;
+    let mut a_memo = memo::blank();
+    let mut b_memo = memo::blank();
     fill_lines(
         f,
         s,
@@ -130,34 +141,60 @@ fn fill(
         a,
         a_table,
         a_count,
+        &mut a_memo,
         b,
         b_table,
         b_count,
-    )
+        &mut b_memo,
+    );
 }
 
 // A table that refers to no other.
-fn fill_alone(f: usize, s: &[u8], t: &mut [i32]) -> usize
+fn fill_alone(f: usize, s: &[u8], t: &mut [i32])
     requires { ⌜ (1 ≤ f) × ((f ≤ 3) × Room f (now s) (now t)) ⌝ }
-    ensures { λ _. ⌜ ((w : Feed) → now (t .exit) ≡ walked f w (now (s .entry)) (now (t .entry))) ⌝ }
-    ensures { λ r. ⌜ (r ≡ countLf (now (s .entry))) × (r ≤ 16777216) ⌝ }
+    ensures { λ _. ⌜ ((w : Feed) → Parents f w (now (s .entry)) (now (t .entry)) → now (t .exit) ≡ filled f w (now (s .entry)) (now (t .entry))) ⌝ }
 {
     let none = [0i32; 1];
-    fill(f, s, t, s, &none, 0, s, &none, 0)
+    fill(f, s, t, s, &none, 0, s, &none, 0);
 }
 
-// The table of stops: a parent may stand on a later line, so it waits until all ids are there.
-fn fill_stops(s: &[u8], t: &mut [i32]) -> usize
-    requires { ⌜ Room 1 (now s) (now t) ⌝ }
-    ensures { λ _. ⌜ ((w : Feed) → w .stops ≡ rowsOf 1 (now (s .entry)) → now (t .exit) ≡ filled 1 w (now (s .entry)) (now (t .entry))) ⌝ }
-    ensures { λ r. ⌜ (r ≡ countLf (now (s .entry))) × (r ≤ 16777216) ⌝ }
+// How many records files 1 to 4 have.
+struct Counts {
+    stops: usize,
+    routes: usize,
+    services: usize,
+    trips: usize,
+}
+
+// The ids of files 1 to 4 in their tables, and the records of each in their order; what only text and order tell is marked.
+fn order_all(
+    stops: &[u8],
+    routes: &[u8],
+    calendar: &[u8],
+    trips: &[u8],
+    stops_table: &mut [i32],
+    routes_table: &mut [i32],
+    calendar_table: &mut [i32],
+    trips_table: &mut [i32],
+    marks: &mut [u16],
+) -> Counts
+    requires { ⌜ Room 1 (now stops) (now «stops_table») × (Room 2 (now routes) (now «routes_table») × (Room 3 (now calendar) (now «calendar_table») × Room 4 (now trips) (now «trips_table»))) ⌝ }
+    requires { ⌜ Blank (now marks) × (entries ≤ length (now marks)) ⌝ }
+    ensures { λ r. ⌜ Ordered 1 (now (stops .entry)) (r .stops) (now («stops_table» .entry)) (now («stops_table» .exit)) ⌝ }
+    ensures { λ r. ⌜ Ordered 2 (now (routes .entry)) (r .routes) (now («routes_table» .entry)) (now («routes_table» .exit)) ⌝ }
+    ensures { λ r. ⌜ Ordered 3 (now (calendar .entry)) (r .services) (now («calendar_table» .entry)) (now («calendar_table» .exit)) ⌝ }
+    ensures { λ r. ⌜ Ordered 4 (now (trips .entry)) (r .trips) (now («trips_table» .entry)) (now («trips_table» .exit)) ⌝ }
+    ensures { λ _. ⌜ ((e : List ℕ) → Noted (feedOf (now (stops .entry) ∷ now (routes .entry) ∷ now (calendar .entry) ∷ now (trips .entry) ∷ e ∷ [])) (now (marks .exit))) ⌝ }
 {
-    let count = fill_alone(Stops::FILE, s, t);
-    parents::set_parents(s, count, t);
-    count
+    Counts {
+        stops: placing::order_file(Stops::FILE, stops, stops_table, marks),
+        routes: placing::order_file(Routes::FILE, routes, routes_table, marks),
+        services: placing::order_file(Calendar::FILE, calendar, calendar_table, marks),
+        trips: placing::order_file(Trips::FILE, trips, trips_table, marks),
+    }
 }
 
-// The five tables of five files.
+// The five tables of five files: ids and their orders first, by which references are found, then every record; and the marks.
 pub fn fill_all(
     stops: &[u8],
     routes: &[u8],
@@ -169,12 +206,14 @@ pub fn fill_all(
     calendar_table: &mut [i32],
     trips_table: &mut [i32],
     stop_times_table: &mut [i32],
+    marks: &mut [u16],
 )
     requires { ⌜ Room 1 (now stops) (now «stops_table») ⌝ }
     requires { ⌜ Room 2 (now routes) (now «routes_table») ⌝ }
     requires { ⌜ Room 3 (now calendar) (now «calendar_table») ⌝ }
     requires { ⌜ Room 4 (now trips) (now «trips_table») ⌝ }
     requires { ⌜ Room 5 (now «stop_times») (now «stop_times_table») ⌝ }
+    requires { ⌜ Blank (now marks) × (entries ≤ length (now marks)) ⌝ }
     ensures { λ _. ⌜ now («stops_table» .exit) ≡ filled 1 (feedOf (now (stops .entry) ∷ now (routes .entry) ∷ now (calendar .entry) ∷ now (trips .entry) ∷ now («stop_times» .entry) ∷ []))
         (now (stops .entry)) (now («stops_table» .entry)) ⌝ }
     ensures { λ _. ⌜ now («routes_table» .exit) ≡ filled 2 (feedOf (now (stops .entry) ∷ now (routes .entry) ∷ now (calendar .entry) ∷ now (trips .entry) ∷ now («stop_times» .entry) ∷ []))
@@ -185,30 +224,43 @@ pub fn fill_all(
         (now (trips .entry)) (now («trips_table» .entry)) ⌝ }
     ensures { λ _. ⌜ now («stop_times_table» .exit) ≡ filled 5 (feedOf (now (stops .entry) ∷ now (routes .entry) ∷ now (calendar .entry) ∷ now (trips .entry) ∷ now («stop_times» .entry) ∷ []))
         (now («stop_times» .entry)) (now («stop_times_table» .entry)) ⌝ }
+    ensures { λ _. ⌜ Noted (feedOf (now (stops .entry) ∷ now (routes .entry) ∷ now (calendar .entry) ∷ now (trips .entry) ∷ now («stop_times» .entry) ∷ [])) (now (marks .exit)) ⌝ }
 {
-    let stops_count = fill_stops(stops, stops_table);
-    let routes_count = fill_alone(Routes::FILE, routes, routes_table);
-    let services_count = fill_alone(Calendar::FILE, calendar, calendar_table);
-    let trips_count = fill(
-        Trips::FILE,
-        trips,
-        trips_table,
+    let n = order_all(
+        stops,
         routes,
-        routes_table,
-        routes_count,
         calendar,
+        trips,
+        stops_table,
+        routes_table,
         calendar_table,
-        services_count,
+        trips_table,
+        marks,
     );
+    parents::settle_parents(stops, n.stops, stops_table);
     fill(
         StopTimes::FILE,
         stop_times,
         stop_times_table,
         trips,
         trips_table,
-        trips_count,
+        n.trips,
         stops,
         stops_table,
-        stops_count,
+        n.stops,
     );
+    fill(
+        Trips::FILE,
+        trips,
+        trips_table,
+        routes,
+        routes_table,
+        n.routes,
+        calendar,
+        calendar_table,
+        n.services,
+    );
+    fill_alone(Calendar::FILE, calendar, calendar_table);
+    fill_alone(Routes::FILE, routes, routes_table);
+    fill_alone(Stops::FILE, stops, stops_table);
 }

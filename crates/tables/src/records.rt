@@ -2,11 +2,13 @@
 ghost use mathlib.Core.Path.{_≡_};
 ghost use mathlib.Core.List.{List};
 ghost use Prim.Native.Nat.{ℕ, _+_, _*_, _<_, _≤_};
+ghost use lib.IntN.{pos};
 ghost use lib.ListN.{length, getD};
-ghost use Rattle.meaning.specs.Tables.{Feed, widthOf, recordOf, routeIds, serviceIds, tripIds, stopIds};
+ghost use Rattle.meaning.specs.Columns.{rowOf};
+ghost use Rattle.meaning.specs.Tables.{Feed, widthOf, recordOf, refer, parentStation, routeIds, serviceIds, tripIds, stopIds};
 ghost use Rattle.rows.specs.Cells.{putAt};
-ghost use Rattle.tables.specs.Fill.{line, Lies, Located, Lists, Refers};
-ghost use Rattle.tables.specs.Walk.{waiting, written};
+ghost use Rattle.memo.specs.Memo.{Ready};
+ghost use Rattle.tables.specs.Fill.{line, Lies, Located, Lists, Refers, Sought};
 use crate::values;
 use columns::Cells;
 use meaning::Bounds;
@@ -22,7 +24,7 @@ use rows::TripRow;
 use rows::Trips;
 
 // The place in the file of the field under known column k.
-fn field_place(l: &[u8], at: usize, q: Cells, k: usize) -> Bounds
+pub fn field_place(l: &[u8], at: usize, q: Cells, k: usize) -> Bounds
     requires { ⌜ (k < 10) × Lies (now l) at (q .start) (q .end) ⌝ }
     ensures { λ r. ⌜ (r .start ≡ at + getD (q .start) k 0) × (r .end ≡ at + getD (q .end) k 0) ⌝ }
     ensures { λ r. ⌜ (r .start ≤ 16777216) × (r .end ≤ 16777216) ⌝ }
@@ -37,18 +39,18 @@ fn field_place(l: &[u8], at: usize, q: Cells, k: usize) -> Bounds
     }
 }
 
-// A stop, whose parent waits.
+// A stop, whose parent is settled.
 pub fn put_stop(l: &[u8], at: usize, q: Cells, t: &mut [i32], row: StopRow)
     requires { ⌜ Lies (now l) at (q .start) (q .end) × (row .0 * 6 + 6 ≤ length (now t)) ⌝ }
-    ensures { λ _. ⌜ ((ps : List ℕ) → Located (now (l .entry)) ps (q .start) (q .end)
-        → now (t .exit) ≡ putAt (now (t .entry)) (row .0 * 6) (waiting ps (line at (now (l .entry))))) ⌝ }
+    ensures { λ _. ⌜ ((w : Feed) (ps : List ℕ) → Located (now (l .entry)) ps (q .start) (q .end)
+        → getD (now (t .entry)) (row .0 * 6 + 5) (pos 0) ≡ pos (refer (parentStation (rowOf ps (now (l .entry)))) (stopIds w))
+        → now (t .exit) ≡ putAt (now (t .entry)) (row .0 * 6) (recordOf 1 w ps (line at (now (l .entry))))) ⌝ }
 {
     let id = field_place(l, at, q, 0);
     let latitude = values::latitude(l, q, 2);
     let longitude = values::longitude(l, q, 3);
     let kind = values::choice_or_zero(l, q, 4, 2);
-    let parent = field_place(l, at, q, 5);
-    Stops::put(t, row, id, latitude, longitude, kind, parent);
+    Stops::put(t, row, id, latitude, longitude, kind);
 }
 
 // A route.
@@ -85,18 +87,22 @@ pub fn put_trip(
     a: &[u8],
     a_table: &[i32],
     a_count: usize,
+    a_memo: &mut [u32],
     b: &[u8],
     b_table: &[i32],
     b_count: usize,
+    b_memo: &mut [u32],
 )
     requires { ⌜ Lies (now l) at (q .start) (q .end) × (row .0 * 7 + 7 ≤ length (now t)) ⌝ }
     requires { ⌜ («a_count» ≤ 16777216) × («b_count» ≤ 16777216) ⌝ }
+    requires { ⌜ Ready (now a) (now «a_table») 3 «a_count» (now «a_memo») × Ready (now b) (now «b_table») 5 «b_count» (now «b_memo») ⌝ }
     ensures { λ _. ⌜ ((w : Feed) (ps : List ℕ) → Located (now (l .entry)) ps (q .start) (q .end)
         → Lists (now (a .entry)) (now («a_table» .entry)) 3 «a_count» (routeIds w) → Lists (now (b .entry)) (now («b_table» .entry)) 5 «b_count» (serviceIds w)
         → now (t .exit) ≡ putAt (now (t .entry)) (row .0 * 7) (recordOf 4 w ps (line at (now (l .entry))))) ⌝ }
+    ensures { λ _. ⌜ Ready (now (a .entry)) (now («a_table» .entry)) 3 «a_count» (now («a_memo» .exit)) × Ready (now (b .entry)) (now («b_table» .entry)) 5 «b_count» (now («b_memo» .exit)) ⌝ }
 {
-    let route = resolve::find_route(a, a_table, a_count, values::raw(l, q, 0));
-    let service = resolve::find_service(b, b_table, b_count, values::raw(l, q, 1));
+    let route = resolve::find_route(a, a_table, a_count, values::raw(l, q, 0), a_memo);
+    let service = resolve::find_service(b, b_table, b_count, values::raw(l, q, 1), b_memo);
     let id = field_place(l, at, q, 2);
     let direction = values::choice_or_minus(l, q, 3, 1);
     let wheelchair = values::choice_or_zero(l, q, 4, 2);
@@ -114,18 +120,22 @@ pub fn put_time(
     a: &[u8],
     a_table: &[i32],
     a_count: usize,
+    a_memo: &mut [u32],
     b: &[u8],
     b_table: &[i32],
     b_count: usize,
+    b_memo: &mut [u32],
 )
     requires { ⌜ Lies (now l) at (q .start) (q .end) × (row .0 * 8 + 8 ≤ length (now t)) ⌝ }
     requires { ⌜ («a_count» ≤ 16777216) × («b_count» ≤ 16777216) ⌝ }
+    requires { ⌜ Ready (now a) (now «a_table») 7 «a_count» (now «a_memo») × Ready (now b) (now «b_table») 6 «b_count» (now «b_memo») ⌝ }
     ensures { λ _. ⌜ ((w : Feed) (ps : List ℕ) → Located (now (l .entry)) ps (q .start) (q .end)
         → Lists (now (a .entry)) (now («a_table» .entry)) 7 «a_count» (tripIds w) → Lists (now (b .entry)) (now («b_table» .entry)) 6 «b_count» (stopIds w)
         → now (t .exit) ≡ putAt (now (t .entry)) (row .0 * 8) (recordOf 5 w ps (line at (now (l .entry))))) ⌝ }
+    ensures { λ _. ⌜ Ready (now (a .entry)) (now («a_table» .entry)) 7 «a_count» (now («a_memo» .exit)) × Ready (now (b .entry)) (now («b_table» .entry)) 6 «b_count» (now («b_memo» .exit)) ⌝ }
 {
-    let trip = resolve::find_trip(a, a_table, a_count, values::raw(l, q, 0));
-    let stop = resolve::find_stop(b, b_table, b_count, values::raw(l, q, 3));
+    let trip = resolve::find_trip(a, a_table, a_count, values::raw(l, q, 0), a_memo);
+    let stop = resolve::find_stop(b, b_table, b_count, values::raw(l, q, 3), b_memo);
     let sequence = values::sequence(l, q, 4);
     let arrival = values::clock(l, q, 1);
     let departure = values::clock(l, q, 2);
@@ -146,7 +156,7 @@ pub fn put_time(
     );
 }
 
-// What the walk writes for a line of file f, with known columns in the columns `places`; a and b are the files that it refers to.
+// The record of a line of file f, with known columns in the columns `places`; a and b are the files that it refers to.
 pub fn put_record(
     f: usize,
     l: &[u8],
@@ -157,16 +167,21 @@ pub fn put_record(
     a: &[u8],
     a_table: &[i32],
     a_count: usize,
+    a_memo: &mut [u32],
     b: &[u8],
     b_table: &[i32],
     b_count: usize,
+    b_memo: &mut [u32],
 )
     requires { ⌜ (1 ≤ f) × ((f ≤ 5) × (at + length (now l) ≤ 16777216)) ⌝ }
     requires { ⌜ r * widthOf f + widthOf f ≤ length (now t) ⌝ }
     requires { ⌜ («a_count» ≤ 16777216) × («b_count» ≤ 16777216) ⌝ }
+    requires { ⌜ Sought f (now a) (now «a_table») «a_count» (now «a_memo») (now b) (now «b_table») «b_count» (now «b_memo») ⌝ }
     ensures { λ _. ⌜ ((w : Feed) (ps : List ℕ) → ((k : ℕ) → getD places k 0 ≡ getD ps k 0)
         → Refers f w (now (a .entry)) (now («a_table» .entry)) «a_count» (now (b .entry)) (now («b_table» .entry)) «b_count»
-        → now (t .exit) ≡ putAt (now (t .entry)) (r * widthOf f) (written f w ps (line at (now (l .entry))))) ⌝ }
+        → (f ≡ 1 → getD (now (t .entry)) (r * 6 + 5) (pos 0) ≡ pos (refer (parentStation (rowOf ps (now (l .entry)))) (stopIds w)))
+        → now (t .exit) ≡ putAt (now (t .entry)) (r * widthOf f) (recordOf f w ps (line at (now (l .entry))))) ⌝ }
+    ensures { λ _. ⌜ Sought f (now (a .entry)) (now («a_table» .entry)) «a_count» (now («a_memo» .exit)) (now (b .entry)) (now («b_table» .entry)) «b_count» (now («b_memo» .exit)) ⌝ }
 {
     let q = columns::locate(l, places);
     if f == Stops::FILE {
@@ -191,9 +206,11 @@ pub fn put_record(
             a,
             a_table,
             a_count,
+            a_memo,
             b,
             b_table,
             b_count,
+            b_memo,
         );
         return;
     }
@@ -206,8 +223,10 @@ pub fn put_record(
         a,
         a_table,
         a_count,
+        a_memo,
         b,
         b_table,
         b_count,
+        b_memo,
     );
 }

@@ -54,8 +54,8 @@ fn near_of(
 
 // What a record of stop_times holds.
 pub struct Record {
-    pub trip: usize,
-    pub stop: usize,
+    pub trip: TripRow,
+    pub stop: StopRow,
     pub sequence: usize,
     pub arrival: Time,
     pub departure: Time,
@@ -64,11 +64,11 @@ pub struct Record {
 
 // The record with this number.
 fn record_at(t: &[i32], r: usize) -> Record
-    ensures { λ h. ⌜ (h .trip ≡ natAt (now (t .entry)) (r * 8)) × ((h .stop ≡ natAt (now (t .entry)) (r * 8 + 1)) × ((h .sequence ≡ natAt (now (t .entry)) (r * 8 + 2))
+    ensures { λ h. ⌜ (h .trip .0 ≡ natAt (now (t .entry)) (r * 8)) × ((h .stop .0 ≡ natAt (now (t .entry)) (r * 8 + 1)) × ((h .sequence ≡ natAt (now (t .entry)) (r * 8 + 2))
         × ((h .arrival ≡ timeAt (now (t .entry)) (r * 8 + 3)) × ((h .departure ≡ timeAt (now (t .entry)) (r * 8 + 4)) × (h .timepoint ≡ natAt (now (t .entry)) (r * 8 + 7)))))) ⌝ }
 {
-    let trip = StopTimes::trip_at(t, TimeRow(r)).0;
-    let stop = StopTimes::stop_at(t, TimeRow(r)).0;
+    let trip = StopTimes::trip_at(t, TimeRow(r));
+    let stop = StopTimes::stop_at(t, TimeRow(r));
     let sequence = StopTimes::sequence_at(t, TimeRow(r));
     let arrival = StopTimes::arrival_at(t, TimeRow(r));
     let departure = StopTimes::departure_at(t, TimeRow(r));
@@ -97,16 +97,18 @@ fn time_line(l: &[u8], at: [usize; 10], t: &[i32], stops: &[i32], i: usize, near
     let no_trip = text::is_empty_value(columns::field(l, at, 0));
     let no_stop = text::is_empty_value(columns::field(l, at, 3));
     let h = record_at(t, i + 1);
+    let trip = h.trip;
+    let stop = h.stop;
     let arrival = h.arrival;
     let departure = h.departure;
-    let kind = Stops::kind_at(stops, StopRow(h.stop));
+    let kind = Stops::kind_at(stops, stop);
     let before = StopTimes::sequence_at(t, TimeRow(near.line));
     let left = StopTimes::departure_at(t, TimeRow(near.timed));
     judging::judge_time(
         no_trip,
-        h.trip,
+        trip.0,
         no_stop,
-        h.stop,
+        stop.0,
         kind,
         arrival,
         departure,

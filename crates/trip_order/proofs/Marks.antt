@@ -6,7 +6,7 @@ use mathlib.Core.Bool.{Bool, true, false, cond, _&&_}
 use native.Mathlib.Numerals.{add-one}
 use native.Mathlib.Decide.{ℕ-discrete}
 use lib.ListN.{length, getD, set, length-set}
-use lib.Seq.{getD-set-same, getD-set-other}
+use lib.Seq.{ext-getD, getD-set-same, getD-set-other}
 use lib.Dec.{eqb}
 use borrow.Author.Tests.{eq-eqb, ne-eqb, eqb-true}
 use Rattle.trip_order.specs.Ones.{lastOne, firstOne}
@@ -16,6 +16,10 @@ pub marked-length : (b : Bool) (marks : List ℕ) (r k : ℕ) → length (marked
 unfolding markedIf
 marked-length true marks r k = length-set marks r k
 marked-length false marks r k = refl
+
+-- marks of one count that are all 0 are the same marks
+pub blank-one : (n : ℕ) (a b : List ℕ) → length a ≡ n → length b ≡ n → ((k : ℕ) → getD a k 0 ≡ 0) → ((k : ℕ) → getD b k 0 ≡ 0) → a ≡ b
+blank-one n a b p q x y = ext-getD 0 a b (p ∙ sym q) (λ k h. x k ∙ sym (y k))
 
 module _ (trip : ℕ → ℕ) (marks : List ℕ) (n : ℕ) where
   pub last-turn : (P : ℕ → Bool) → LastLines trip P marks n → LastLines trip P (markedIf (P n) marks (trip n) (n + 1)) (n + 1)

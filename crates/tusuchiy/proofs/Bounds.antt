@@ -19,11 +19,11 @@ use Rattle.meaning.specs.Bytes.{countLf}
 use Rattle.meaning.specs.Tables.{fileOf}
 use Rattle.meaning.specs.Refusals.{Claim, claim, refusal, rule2, claims, verdictOf}
 use Rattle.meaning.specs.Findings.{Finding, after, page, roomOf}
-use Rattle.meaning.specs.Promises.{Ordered, FirstBroken, noClaim, speaksBefore}
+use Rattle.meaning.specs.Promises.{Ordered, fileTests, speaksBefore, noClaim, FirstBroken, Sayable}
 use Rattle.meaning.proofs.Laws.{getD-mem}
 use Rattle.meaning.proofs.ListLaws.{both}
 use Rattle.meaning.proofs.FirstBroken.{first-broken}
-use Rattle.meaning.proofs.Claims.{fileTests, Sayable, refusal-numbers, claim-of-file, claims-ordered}
+use Rattle.meaning.proofs.Claims.{refusal-numbers, claim-of-file, claims-ordered}
 use Rattle.text.proofs.Lines.{lines-all}
 use Rattle.listing.specs.declared.Sink.{Sink}
 use Rattle.listing.specs.Handing.{State, state, handedOut}

@@ -2,45 +2,35 @@
 use Prim.Native.Nat.{ℕ, _-_, _≤_, _<_}
 use mathlib.Core.Path.{_≡_, refl, ap}
 use mathlib.Core.List.{List, [], _∷_, map}
-use mathlib.Core.Bool.{false, cond}
+use mathlib.Core.Bool.{cond}
 use native.Mathlib.Omega.{arith}
 use lib.IntN.{ℤ}
-use lib.ListN.{length, getD}
+use lib.ListN.{length}
 use lib.Dec.{eqb}
 use Rattle.meaning.specs.declared.Refusal.{Refusal}
 use Rattle.meaning.specs.declared.Verdict.the-variants.{Readable, Unreadable}
 use Rattle.meaning.specs.declared.Place.{Place}
 use Rattle.meaning.specs.declared.Answer.{Answer}
 use Rattle.meaning.specs.declared.Answer.the-variants.{Accepted, Findings, Refused}
-use Rattle.meaning.specs.Lists.{empty}
 use Rattle.meaning.specs.Bytes.{countLf}
 use Rattle.meaning.specs.Columns.{rowsOf, schemas, schema, knownAt, columnOf, countOf, tripsColumns}
-use Rattle.meaning.specs.Tables.{Feed, fileOf, feedOf, filled, tripId}
+use Rattle.meaning.specs.Tables.{Feed, fileOf, feedOf, filled}
 use Rattle.meaning.specs.Refusals.{verdictOf, blank}
 use Rattle.meaning.specs.Findings.{findingsOf, answerOf, handed, page, roomOf}
 use Rattle.meaning.specs.Outcome.{Outcome, readOutcome, filledFrom, outcome}
-use Rattle.meaning.proofs.Readable.{WholeKept, whole-kept, values-kept}
-use Rattle.text.proofs.Lines.{ended-count}
+use Rattle.meaning.proofs.Readable.{whole-kept, values-kept}
+use Rattle.marks.specs.Noted.{Noted}
 use Rattle.tables.specs.Fill.{Room}
+use Rattle.tables.proofs.Feeds.{room-kept}
 use Rattle.tables.proofs.Ids.{rows-count}
 use Rattle.listing.specs.Handing.{State, state, handedOut}
 use Rattle.listing.specs.declared.Sink.{Sink}
 use Rattle.held.specs.Held.{Filled}
+use Rattle.file_rules.specs.Lines.{NamedTrips}
 use Rattle.rules.specs.Tabled.{Tabled}
 
--- what reading leaves of a file: room in its table, and few lines
-pub record Kept (f : ℕ) (s : List ℕ) (t : List ℤ) : Type 0 where
-  pub room : Room f s t
-  pub few : countLf s ≤ 65536
-
-kept : (f : ℕ) (s : List ℕ) (t : List ℤ) → WholeKept f s (length t) → Kept f s t
-kept f s t k = record {
-  room = record { lines = ended-count f s (length t) (k .ended); size = k .short; room = k .roomy };
-  few = k .few;
-}
-
-filled-of : (f : ℕ) (w : Feed) (s : List ℕ) (t t′ : List ℤ) → Kept f s t → t′ ≡ filled f w s t → Filled f w (rowsOf f s) s t′
-filled-of f w s t t′ k e = record { lent = t; is = e; roomy = k .room .room; some = k .room .lines; read = refl }
+filled-of : (f : ℕ) (w : Feed) (s : List ℕ) (t t′ : List ℤ) → Room f s t → t′ ≡ filled f w s t → Filled f w (rowsOf f s) s t′
+filled-of f w s t t′ k e = record { lent = t; is = e; roomy = k .room; some = k .lines; read = refl }
 
 module _ (s₁ s₂ s₃ s₄ s₅ : List ℕ) (t₁ t₂ t₃ t₄ t₅ : List ℤ) (read : verdictOf (s₁ ∷ s₂ ∷ s₃ ∷ s₄ ∷ s₅ ∷ []) (length t₁ ∷ length t₂ ∷ length t₃ ∷ length t₄ ∷ length t₅ ∷ []) ≡ Readable) where
   abbrev files : List (List ℕ)
@@ -49,49 +39,64 @@ module _ (s₁ s₂ s₃ s₄ s₅ : List ℕ) (t₁ t₂ t₃ t₄ t₅ : List 
   abbrev rooms : List ℕ
   rooms = length t₁ ∷ length t₂ ∷ length t₃ ∷ length t₄ ∷ length t₅ ∷ []
 
-  pub stops-kept : Kept 1 s₁ t₁
+  stops-kept : Room 1 s₁ t₁
   unfolding fileOf
-  stops-kept = kept 1 s₁ t₁ (whole-kept files rooms read 1 (omega arith) (omega arith) (omega arith))
+  stops-kept = room-kept 1 s₁ t₁ (whole-kept files rooms read 1 (omega arith) (omega arith) (omega arith))
 
-  pub routes-kept : Kept 2 s₂ t₂
+  routes-kept : Room 2 s₂ t₂
   unfolding fileOf
-  routes-kept = kept 2 s₂ t₂ (whole-kept files rooms read 2 (omega arith) (omega arith) (omega arith))
+  routes-kept = room-kept 2 s₂ t₂ (whole-kept files rooms read 2 (omega arith) (omega arith) (omega arith))
 
-  pub calendar-kept : Kept 3 s₃ t₃
+  calendar-kept : Room 3 s₃ t₃
   unfolding fileOf
-  calendar-kept = kept 3 s₃ t₃ (whole-kept files rooms read 3 (omega arith) (omega arith) (omega arith))
+  calendar-kept = room-kept 3 s₃ t₃ (whole-kept files rooms read 3 (omega arith) (omega arith) (omega arith))
 
-  pub trips-kept : Kept 4 s₄ t₄
+  trips-kept : Room 4 s₄ t₄
   unfolding fileOf
-  trips-kept = kept 4 s₄ t₄ (whole-kept files rooms read 4 (omega arith) (omega arith) (omega arith))
+  trips-kept = room-kept 4 s₄ t₄ (whole-kept files rooms read 4 (omega arith) (omega arith) (omega arith))
 
-  pub times-kept : Kept 5 s₅ t₅
+  times-kept : Room 5 s₅ t₅
   unfolding fileOf
-  times-kept = kept 5 s₅ t₅ (whole-kept files rooms read 5 (omega arith) (omega arith) (omega arith))
+  times-kept = room-kept 5 s₅ t₅ (whole-kept files rooms read 5 (omega arith) (omega arith) (omega arith))
 
-  -- a readable feed has no empty trip_id
-  trip-named : (i : ℕ) → i < length (rowsOf 4 s₄) → empty (tripId (getD (rowsOf 4 s₄) i [])) ≡ false
-  unfolding fileOf blank columnOf knownAt schema schemas countOf tripsColumns
-  trip-named i h = values-kept files rooms read 4 (omega arith) (omega arith) i h 2 (omega arith) .there
+  -- what filling asks of the five files and tables, and what the rules ask of the files
+  pub rooms-kept : Room 1 s₁ t₁ × (Room 2 s₂ t₂ × (Room 3 s₃ t₃ × (Room 4 s₄ t₄ × Room 5 s₅ t₅)))
+  rooms-kept = (stops-kept, (routes-kept, (calendar-kept, (trips-kept, times-kept))))
 
-  -- once its tables are filled, the rules can be judged
+  pub few-kept : (countLf s₁ ≤ 65536) × ((countLf s₂ ≤ 65536) × ((countLf s₃ ≤ 65536) × ((countLf s₄ ≤ 65536) × (countLf s₅ ≤ 65536))))
+  few-kept = (stops-kept .few, (routes-kept .few, (calendar-kept .few, (trips-kept .few, times-kept .few))))
+
+  -- rule 12: a readable feed has no trip without a route, a service or an id
+  named-trips : NamedTrips (feedOf files)
+  unfolding feedOf fileOf blank columnOf knownAt schema schemas countOf tripsColumns
+  named-trips =
+      let there = values-kept files rooms read 4 (omega arith) (omega arith) in
+      record {
+        routes = λ i h. there i h 0 (omega arith) .there;
+        services = λ i h. there i h 1 (omega arith) .there;
+        ids = λ i h. there i h 2 (omega arith) .there;
+      }
+
+  -- once its tables are filled and its marks set, the rules can be judged
   pub tabled :
-      (u₁ u₂ u₃ u₄ u₅ : List ℤ)
+      (u₁ u₂ u₃ u₄ u₅ : List ℤ) (marks : List ℕ)
       → u₁ ≡ filled 1 (feedOf files) s₁ t₁
       → u₂ ≡ filled 2 (feedOf files) s₂ t₂
       → u₃ ≡ filled 3 (feedOf files) s₃ t₃
       → u₄ ≡ filled 4 (feedOf files) s₄ t₄
       → u₅ ≡ filled 5 (feedOf files) s₅ t₅
-      → Tabled (feedOf files) s₁ s₂ s₃ s₄ s₅ u₁ u₂ u₃ u₄ u₅
+      → Noted (feedOf files) marks
+      → Tabled (feedOf files) s₁ s₂ s₃ s₄ s₅ u₁ u₂ u₃ u₄ u₅ marks
   unfolding feedOf fileOf
-  tabled u₁ u₂ u₃ u₄ u₅ a b c d e = record {
+  tabled u₁ u₂ u₃ u₄ u₅ marks a b c d e m = record {
     stops = filled-of 1 (feedOf files) s₁ t₁ u₁ stops-kept a;
     routes = filled-of 2 (feedOf files) s₂ t₂ u₂ routes-kept b;
     calendar = filled-of 3 (feedOf files) s₃ t₃ u₃ calendar-kept c;
     trips = filled-of 4 (feedOf files) s₄ t₄ u₄ trips-kept d;
     times = filled-of 5 (feedOf files) s₅ t₅ u₅ times-kept e;
-    named = trip-named;
-    few = omega (arith, rows-count 4 s₄, trips-kept .few, trips-kept .room .lines);
+    noted = m;
+    named = named-trips;
+    few = omega (arith, rows-count 4 s₄, trips-kept .few, trips-kept .lines);
   }
 
   -- and the outcome is what is answered and held

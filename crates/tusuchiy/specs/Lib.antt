@@ -1,3 +1,2 @@
 -- What the check says besides the outcome.
 pub mod Small
-pub mod Demands

@@ -50,6 +50,7 @@ fn checked(
         ≡ record { answer = r; tables = now («stops_table» .exit) ∷ now («routes_table» .exit) ∷ now («calendar_table» .exit) ∷ now («trips_table» .exit) ∷ now («stop_times_table» .exit) ∷ []; list = now (findings .exit) } ⌝ }
     ensures { λ r. ⌜ Small r ⌝ }
 {
+    let mut marks = marks::blank();
     tables::fill_all(
         stops,
         routes,
@@ -61,6 +62,7 @@ fn checked(
         calendar_table,
         trips_table,
         stop_times_table,
+        &mut marks,
     );
     let k = rules::list_findings(
         stops,
@@ -73,6 +75,7 @@ fn checked(
         calendar_table,
         trips_table,
         stop_times_table,
+        &marks,
         findings,
         from,
     );

@@ -1,4 +1,8 @@
-//! Large feeds, for the benchmark and for the limits: so many lines of stop_times, without a finding.
+//! Large feeds: for the limits one without a finding, and for the benchmark many families.
+
+mod draft;
+pub mod families;
+mod plan;
 
 /// A readable feed with this many lines of stop_times, twenty to a trip or a few more, and a stop for each trip.
 pub fn feed(calls: usize) -> [Vec<u8>; 5] {

@@ -54,7 +54,7 @@ fn a_seed_gives_the_same_case_for_ever() {
     }
 }
 
-/// The lists that the benchmark and the limits are built on.
+/// The feeds that the limits are tried with.
 #[test]
 fn large_feeds_are_accepted() {
     for calls in [2, 21, 41, 1000] {

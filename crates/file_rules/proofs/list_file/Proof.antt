@@ -1,81 +1,90 @@
--- `file_rules::list_file` meets its contract.
-use mathlib.Core.Path.{sym, ap, _∙_}
+-- `file_rules::list_file` meets its contract. The loop's invariant: what is left of the findings brings the list to what all of them are to bring it to.
+use mathlib.Core.Path.{_≡_, refl}
+use Prim.Native.Nat.{_+_, _*_, _-_, _≤_}
 use native.Mathlib.Omega.{arith}
-use Rattle.meaning.specs.Bytes.{part}
-use Rattle.columns.specs.Columns.{placesOf}
-use Rattle.text.proofs.Lines.{line-found, line-none}
-use Rattle.text.proofs.Walk.{header-is, header-past, no-header}
 use borrow.Author.Needs.{needs}
+use lib.ListN.{length}
+use Rattle.meaning.specs.Tables.{Feed}
+use Rattle.listing.specs.Handing.{state}
+use Rattle.file_rules.specs.Lines.{Ready}
+use Rattle.file_rules.proofs.Walk.{Left, left-first, left-next, left-last}
 use Rattle.file_rules.proofs.list_file.Statement.{statement}
 use Rattle.file_rules.proofs.list_file.Tie as tie
 
-body-start-requires : tie.Need-body-start-requires
-body-start-requires c κs = search needs
+abbrev Inv-loop : tie.InvT-loop
+Inv-loop f n t marks times first last out₀ p numbers rules sink₀ i₀ out sink i =
+    ((w : Feed) → Ready f n w t marks times first last → Left p f w i (state out sink) (state out₀ sink₀))
+    × ((i ≤ n) × ((sink .total ≤ sink₀ .total + 4 * i) × (length out ≡ length out₀)))
 
-next-line-requires : tie.Need-next-line-requires
-next-line-requires c κs = search needs
+abbrev μ-loop : tie.MeasureT-loop
+μ-loop f n t marks times first last out₀ p numbers rules sink₀ i₀ out sink i = n - i
 
-enum-known-start : tie.Need-enum-known-start
-enum-known-start c = search needs
+numbers-of-requires : tie.Need-numbers-of-requires Inv-loop μ-loop
+numbers-of-requires c κs =
+    search needs
 
-sub-columns-of : tie.Need-sub-columns-of
-sub-columns-of c =
-    let s = line-found _ _ _ _ _ (sym (c .before .before .before .next-line .ensures) ∙ c .before .start .given .1) in
+count-of-requires : tie.Need-count-of-requires Inv-loop μ-loop
+count-of-requires c κs =
+    search needs
+
+loop-holds : tie.Need-loop-holds Inv-loop μ-loop
+loop-holds c =
+    (λ w h. left-first _ _ _ _, (omega arith, (omega arith, refl)))
+
+judge-line-requires : tie.Need-judge-line-requires Inv-loop μ-loop
+judge-line-requires c κs =
+    search needs
+
+add-note-line : tie.Need-add-note-line Inv-loop μ-loop
+add-note-line c =
     omega arith
 
-part-columns-of-start : tie.Need-part-columns-of-start
-part-columns-of-start c =
-    let s = line-found _ _ _ _ _ (sym (c .before .before .before .next-line .ensures) ∙ c .before .start .given .1) in
+note-line-requires : tie.Need-note-line-requires Inv-loop μ-loop
+note-line-requires c κs =
+    omega (arith, c .before .before .before .before .before .before .before .before .before .pre, c .before .before .before .loop .inv .1, c .before .before .before .before .count-of .ensures .1)
+
+add-i : tie.Need-add-i Inv-loop μ-loop
+add-i c =
     omega arith
 
-part-columns-of-end : tie.Need-part-columns-of-end
-part-columns-of-end c =
-    let s = line-found _ _ _ _ _ (sym (c .before .before .before .next-line .ensures) ∙ c .before .start .given .1) in
+loop-less : tie.Need-loop-less Inv-loop μ-loop
+loop-less c =
     omega arith
 
-columns-of-requires : tie.Need-columns-of-requires
-columns-of-requires c κs = search needs
-
-list-lines-requires : tie.Need-list-lines-requires
-unfolding part
-list-lines-requires c κs =
-    let s = line-found _ _ _ _ _ (sym (c .before .before .before .before .before .before .before .next-line .ensures) ∙ c .before .before .before .before .before .start .given .1) in
-    let a = c .before .before .before .before .before .before .before .before .before .before .before .before .pre in
-    let o = c .before .before .before .before .before .before .before .before .body-start .ensures .0 in (
-      (a .0, (a .1 .0, (s .within, a .1 .1))),
-      (
-        c .before .before .columns-of .ensures .0 ∙ ap (placesOf _) (header-is _ _ o _ _ _ s),
-        header-past _ _ o _ _ _ s,
-      ),
+loop-again : tie.Need-loop-again Inv-loop μ-loop
+loop-again c =
+    let l = c .before .before .before .before .before .loop in
+    let n = c .before .note-line .ensures in
+    let m = c .before .before .before .before .before .before .count-of .ensures in (
+      λ w h.
+          left-next _ _ w _ _ _ _ _ h (l .i) (c .before .before .before .before .loop-test .taken) _ _ _ (c .before .before .before .before .before .before .before .numbers-of .ensures) (m .0)
+          (λ g. c .before .before .before .judge-line .ensures w g (h .ends)) _ _ _ _ (n .0) (l .inv .0 w h),
+      (omega arith, (omega (arith, n .1, m .1), search needs)),
     )
 
-enum-told : tie.Need-enum-told
-enum-told c = search needs
+same-length : tie.Need-same-length Inv-loop μ-loop
+same-length c =
+    search needs
 
-same-length : tie.Need-same-length
-same-length c = search needs
-
-returns : tie.Need-returns
-returns c = search needs
-
-returns-2 : tie.Need-returns-2
-returns-2 c =
-    let z = no-header _ _ (c .before .before .before .body-start .ensures .0) (line-none _ _ (sym (c .before .before .next-line .ensures) ∙ c .enum-told .given .1)) in
-    (λ w h. absurd (omega (arith, h .table .some, z)), omega arith)
+returns : tie.Need-returns Inv-loop μ-loop
+returns c =
+    let l = c .before .loop in
+    (λ w h. left-last _ _ w _ _ _ _ _ h (l .i) (c .loop-test .left) _ _ _ (l .inv .0 w h), omega arith)
 
 pub list-file-spec : {M : Type 1} → statement M
 list-file-spec =
     tie.close
     (tie.spec
-    body-start-requires
-    next-line-requires
-    enum-known-start
-    sub-columns-of
-    part-columns-of-start
-    part-columns-of-end
-    columns-of-requires
-    list-lines-requires
-    enum-told
+    Inv-loop
+    μ-loop
+    numbers-of-requires
+    count-of-requires
+    loop-holds
+    judge-line-requires
+    add-note-line
+    note-line-requires
+    add-i
+    loop-less
+    loop-again
     same-length
-    returns
-    returns-2)
+    returns)

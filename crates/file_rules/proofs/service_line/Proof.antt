@@ -7,8 +7,8 @@ use Rattle.file_rules.proofs.service_line.Tie as tie
 add-row : tie.Need-add-row
 add-row c = search needs
 
-first-of-requires : tie.Need-first-of-requires
-first-of-requires c κs = search needs
+is-marked-requires : tie.Need-is-marked-requires
+is-marked-requires c κs = search needs
 
 start-at-requires : tie.Need-start-at-requires
 start-at-requires c κs = search needs
@@ -21,14 +21,14 @@ judge-service-requires c κs = search needs
 
 returns : tie.Need-returns
 returns c =
-    λ w h. service-line-is h (c .before .before .before .first-of .ensures) (c .before .before .start-at .ensures) (c .before .end-at .ensures) (c .judge-service .ensures)
+    λ w h. service-line-is h (c .before .before .before .is-marked .ensures) (c .before .before .start-at .ensures) (c .before .end-at .ensures) (c .judge-service .ensures)
 
 pub service-line-spec : {M : Type 1} → statement M
 service-line-spec =
     tie.close
     (tie.spec
     add-row
-    first-of-requires
+    is-marked-requires
     start-at-requires
     end-at-requires
     judge-service-requires

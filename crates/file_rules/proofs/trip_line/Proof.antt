@@ -7,20 +7,14 @@ use Rattle.file_rules.proofs.trip_line.Tie as tie
 add-row : tie.Need-add-row
 add-row c = search needs
 
-first-of-requires : tie.Need-first-of-requires
-first-of-requires c κs = search needs
+is-marked-requires : tie.Need-is-marked-requires
+is-marked-requires c κs = search needs
 
 ends-of-requires : tie.Need-ends-of-requires
 ends-of-requires c κs = search needs
 
-is-bare-requires : tie.Need-is-bare-requires
-is-bare-requires c κs = search needs
-
 route-at-requires : tie.Need-route-at-requires
 route-at-requires c κs = search needs
-
-is-bare-requires-2 : tie.Need-is-bare-requires-2
-is-bare-requires-2 c κs = search needs
 
 service-at-requires : tie.Need-service-at-requires
 service-at-requires c κs = search needs
@@ -30,18 +24,16 @@ judge-trip-requires c κs = search needs
 
 returns : tie.Need-returns
 returns c =
-    λ w h m. trip-line-is h m (c .before .before .before .before .before .before .first-of .ensures) (c .before .before .before .before .is-bare .ensures) (c .before .before .before .route-at .ensures) (c .before .before .is-bare2 .ensures) (c .before .service-at .ensures) (c .before .before .before .before .before .ends-of .ensures .0 .0) (c .before .before .before .before .before .ends-of .ensures .0 .1) (c .before .before .before .before .before .ends-of .ensures .1 .0) (c .before .before .before .before .before .ends-of .ensures .1 .1) (c .judge-trip .ensures)
+    λ w h m. trip-line-is h m (c .before .before .before .before .is-marked .ensures) (c .before .before .route-at .ensures) (c .before .service-at .ensures) (c .before .before .before .ends-of .ensures .0 .0) (c .before .before .before .ends-of .ensures .0 .1) (c .before .before .before .ends-of .ensures .1 .0) (c .before .before .before .ends-of .ensures .1 .1) (c .judge-trip .ensures)
 
 pub trip-line-spec : {M : Type 1} → statement M
 trip-line-spec =
     tie.close
     (tie.spec
     add-row
-    first-of-requires
+    is-marked-requires
     ends-of-requires
-    is-bare-requires
     route-at-requires
-    is-bare-requires-2
     service-at-requires
     judge-trip-requires
     returns)

@@ -34,18 +34,21 @@ list-four-requires : tie.Need-list-four-requires
 list-four-requires c κs = search needs
 
 list-times-requires : tie.Need-list-times-requires
-list-times-requires c κs = (c .before .before .before .before .before .before .before .before .before .before .before .before .before .before .before .before .before .before .before .pre .1 .1 .1 .1, omega arith)
+list-times-requires c κs =
+    (c .before .before .before .before .before .before .before .before .before .before .before .before .before .before .before .before .before .before .before .before .pre .1 .1 .1 .1, omega arith)
 
 same-length : tie.Need-same-length
 same-length c = search needs
 
 returns : tie.Need-returns
 returns c =
-    let z = c .before .before .before .before .before .before .before .before .before .before .before .before .before .before .before .before .before .before .before .before .before .args in
+    let z = c .before .before .before .before .before .before .before .before .before .before .before .before .before .before .before .before .before .before .before .before .before .before .args in
+    let blank₁ = c .before .before .before .before .before .before .before .before .before .before .before .before .before .before .before .blank in
+    let blank₂ = c .before .before .before .before .before .before .before .before .before .before .before .before .before .before .blank2 in
     let m = c .before .before .before .before .before .before .before .before .before .before .mark-ends .ensures in (
       λ w h.
-          let marks = all-marked w _ _ _ _ _ _ _ _ _ _ h _ (c .before .before .before .before .before .before .before .before .before .before .before .before .before .before .before .blank .result) (c .before .before .before .before .before .before .before .before .before .before .before .before .before .before .blank2 .result) _ _ (c .before .before .before .before .before .before .before .before .before .before .before .before .before .records-of .ensures .0) (c .before .before .before .before .before .before .before .before .before .before .before .before .before .before .before .blank .ensures) (c .before .before .before .before .before .before .before .before .before .before .before .before .before .before .blank2 .ensures) (m .0) (m .1 .0) (m .1 .1 .0 ∙ search needs) (m .1 .1 .1 ∙ search needs) in
-          all-noted w (z .p) _ _ _ (c .before .before .before .before .list-four .ensures .0 w _ h marks) (c .before .list-times .ensures .0 w _ (h .times) (h .stops) (h .few)),
+          let ends = all-marked w _ _ _ _ _ _ _ _ _ _ _ h _ (blank₁ .result) (blank₂ .result) _ _ (c .before .before .before .before .before .before .before .before .before .before .before .before .before .records-of .ensures .0) (blank₁ .ensures) (blank₂ .ensures) (m .0) (m .1 .0) (m .1 .1 .0 ∙ search needs) (m .1 .1 .1 ∙ search needs) in
+          all-noted w (z .p) _ _ _ (c .before .before .before .before .list-four .ensures .0 w _ h ends) (c .before .list-times .ensures .0 w _ (h .times) (h .stops) (h .few)),
       omega arith,
     )
 

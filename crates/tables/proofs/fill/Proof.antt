@@ -1,9 +1,27 @@
 -- `tables::fill` meets its contract.
-use Rattle.tables.proofs.Turns.{first-room, walk-first, count-length}
+use Rattle.meaning.specs.Tables.{recordsOf, recordOf}
+use Rattle.meaning.specs.Columns.{places, headerOf}
+use Rattle.meaning.specs.Bytes.{linesOf}
+use Rattle.tables.specs.Walk.{tabled}
+use Rattle.tables.proofs.Turns.{first-room, walk-first}
+use Rattle.tables.proofs.Feeds.{sought-blank, parents-zeroed}
+use mathlib.Core.Path.{_≡_, refl, sym, ap, _∙_}
+use mathlib.Core.Bool.{Bool, true, false, cond}
+use mathlib.Core.List.{List, [], _∷_}
+use Prim.Native.Nat.{ℕ, suc, zero, _≤_, _<_, _-_, _+_, _*_}
 use native.Mathlib.Omega.{arith}
+use lib.ListN.{length, getD, drop, take}
+use lib.IntN.{ℤ, pos}
 use borrow.Author.Needs.{needs}
 use Rattle.tables.proofs.fill.Statement.{statement}
 use Rattle.tables.proofs.fill.Tie as tie
+use Rattle.tables.proofs.fill.Reads as reads
+use Rattle.tables.proofs.fill.Lts as lts
+use Rattle.memo.proofs.blank.Reads as blank-reads
+use Rattle.rows.proofs.cells.zero_record.Reads as zero-record-reads
+use Rattle.rows.proofs.width_of.Reads as width-of-reads
+use Rattle.tables.proofs.fill_lines.Reads as fill-lines-reads
+use Rattle.tables.proofs.read_header.Reads as read-header-reads
 
 read-header-requires : tie.Need-read-header-requires
 read-header-requires c κs = search needs
@@ -14,23 +32,37 @@ width-of-requires c κs = search needs
 zero-record-requires : tie.Need-zero-record-requires
 zero-record-requires c κs = first-room _ _ _ _ (c .before .before .before .before .before .before .pre .0 .1 .1) (c .width-of .ensures)
 
+blank-requires : tie.Need-blank-requires
+blank-requires c κs = search needs
+
+blank-requires-2 : tie.Need-blank-requires-2
+blank-requires-2 c κs = search needs
+
+slice-aggregate-fill-lines : tie.Need-slice-aggregate-fill-lines
+slice-aggregate-fill-lines c = search needs
+
+slice-aggregate-fill-lines-2 : tie.Need-slice-aggregate-fill-lines-2
+slice-aggregate-fill-lines-2 c = search needs
+
 fill-lines-requires : tie.Need-fill-lines-requires
 fill-lines-requires c κs =
-    let s = c .before .before .before .before .before .before .before .before .before .before .pre in
-    let r = s .0 .1 .1 in
-    ((s .0 .0, (s .0 .1 .0, record { lines = r .lines; size = r .size; room = omega (arith, r .room) })), (c .before .before .before .before .before .before .read-header .ensures, s .1))
+    let s = c .before .before .before .before .before .before .before .before .before .before .before .before .before .before .pre in
+    let r = s .0 .1 .1 in (
+      (s .0 .0, (s .0 .1 .0, record { lines = r .lines; few = r .few; size = r .size; room = omega (arith, r .room) })),
+      (c .before .before .before .before .before .before .before .before .before .before .read-header .ensures, (s .1 .0, sought-blank _ _ _ _ _ _ _ _ _ (s .1 .1) (c .before .before .before .before .blank .ensures) (c .before .before .before .blank2 .ensures))),
+    )
 
 same-length : tie.Need-same-length
 same-length c = search needs
 
 returns : tie.Need-returns
+unfolding recordsOf tabled
 returns c =
-    let s = c .before .before .before .before .before .before .before .before .before .before .before .before in
-    let z = c .before .before .before .before .before in
-    let l = c .before .fill-lines .ensures in (
-      (λ w refs. l .0 w (s .args .t .now) refs (walk-first _ _ _ _ _ (rw (z .before .width-of .ensures) at (z .zero-record .ensures)))),
-      (l .1, omega (arith, l .1, count-length (s .args .s .now), s .pre .0 .1 .1 .size)),
-    )
+    let s = c .before .before .before .before .before .before .before .before .before .before .before .before .before .before .before .before .before .before in
+    let z = rw (c .before .before .before .before .before .before .before .before .before .before .before .before .width-of .ensures) at (c .before .before .before .before .before .before .before .before .before .before .before .zero-record .ensures) in
+    λ w refs parents.
+    c .before .before .before .fill-lines .ensures w (s .args .t .now) refs (parents-zeroed _ w _ _ _ z parents)
+    (walk-first (s .args .f) (recordOf (s .args .f) w (places (s .args .f) (headerOf (linesOf (s .args .s .now))))) (s .args .s .now) _ _ z)
 
 pub fill-spec : {M : Type 1} → statement M
 fill-spec =
@@ -39,6 +71,10 @@ fill-spec =
     read-header-requires
     width-of-requires
     zero-record-requires
+    blank-requires
+    blank-requires-2
+    slice-aggregate-fill-lines
+    slice-aggregate-fill-lines-2
     fill-lines-requires
     same-length
     returns)

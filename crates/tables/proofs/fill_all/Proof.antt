@@ -1,74 +1,110 @@
 -- `tables::fill_all` meets its contract.
-use Rattle.meaning.specs.Tables.{feedOf}
-use Rattle.tables.proofs.Feeds.{refers-trips, refers-times, feed-stops, feed-routes, feed-calendar, feed-trips}
-use Rattle.tables.proofs.Written.{walked-filled}
-use mathlib.Core.Path.{_∙_}
-use mathlib.Core.List.{[], _∷_}
+use Rattle.meaning.specs.Tables.{feedOf, widths, widthOf}
+use Rattle.tables.proofs.Feeds.{ordered-index, ordered-lists, ordered-room, settled-index, settled-lists, settled-room, settled-past, settled-parents, indexed-trips, indexed-times, refers-trips, refers-times, stop-ids, route-ids, service-ids, trip-ids}
+use Rattle.tables.proofs.SecondWalk.{filled-beyond}
+use mathlib.Core.Path.{_≡_, refl, sym, ap, _∙_}
+use mathlib.Core.Bool.{Bool, true, false, cond}
+use mathlib.Core.List.{List, [], _∷_}
+use Prim.Native.Nat.{ℕ, suc, zero, _≤_, _<_, _-_, _+_, _*_}
 use native.Mathlib.Omega.{arith}
+use lib.ListN.{length, getD, drop, take}
+use lib.IntN.{ℤ, pos}
 use borrow.Author.Needs.{needs}
 use Rattle.tables.proofs.fill_all.Statement.{statement}
 use Rattle.tables.proofs.fill_all.Tie as tie
+use Rattle.tables.proofs.fill_all.Reads as reads
+use Rattle.tables.proofs.fill_all.Lts as lts
+use Rattle.tables.proofs.fill.Reads as fill-reads
+use Rattle.tables.proofs.fill_alone.Reads as fill-alone-reads
+use Rattle.tables.proofs.order_all.Reads as order-all-reads
+use Rattle.tables.proofs.parents.settle_parents.Reads as settle-parents-reads
 
-fill-stops-requires : tie.Need-fill-stops-requires
-fill-stops-requires c κs = search needs
+order-all-requires : tie.Need-order-all-requires
+order-all-requires c κs = let s = c .before .before .before .before .before .before .before .before .before .before .before .pre in ((s .0, (s .1 .0, (s .1 .1 .0, s .1 .1 .1 .0))), s .1 .1 .1 .1 .1)
 
-fill-alone-requires : tie.Need-fill-alone-requires
-fill-alone-requires c κs = search needs
-
-fill-alone-requires-2 : tie.Need-fill-alone-requires-2
-fill-alone-requires-2 c κs = search needs
+settle-parents-requires : tie.Need-settle-parents-requires
+unfolding widthOf widths
+settle-parents-requires c κs =
+    let s = c .before .before .before .before .before .before .before .before .before .before .before .before .before .before .before .before .before .before .before .pre in
+    let o = c .before .before .before .before .before .before .before .order-all .ensures .0 in
+    let i = ordered-index 1 _ _ _ _ o in
+    (i .0, (i .1, omega (arith, o .count, s .0 .few)))
 
 fill-requires : tie.Need-fill-requires
-fill-requires c κs = search needs
+unfolding widthOf widths
+fill-requires c κs =
+    let s = c .before .before .before .before .before .before .before .before .before .before .before .before .before .before .before .before .before .before .before .before .before .before .before .before .pre in
+    let o = c .before .before .before .before .before .before .before .before .before .before .before .before .order-all .ensures in
+    ((omega arith, (omega arith, s .1 .1 .1 .1 .0)), ((omega (arith, o .1 .1 .1 .0 .count, s .1 .1 .1 .0 .few), omega (arith, o .0 .count, s .0 .few)), indexed-times _ _ _ _ _ _ (ordered-index 4 _ _ _ _ (o .1 .1 .1 .0)) (settled-index _ _ _ _ _ (o .0) (c .before .before .before .before .settle-parents .ensures))))
 
 fill-requires-2 : tie.Need-fill-requires-2
+unfolding widthOf widths
 fill-requires-2 c κs =
-    let s = c .before .before .before .before .before .before .before .before .before .before .before .before .before .before .before .before .before .before .before .before .before .before .pre in
-    ((omega arith, (omega arith, s .1 .1 .1 .1)), (c .before .before .before .before .fill .ensures .1 .1, c .before .before .before .before .before .before .before .before .before .before .before .before .before .before .before .fill-stops .ensures .1 .1))
+    let s = c .before .before .before .before .before .before .before .before .before .before .before .before .before .before .before .before .before .before .before .before .before .before .before .before .before .before .before .before .before .pre in
+    let o = c .before .before .before .before .before .before .before .before .before .before .before .before .before .before .before .before .before .order-all .ensures in
+    ((omega arith, (omega arith, ordered-room 4 _ _ _ _ (o .1 .1 .1 .0) (s .1 .1 .1 .0))), ((omega (arith, o .1 .0 .count, s .1 .0 .few), omega (arith, o .1 .1 .0 .count, s .1 .1 .0 .few)), indexed-trips _ _ _ _ _ _ (ordered-index 2 _ _ _ _ (o .1 .0)) (ordered-index 3 _ _ _ _ (o .1 .1 .0))))
+
+fill-alone-requires : tie.Need-fill-alone-requires
+fill-alone-requires c κs = let s = c .before .before .before .before .before .before .before .before .before .before .before .before .before .before .before .before .before .before .before .before .before .before .before .before .before .before .before .before .before .before .before .before .pre in let o = c .before .before .before .before .before .before .before .before .before .before .before .before .before .before .before .before .before .before .before .before .order-all .ensures in (omega arith, (omega arith, ordered-room 3 _ _ _ _ (o .1 .1 .0) (s .1 .1 .0)))
+
+fill-alone-requires-2 : tie.Need-fill-alone-requires-2
+fill-alone-requires-2 c κs = let s = c .before .before .before .before .before .before .before .before .before .before .before .before .before .before .before .before .before .before .before .before .before .before .before .before .before .before .before .before .before .before .before .before .before .before .before .pre in let o = c .before .before .before .before .before .before .before .before .before .before .before .before .before .before .before .before .before .before .before .before .before .before .before .order-all .ensures in (omega arith, (omega arith, ordered-room 2 _ _ _ _ (o .1 .0) (s .1 .0)))
+
+fill-alone-requires-3 : tie.Need-fill-alone-requires-3
+fill-alone-requires-3 c κs = let s = c .before .before .before .before .before .before .before .before .before .before .before .before .before .before .before .before .before .before .before .before .before .before .before .before .before .before .before .before .before .before .before .before .before .before .before .before .before .before .pre in let o = c .before .before .before .before .before .before .before .before .before .before .before .before .before .before .before .before .before .before .before .before .before .before .before .before .before .before .order-all .ensures in (omega arith, (omega arith, settled-room _ _ _ _ _ (o .0) (c .before .before .before .before .before .before .before .before .before .before .before .before .before .before .before .before .before .before .settle-parents .ensures) (s .0)))
 
 same-length : tie.Need-same-length
-same-length c = search needs
+same-length c = c .before .fill-alone3 .kept .1 .1 .0 ∙ c .before .before .before .before .before .before .before .before .before .before .before .before .before .before .before .before .before .before .before .before .settle-parents .kept .1 .1 .0 ∙ c .before .before .before .before .before .before .before .before .before .before .before .before .before .before .before .before .before .before .before .before .before .before .before .before .before .before .before .before .order-all .kept .1 .1 .1 .1 .0
 
 same-length-2 : tie.Need-same-length-2
-same-length-2 c = search needs
+same-length-2 c = c .before .before .before .before .fill-alone2 .kept .1 .1 .0 ∙ c .before .before .before .before .before .before .before .before .before .before .before .before .before .before .before .before .before .before .before .before .before .before .before .before .before .before .before .before .order-all .kept .1 .1 .1 .1 .1 .0
 
 same-length-3 : tie.Need-same-length-3
-same-length-3 c = search needs
+same-length-3 c = c .before .before .before .before .before .before .before .fill-alone .kept .1 .1 .0 ∙ c .before .before .before .before .before .before .before .before .before .before .before .before .before .before .before .before .before .before .before .before .before .before .before .before .before .before .before .before .order-all .kept .1 .1 .1 .1 .1 .1 .0
 
 same-length-4 : tie.Need-same-length-4
-same-length-4 c = search needs
+same-length-4 c = c .before .before .before .before .before .before .before .before .before .before .fill2 .kept .1 .1 .0 ∙ c .before .before .before .before .before .before .before .before .before .before .before .before .before .before .before .before .before .before .before .before .before .before .before .before .before .before .before .before .order-all .kept .1 .1 .1 .1 .1 .1 .1 .0
 
 same-length-5 : tie.Need-same-length-5
 same-length-5 c = search needs
 
+same-length-6 : tie.Need-same-length-6
+same-length-6 c = search needs
+
 returns : tie.Need-returns
+unfolding widthOf widths
 returns c =
-    let s = c .before .before .before .before .before .before .before .before .before .before .before .before .before .before .before .before .before .before .before .before .before .before .before .before in
+    let s = c .before .before .before .before .before .before .before .before .before .before .before .before .before .before .before .before .before .before .before .before .before .before .before .before .before .before .before .before .before .before .before .before .before .before .before .before .before .before .before .before in
     let a = s .args in
     let w = feedOf (a .stops .now ∷ a .routes .now ∷ a .calendar .now ∷ a .trips .now ∷ a .stop-times .now ∷ []) in
-    let f1 = c .before .before .before .before .before .before .before .before .before .before .before .before .before .before .before .before .before .fill-stops .ensures in
-    let f2 = c .before .before .before .before .before .before .before .before .before .before .before .before .before .before .fill-alone .ensures in
-    let f3 = c .before .before .before .before .before .before .before .before .before .before .before .fill-alone2 .ensures in
-    let f4 = c .before .before .before .before .before .before .fill .ensures in
-    let stops = f1 .0 w (feed-stops _ _ _ _ _) in
-    let routes = f2 .0 w ∙ walked-filled 2 (omega arith) w _ _ in
-    let calendar = f3 .0 w ∙ walked-filled 3 (omega arith) w _ _ in
-    let trips = f4 .0 w (refers-trips w _ _ _ _ _ _ _ _ (s .pre .1 .0 .lines) (s .pre .1 .1 .0 .lines) (f2 .1 .0) (f3 .1 .0) (feed-routes _ _ _ _ _) routes (feed-calendar _ _ _ _ _) calendar) ∙ walked-filled 4 (omega arith) w _ _ in
-    let times = c .before .fill2 .ensures .0 w (refers-times w _ _ _ _ _ _ _ _ (s .pre .1 .1 .1 .0 .lines) (s .pre .0 .lines) (f4 .1 .0) (f1 .1 .0) (feed-trips _ _ _ _ _) trips (feed-stops _ _ _ _ _) stops) ∙ walked-filled 5 (omega arith) w _ _ in
-    (stops, (routes, (calendar, (trips, times))))
+    let o = c .before .before .before .before .before .before .before .before .before .before .before .before .before .before .before .before .before .before .before .before .before .before .before .before .before .before .before .before .order-all .ensures in
+    let p = c .before .before .before .before .before .before .before .before .before .before .before .before .before .before .before .before .before .before .before .before .settle-parents .ensures in
+    let e1 = stop-ids (a .stops .now) (a .routes .now) (a .calendar .now) (a .trips .now) (a .stop-times .now) in
+    let e2 = route-ids (a .stops .now) (a .routes .now) (a .calendar .now) (a .trips .now) (a .stop-times .now) in
+    let e3 = service-ids (a .stops .now) (a .routes .now) (a .calendar .now) (a .trips .now) (a .stop-times .now) in
+    let e4 = trip-ids (a .stops .now) (a .routes .now) (a .calendar .now) (a .trips .now) (a .stop-times .now) in
+    let times = c .before .before .before .before .before .before .before .before .before .before .before .before .before .before .before .fill .ensures w (refers-times w _ _ _ _ _ _ (ordered-lists 4 _ _ _ _ (o .1 .1 .1 .0) _ e4) (settled-lists _ _ _ _ _ (o .0) p _ e1)) (λ p. absurd (omega arith)) in
+    let trips = c .before .before .before .before .before .before .before .before .before .before .fill2 .ensures w (refers-trips w _ _ _ _ _ _ (ordered-lists 2 _ _ _ _ (o .1 .0) _ e2) (ordered-lists 3 _ _ _ _ (o .1 .1 .0) _ e3)) (λ p. absurd (omega arith)) ∙ filled-beyond 4 (omega arith) (omega arith) w _ (s .pre .1 .1 .1 .0 .lines) _ _ (o .1 .1 .1 .0 .beyond) in
+    let calendar = c .before .before .before .before .before .before .before .fill-alone .ensures w (λ p. absurd (omega arith)) ∙ filled-beyond 3 (omega arith) (omega arith) w _ (s .pre .1 .1 .0 .lines) _ _ (o .1 .1 .0 .beyond) in
+    let routes = c .before .before .before .before .fill-alone2 .ensures w (λ p. absurd (omega arith)) ∙ filled-beyond 2 (omega arith) (omega arith) w _ (s .pre .1 .0 .lines) _ _ (o .1 .0 .beyond) in
+    let stops = c .before .fill-alone3 .ensures w (settled-parents _ _ _ _ _ (o .0) p w e1) ∙ filled-beyond 1 (omega arith) (omega arith) w _ (s .pre .0 .lines) _ _ (settled-past _ _ _ _ _ (o .0) p) in
+    (stops, (routes, (calendar, (trips, (times, o .1 .1 .1 .1 (a .stop-times .now))))))
 
 pub fill-all-spec : {M : Type 1} → statement M
 fill-all-spec =
     tie.close
     (tie.spec
-    fill-stops-requires
-    fill-alone-requires
-    fill-alone-requires-2
+    order-all-requires
+    settle-parents-requires
     fill-requires
     fill-requires-2
+    fill-alone-requires
+    fill-alone-requires-2
+    fill-alone-requires-3
     same-length
     same-length-2
     same-length-3
     same-length-4
     same-length-5
+    same-length-6
     returns)

@@ -1,8 +1,18 @@
 -- `tables::fill_alone` meets its contract.
-use Rattle.tables.proofs.Feeds.{refers-none}
+use Rattle.tables.proofs.Feeds.{refers-none, indexed-none}
+use mathlib.Core.Path.{_≡_, refl, sym, ap, _∙_}
+use mathlib.Core.Bool.{Bool, true, false, cond}
+use mathlib.Core.List.{List, [], _∷_}
+use Prim.Native.Nat.{ℕ, suc, zero, _≤_, _<_, _-_, _+_, _*_}
+use native.Mathlib.Omega.{arith}
+use lib.ListN.{length, getD, drop, take}
+use lib.IntN.{ℤ, pos}
 use borrow.Author.Needs.{needs}
 use Rattle.tables.proofs.fill_alone.Statement.{statement}
 use Rattle.tables.proofs.fill_alone.Tie as tie
+use Rattle.tables.proofs.fill_alone.Reads as reads
+use Rattle.tables.proofs.fill_alone.Lts as lts
+use Rattle.tables.proofs.fill.Reads as fill-reads
 
 slice-aggregate-fill : tie.Need-slice-aggregate-fill
 slice-aggregate-fill c = search needs
@@ -11,15 +21,15 @@ slice-aggregate-fill-2 : tie.Need-slice-aggregate-fill-2
 slice-aggregate-fill-2 c = search needs
 
 fill-requires : tie.Need-fill-requires
-fill-requires c κs = search needs
+fill-requires c κs =
+    let s = c .before .before .before .before .pre in
+    ((s .0, (omega (arith, s .1 .0), s .1 .1)), ((omega arith, omega arith), indexed-none _ _ _ _ _ _ _ (s .1 .0)))
 
 same-length : tie.Need-same-length
 same-length c = search needs
 
 returns : tie.Need-returns
-returns c =
-    let s = c .before .before .before .before .before .before .pre in
-    (λ w. c .before .fill .ensures .0 w (refers-none _ w _ _ _ _ _ _ (s .1 .0)), c .before .fill .ensures .1)
+returns c = let s = c .before .before .before .before .before .before .pre in λ w parents. c .before .fill .ensures w (refers-none _ _ _ _ _ _ _ (s .1 .0) w) parents
 
 pub fill-alone-spec : {M : Type 1} → statement M
 fill-alone-spec =

@@ -2,31 +2,38 @@
 use Rattle.meaning.specs.Lists.{flat, laid}
 use Rattle.meaning.specs.Bytes.{part, countLf, linesFrom, linesOf}
 use Rattle.meaning.specs.Columns.{places, headerOf}
-use Rattle.meaning.specs.Tables.{Feed, widthOf}
+use Rattle.meaning.specs.Tables.{Feed, widthOf, recordOf, recordsOf, filled}
 use Rattle.text.proofs.Lines.{line-found, line-none}
 use Rattle.text.proofs.Walk.{line-next}
-use Rattle.tables.specs.Fill.{Refers}
-use Rattle.tables.specs.Walk.{written, walkedOf}
-use Rattle.tables.proofs.Turns.{two-wide, walk-inside, walk-room, walk-count, walk-size, walk-turn, walk-past, walk-end}
-use Rattle.tables.proofs.Written.{written-wide}
-use lib.IntN.{ℤ}
-use mathlib.Core.Path.{_≡_, refl, sym, _∙_}
-use mathlib.Core.List.{List}
-use Prim.Native.Nat.{_≤_, _-_}
+use Rattle.rows.proofs.Records.{record-wide}
+use Rattle.tables.specs.Fill.{Refers, Sought}
+use Rattle.tables.specs.Walk.{tabled, Parents}
+use Rattle.tables.proofs.Turns.{two-wide, walk-inside, walk-room, walk-count, walk-size, walk-turn, walk-end}
+use Rattle.tables.proofs.Ids.{row-here}
+use Rattle.tables.proofs.SecondWalk.{parent-here}
+use mathlib.Core.Path.{_≡_, refl, sym, ap, _∙_}
+use mathlib.Core.Bool.{Bool, true, false, cond}
+use mathlib.Core.List.{List, [], _∷_}
+use Prim.Native.Nat.{ℕ, suc, zero, _≤_, _<_, _-_, _+_, _*_}
 use native.Mathlib.Omega.{arith}
-use lib.ListN.{length, drop, take}
+use lib.ListN.{length, getD, drop, take}
+use lib.IntN.{ℤ, pos}
 use borrow.Author.Needs.{needs}
 use Rattle.tables.proofs.fill_lines.Statement.{statement}
 use Rattle.tables.proofs.fill_lines.Tie as tie
+use Rattle.tables.proofs.fill_lines.Reads as reads
+use Rattle.tables.proofs.fill_lines.Lts as lts
+use Rattle.tables.proofs.records.put_record.Reads as put-record-reads
+use Rattle.text.proofs.next_line.Reads as next-line-reads
 
 abbrev Inv-loop : tie.InvT-loop
-Inv-loop f s at known t₀ a a-table a-count b b-table b-count here₀ r₀ t here r = ((1 ≤ r) × (r ≤ countLf s)) × ((linesFrom s here ≡ drop r (linesOf s)) × ((length t ≡ length t₀) × ((w : Feed) (lent : List ℤ) → Refers f w a a-table a-count b b-table b-count → t₀ ≡ laid (flat (take 1 (walkedOf f w s))) lent → t ≡ laid (flat (take r (walkedOf f w s))) lent)))
+Inv-loop f s at known t₀ a a-table a-count a-memo₀ b b-table b-count b-memo₀ here₀ r₀ t a-memo b-memo here r = ((1 ≤ r) × (r ≤ countLf s)) × ((linesFrom s here ≡ drop r (linesOf s)) × (((length t ≡ length t₀) × ((length a-memo ≡ length a-memo₀) × (length b-memo ≡ length b-memo₀))) × (Sought f a a-table a-count a-memo b b-table b-count b-memo × ((w : Feed) (lent : List ℤ) → Refers f w a a-table a-count b b-table b-count → Parents f w s t₀ → t₀ ≡ laid (flat (take 1 (recordsOf f w s))) lent → t ≡ laid (flat (take r (recordsOf f w s))) lent))))
 
 abbrev μ-loop : tie.MeasureT-loop
-μ-loop f s at known t₀ a a-table a-count b b-table b-count here₀ r₀ t here r = length s - here
+μ-loop f s at known t₀ a a-table a-count a-memo₀ b b-table b-count b-memo₀ here₀ r₀ t a-memo b-memo here r = length s - here
 
 loop-holds : tie.Need-loop-holds Inv-loop μ-loop
-loop-holds c = ((omega arith, c .before .before .before .pre .0 .1 .1 .lines), (c .before .before .before .pre .1 .0 .after, (refl, λ w lent refs e. e)))
+loop-holds c = ((omega arith, c .before .before .before .before .before .pre .0 .1 .1 .lines), (c .before .before .before .before .before .pre .1 .0 .after, ((refl, (refl, refl)), (c .before .before .before .before .before .pre .1 .1 .1, λ w lent refs parents e. e))))
 
 next-line-requires : tie.Need-next-line-requires Inv-loop μ-loop
 next-line-requires c κs = search needs
@@ -35,7 +42,7 @@ enum-known-start : tie.Need-enum-known-start Inv-loop μ-loop
 enum-known-start c = search needs
 
 sub-put-record : tie.Need-sub-put-record Inv-loop μ-loop
-sub-put-record c = (line-found _ _ _ _ _ (sym (c .before .before .before .next-line .ensures) ∙ c .before .start .given .1)) .ordered
+sub-put-record c = line-found _ _ _ _ _ (sym (c .before .before .before .next-line .ensures) ∙ c .before .start .given .1) .ordered
 
 part-put-record-start : tie.Need-part-put-record-start Inv-loop μ-loop
 part-put-record-start c = let h = line-found _ _ _ _ _ (sym (c .before .before .before .next-line .ensures) ∙ c .before .start .given .1) in omega (arith, h .ordered)
@@ -46,39 +53,46 @@ part-put-record-end c = let h = line-found _ _ _ _ _ (sym (c .before .before .be
 put-record-requires : tie.Need-put-record-requires Inv-loop μ-loop
 unfolding part
 put-record-requires c κs =
-    let s = c .before .before .before .before .before .before .before .before .before .before in
-    let l = c .before .before .before .before .before .before .loop in
-    let h = line-found _ _ _ _ _ (sym (c .before .before .before .before .before .next-line .ensures) ∙ c .before .before .before .start .given .1) in (
+    let s = c .before .before .before .before .before .before .before .before .before .before .before .before .before .before in
+    let l = c .before .before .before .before .before .before .before .before .loop in
+    let h = line-found _ _ _ _ _ (sym (c .before .before .before .before .before .before .before .next-line .ensures) ∙ c .before .before .before .before .before .start .given .1) in (
       (s .pre .0 .0, (s .pre .0 .1 .0, walk-size (s .args .s .now) (l .here) (l .r) (l .inv .1 .0) _ _ _ h _ (s .pre .0 .1 .1 .size))),
-      (rw (← l .inv .1 .1 .0) at (walk-room (s .args .s .now) (l .here) (l .r) (l .inv .1 .0) _ _ _ h _ _ (s .pre .0 .1 .1 .room)), s .pre .1 .1),
+      (rw (← l .inv .1 .1 .0 .0) at (walk-room (s .args .s .now) (l .here) (l .r) (l .inv .1 .0) _ _ _ h _ _ (s .pre .0 .1 .1 .room)), (s .pre .1 .1 .0, l .inv .1 .1 .1 .0)),
     )
 
 add-r : tie.Need-add-r Inv-loop μ-loop
 add-r c =
-    let s = c .before .before .before .before .before .before .before .before .before .before .before .before in
-    let l = c .before .before .before .before .before .before .before .before .loop in
-    let h = line-found _ _ _ _ _ (sym (c .before .before .before .before .before .before .before .next-line .ensures) ∙ c .before .before .before .before .before .start .given .1) in
+    let s = c .before .before .before .before .before .before .before .before .before .before .before .before .before .before .before .before .before .before .before .before in
+    let l = c .before .before .before .before .before .before .before .before .before .before .before .before .before .before .loop in
+    let h = line-found _ _ _ _ _ (sym (c .before .before .before .before .before .before .before .before .before .before .before .before .before .next-line .ensures) ∙ c .before .before .before .before .before .before .before .before .before .before .before .start .given .1) in
     omega (arith, walk-count (s .args .s .now) (l .here) (l .r) (l .inv .1 .0) _ _ _ h (widthOf (s .args .f)) _ (omega (arith, two-wide (s .args .f) (s .pre .0 .0) (s .pre .0 .1 .0))) (s .pre .0 .1 .1 .room))
 
 loop-less : tie.Need-loop-less Inv-loop μ-loop
-loop-less c =
-    let h = line-found _ _ _ _ _ (sym (c .before .before .before .before .before .before .before .next-line .ensures) ∙ c .before .before .before .before .before .start .given .1) in
-    omega (arith, h .starts, h .ordered, h .before, h .within)
+loop-less c = let h = line-found _ _ _ _ _ (sym (c .before .before .before .before .before .before .before .before .before .before .before .before .before .next-line .ensures) ∙ c .before .before .before .before .before .before .before .before .before .before .before .start .given .1) in omega (arith, h .starts, h .ordered, h .before, h .within)
 
 loop-again : tie.Need-loop-again Inv-loop μ-loop
-unfolding part
+unfolding part recordsOf tabled
 loop-again c =
-    let s = c .before .before .before .before .before .before .before .before .before .before .before .before in
-    let l = c .before .before .before .before .before .before .before .before .loop in
-    let h = line-found _ _ _ _ _ (sym (c .before .before .before .before .before .before .before .next-line .ensures) ∙ c .before .before .before .before .before .start .given .1) in (
-      (omega arith, omega (arith, walk-inside (s .args .s .now) (l .here) (l .r) (l .inv .1 .0) _ _ _ h)),
+    let s = c .before .before .before .before .before .before .before .before .before .before .before .before .before .before .before .before .before .before .before .before in
+    let l = c .before .before .before .before .before .before .before .before .before .before .before .before .before .before .loop in
+    let f = s .args .f in
+    let text = s .args .s .now in
+    let h = line-found _ _ _ _ _ (sym (c .before .before .before .before .before .before .before .before .before .before .before .before .before .next-line .ensures) ∙ c .before .before .before .before .before .before .before .before .before .before .before .start .given .1) in
+    let p = c .before .before .before .before .before .put-record .ensures in
+    let inside = walk-inside text (l .here) (l .r) (l .inv .1 .0) _ _ _ h in (
+      (omega arith, omega (arith, inside)),
       (
-        line-next (s .args .s .now) _ (l .here) (l .r) (l .inv .1 .0) _ _ _ h,
+        line-next text _ (l .here) (l .r) (l .inv .1 .0) _ _ _ h,
         (
-          omega arith,
-          λ w lent refs e.
-              let g = written (s .args .f) w (places (s .args .f) (headerOf (linesOf (s .args .s .now)))) in
-              walk-turn (s .args .s .now) (l .here) (l .r) (l .inv .1 .0) _ _ _ h (s .args .f) g (written-wide (s .args .f) (s .pre .0 .0) (s .pre .0 .1 .0) w _) _ _ lent (l .inv .0 .0) (l .inv .1 .1 .1 w lent refs e) (c .before .put-record .ensures w _ (s .pre .1 .0 .columns) refs),
+          (omega arith, (c .before .before .before .before .before .put-record .kept .1 .1 .1 .1 .1 .1 .1 .1 .1 .0 ∙ l .inv .1 .1 .0 .1 .0, c .before .before .before .before .before .put-record .kept .1 .1 .1 .1 .1 .1 .1 .1 .1 .1 .1 .1 .1 .0 ∙ l .inv .1 .1 .0 .1 .1)),
+          (
+            p .1,
+            λ w lent refs parents e.
+                let is = l .inv .1 .1 .1 .1 w lent refs parents e in
+                let row = row-here f text (l .here) (l .r) (l .inv .1 .0) _ _ _ h (l .inv .0 .0) in
+                walk-turn text (l .here) (l .r) (l .inv .1 .0) _ _ _ h f (recordOf f w (places f (headerOf (linesOf text)))) (λ x. record-wide f w _ x (s .pre .0 .0) (omega (arith, s .pre .0 .1 .0))) _ _ lent (l .inv .0 .0) is
+                (p .0 w _ (s .pre .1 .0 .columns) refs (parent-here f (s .pre .0 .0) (s .pre .0 .1 .0) w text (s .pre .0 .1 .1 .lines) lent _ _ (l .r) _ is e parents (l .inv .0 .0) inside row)),
+          ),
         ),
       ),
     )
@@ -87,18 +101,23 @@ enum-told : tie.Need-enum-told Inv-loop μ-loop
 enum-told c = search needs
 
 same-length : tie.Need-same-length Inv-loop μ-loop
-same-length c = c .before .before .before .loop .inv .1 .1 .0
+same-length c = c .before .before .before .loop .inv .1 .1 .0 .0
+
+same-length-2 : tie.Need-same-length-2 Inv-loop μ-loop
+same-length-2 c = c .before .before .before .loop .inv .1 .1 .0 .1 .0
+
+same-length-3 : tie.Need-same-length-3 Inv-loop μ-loop
+same-length-3 c = c .before .before .before .loop .inv .1 .1 .0 .1 .1
 
 returns : tie.Need-returns Inv-loop μ-loop
+unfolding recordsOf tabled filled
 returns c =
-    let s = c .before .before .before .before .before .before .before in
+    let s = c .before .before .before .before .before .before .before .before .before in
     let l = c .before .before .before .loop in
-    let none = line-none _ _ (sym (c .before .before .next-line .ensures) ∙ c .enum-told .given .1) in (
-      (λ w lent refs e.
-          let g = written (s .args .f) w (places (s .args .f) (headerOf (linesOf (s .args .s .now)))) in
-          walk-end (s .args .s .now) (l .here) (l .r) (l .inv .1 .0) (s .args .f) g (written-wide (s .args .f) (s .pre .0 .0) (s .pre .0 .1 .0) w _) _ lent (s .pre .0 .1 .1 .lines) none (l .inv .1 .1 .1 w lent refs e)),
-      omega (arith, walk-past (s .args .s .now) (l .here) (l .r) (l .inv .1 .0) none, l .inv .0 .1),
-    )
+    let f = s .args .f in
+    let none = line-none _ _ (sym (c .before .before .next-line .ensures) ∙ c .enum-told .given .1) in
+    λ w lent refs parents e.
+    walk-end (s .args .s .now) (l .here) (l .r) (l .inv .1 .0) f (recordOf f w (places f (headerOf (linesOf (s .args .s .now))))) (λ x. record-wide f w _ x (s .pre .0 .0) (omega (arith, s .pre .0 .1 .0))) _ lent (s .pre .0 .1 .1 .lines) none (l .inv .1 .1 .1 .1 w lent refs parents e)
 
 pub fill-lines-spec : {M : Type 1} → statement M
 fill-lines-spec =
@@ -118,4 +137,6 @@ fill-lines-spec =
     loop-again
     enum-told
     same-length
+    same-length-2
+    same-length-3
     returns)

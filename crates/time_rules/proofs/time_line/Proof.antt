@@ -41,11 +41,11 @@ judge-time-requires c κs = search needs
 
 returns : tie.Need-returns
 returns c w s from sb x h says n m =
-    let z = c .before .before .before .before .before .before .before .before .before .before .args in
-    let g = c .before .before .before .before .record-at .ensures in
+    let z = c .before .before .before .before .before .before .before .before .before .before .before .before .args in
+    let g = c .before .before .before .before .before .before .record-at .ensures in
     line-judged w s from (z .at) (z .t .now) sb (z .stops .now) x (z .i) h (z .l .now) says _ _ _ _ _ _ _ _ _ _ _ _ _ n m (record {
-      no-trip = c .before .before .before .before .before .before .before .is-empty-value .ensures ∙ ap empty (field-value _ _ _ (c .before .before .before .before .before .before .before .before .field .ensures));
-      no-stop = c .before .before .before .before .before .is-empty-value2 .ensures ∙ ap empty (field-value _ _ _ (c .before .before .before .before .before .before .field2 .ensures));
+      no-trip = c .before .before .before .before .before .before .before .before .before .is-empty-value .ensures ∙ ap empty (field-value _ _ _ (c .before .before .before .before .before .before .before .before .before .before .field .ensures));
+      no-stop = c .before .before .before .before .before .before .before .is-empty-value2 .ensures ∙ ap empty (field-value _ _ _ (c .before .before .before .before .before .before .before .before .field2 .ensures));
       trips = g .0;
       halts = g .1 .0;
       sequences = g .1 .1 .0;

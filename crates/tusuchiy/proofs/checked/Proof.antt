@@ -1,41 +1,29 @@
 -- `tusuchiy::checked` meets its contract.
 use Rattle.tusuchiy.proofs.Bounds.{small-findings}
-use Rattle.tusuchiy.proofs.Laws.{stops-kept, routes-kept, calendar-kept, trips-kept, times-kept, tabled, outcome-read}
+use Rattle.tusuchiy.proofs.Laws.{rooms-kept, few-kept, tabled, outcome-read}
 use borrow.Author.Needs.{needs}
 use Rattle.tusuchiy.proofs.checked.Statement.{statement}
 use Rattle.tusuchiy.proofs.checked.Tie as tie
 
+blank-requires : tie.Need-blank-requires
+blank-requires c κs = search needs
+
+slice-aggregate-fill-all : tie.Need-slice-aggregate-fill-all
+slice-aggregate-fill-all c = search needs
+
 fill-all-requires : tie.Need-fill-all-requires
 fill-all-requires c κs =
-    let z = c .before .before .before .before .before .before .before .before .before .before in (
-      stops-kept (z .args .stops .now) (z .args .routes .now) (z .args .calendar .now) (z .args .trips .now) (z .args .stop-times .now) (z .args .stops-table .now) (z .args .routes-table .now) (z .args .calendar-table .now) (z .args .trips-table .now) (z .args .stop-times-table .now) (z .pre) .room,
-      (
-        routes-kept (z .args .stops .now) (z .args .routes .now) (z .args .calendar .now) (z .args .trips .now) (z .args .stop-times .now) (z .args .stops-table .now) (z .args .routes-table .now) (z .args .calendar-table .now) (z .args .trips-table .now) (z .args .stop-times-table .now) (z .pre) .room,
-        (
-          calendar-kept (z .args .stops .now) (z .args .routes .now) (z .args .calendar .now) (z .args .trips .now) (z .args .stop-times .now) (z .args .stops-table .now) (z .args .routes-table .now) (z .args .calendar-table .now) (z .args .trips-table .now) (z .args .stop-times-table .now) (z .pre) .room,
-          (
-            trips-kept (z .args .stops .now) (z .args .routes .now) (z .args .calendar .now) (z .args .trips .now) (z .args .stop-times .now) (z .args .stops-table .now) (z .args .routes-table .now) (z .args .calendar-table .now) (z .args .trips-table .now) (z .args .stop-times-table .now) (z .pre) .room,
-            times-kept (z .args .stops .now) (z .args .routes .now) (z .args .calendar .now) (z .args .trips .now) (z .args .stop-times .now) (z .args .stops-table .now) (z .args .routes-table .now) (z .args .calendar-table .now) (z .args .trips-table .now) (z .args .stop-times-table .now) (z .pre) .room,
-          ),
-        ),
-      ),
-    )
+    let z = c .before .before .before .before .before .before .before .before .before .before .before .before in
+    let r = rooms-kept (z .args .stops .now) (z .args .routes .now) (z .args .calendar .now) (z .args .trips .now) (z .args .stop-times .now) (z .args .stops-table .now) (z .args .routes-table .now) (z .args .calendar-table .now) (z .args .trips-table .now) (z .args .stop-times-table .now) (z .pre) in
+    (r .0, (r .1 .0, (r .1 .1 .0, (r .1 .1 .1 .0, (r .1 .1 .1 .1, (c .before .before .before .before .before .before .blank .ensures, search needs))))))
+
+slice-aggregate-list-findings : tie.Need-slice-aggregate-list-findings
+slice-aggregate-list-findings c = search needs
 
 list-findings-requires : tie.Need-list-findings-requires
 list-findings-requires c κs =
-    let z = c .before .before .before .before .before .before .before .before .before .before .before .before .before .before .before .before .before .before .before .before .before .before in (
-      stops-kept (z .args .stops .now) (z .args .routes .now) (z .args .calendar .now) (z .args .trips .now) (z .args .stop-times .now) (z .args .stops-table .now) (z .args .routes-table .now) (z .args .calendar-table .now) (z .args .trips-table .now) (z .args .stop-times-table .now) (z .pre) .few,
-      (
-        routes-kept (z .args .stops .now) (z .args .routes .now) (z .args .calendar .now) (z .args .trips .now) (z .args .stop-times .now) (z .args .stops-table .now) (z .args .routes-table .now) (z .args .calendar-table .now) (z .args .trips-table .now) (z .args .stop-times-table .now) (z .pre) .few,
-        (
-          calendar-kept (z .args .stops .now) (z .args .routes .now) (z .args .calendar .now) (z .args .trips .now) (z .args .stop-times .now) (z .args .stops-table .now) (z .args .routes-table .now) (z .args .calendar-table .now) (z .args .trips-table .now) (z .args .stop-times-table .now) (z .pre) .few,
-          (
-            trips-kept (z .args .stops .now) (z .args .routes .now) (z .args .calendar .now) (z .args .trips .now) (z .args .stop-times .now) (z .args .stops-table .now) (z .args .routes-table .now) (z .args .calendar-table .now) (z .args .trips-table .now) (z .args .stop-times-table .now) (z .pre) .few,
-            times-kept (z .args .stops .now) (z .args .routes .now) (z .args .calendar .now) (z .args .trips .now) (z .args .stop-times .now) (z .args .stops-table .now) (z .args .routes-table .now) (z .args .calendar-table .now) (z .args .trips-table .now) (z .args .stop-times-table .now) (z .pre) .few,
-          ),
-        ),
-      ),
-    )
+    let z = c .before .before .before .before .before .before .before .before .before .before .before .before .before .before .before .before .before .before .before .before .before .before .before .before .before .before in
+    few-kept (z .args .stops .now) (z .args .routes .now) (z .args .calendar .now) (z .args .trips .now) (z .args .stop-times .now) (z .args .stops-table .now) (z .args .routes-table .now) (z .args .calendar-table .now) (z .args .trips-table .now) (z .args .stop-times-table .now) (z .pre)
 
 answer-of-requires : tie.Need-answer-of-requires
 answer-of-requires c κs = search needs
@@ -60,12 +48,12 @@ same-length-6 c = search needs
 
 returns : tie.Need-returns
 returns c =
-    let z = c .before .before .before .before .before .before .before .before .before .before .before .before .before .before .before .before .before .before .before .before .before .before .before .before .before in
-    let f = c .before .before .before .before .before .before .before .before .before .before .before .before .before .before .fill-all .ensures in
+    let z = c .before .before .before .before .before .before .before .before .before .before .before .before .before .before .before .before .before .before .before .before .before .before .before .before .before .before .before .before .before in
+    let f = c .before .before .before .before .before .before .before .before .before .before .before .before .before .before .before .before .fill-all .ensures in
     let k = c .before .before .list-findings .ensures in
-    let h = k .0 _ (tabled (z .args .stops .now) (z .args .routes .now) (z .args .calendar .now) (z .args .trips .now) (z .args .stop-times .now) (z .args .stops-table .now) (z .args .routes-table .now) (z .args .calendar-table .now) (z .args .trips-table .now) (z .args .stop-times-table .now) (z .pre) _ _ _ _ _ (f .0) (f .1 .0) (f .1 .1 .0) (f .1 .1 .1 .0) (f .1 .1 .1 .1)) in (
+    let h = k .0 _ (tabled (z .args .stops .now) (z .args .routes .now) (z .args .calendar .now) (z .args .trips .now) (z .args .stop-times .now) (z .args .stops-table .now) (z .args .routes-table .now) (z .args .calendar-table .now) (z .args .trips-table .now) (z .args .stop-times-table .now) (z .pre) _ _ _ _ _ _ (f .0) (f .1 .0) (f .1 .1 .0) (f .1 .1 .1 .0) (f .1 .1 .1 .1 .0) (f .1 .1 .1 .1 .1)) in (
       outcome-read (z .args .stops .now) (z .args .routes .now) (z .args .calendar .now) (z .args .trips .now) (z .args .stop-times .now) (z .args .stops-table .now) (z .args .routes-table .now) (z .args .calendar-table .now) (z .args .trips-table .now) (z .args .stop-times-table .now) (z .pre) _ _ _ _ _ (z .args .findings .now) _ (z .args .from) (c .before .before .list-findings .result) _
-          (f .0) (f .1 .0) (f .1 .1 .0) (f .1 .1 .1 .0) (f .1 .1 .1 .1)
+          (f .0) (f .1 .0) (f .1 .1 .0) (f .1 .1 .1 .0) (f .1 .1 .1 .1 .0)
           h
           (c .answer-of .ensures),
       small-findings (z .args .from) _ (z .args .findings .now) _ (c .before .before .list-findings .result) _ h (k .1) (c .answer-of .ensures),
@@ -75,7 +63,10 @@ pub checked-spec : {M : Type 1} → statement M
 checked-spec =
     tie.close
     (tie.spec
+    blank-requires
+    slice-aggregate-fill-all
     fill-all-requires
+    slice-aggregate-list-findings
     list-findings-requires
     answer-of-requires
     same-length

@@ -1,30 +1,27 @@
--- `rows::Stops::put` meets its contract.
-use mathlib.Core.Path.{_∙_}
-use Prim.Native.Nat.{_+_, _*_}
-use native.Mathlib.Omega.{arith}
 use mir.Syntax.{w32}
 use mir.ValLaws.{toZ-ofZ, toZ-pos}
+use mathlib.Core.Path.{_≡_, refl, sym, ap, _∙_}
+use mathlib.Core.Bool.{Bool, true, false, cond}
+use mathlib.Core.List.{List, [], _∷_}
+use Prim.Native.Nat.{ℕ, suc, zero, _≤_, _<_, _-_, _+_}
+use native.Mathlib.Omega.{arith}
+use lib.ListN.{length, getD, drop, take}
 use borrow.Author.Needs.{needs}
 use Rattle.rows.proofs.Stops.put.Statement.{statement}
 use Rattle.rows.proofs.Stops.put.Tie as tie
+use Rattle.rows.proofs.Stops.put.Reads as reads
+use Rattle.rows.proofs.Stops.put.Lts as lts
+use Rattle.rows.proofs.Stops.place.Reads as place-reads
+use Rattle.rows.proofs.cells.store.Reads as store-reads
 
-mul-packed : tie.Need-mul-packed
-mul-packed c = search needs
+cast-t8 : tie.Need-cast-t8
+cast-t8 c = search needs
 
-add-packed : tie.Need-add-packed
-add-packed c = search needs
+cast-t9 : tie.Need-cast-t9
+cast-t9 c = search needs
 
-cast-t12 : tie.Need-cast-t12
-cast-t12 c = search needs
-
-cast-t13 : tie.Need-cast-t13
-cast-t13 c = search needs
-
-cast-t14 : tie.Need-cast-t14
-cast-t14 c = search needs
-
-cast-t15 : tie.Need-cast-t15
-cast-t15 c = search needs
+cast-t10 : tie.Need-cast-t10
+cast-t10 c = search needs
 
 place-requires : tie.Need-place-requires
 place-requires c κs = search needs
@@ -41,7 +38,7 @@ same-length c = search needs
 returns : tie.Need-returns
 returns c =
     let p = c .before .before .before in
-    let s = p .before .before .before .before .before .before in
+    let s = p .before .before .before .before in
     let small = s .pre .1 in
     c .before .store .ensures
     ∙ simp (
@@ -50,20 +47,16 @@ returns c =
       toZ-pos w32 _ (small .1 .0),
       toZ-ofZ w32 _ (s .fits .latitude),
       toZ-ofZ w32 _ (s .fits .longitude),
-      toZ-pos w32 (s .args .kind + 4 * s .args .parent .end) (omega (arith, small)),
-      toZ-pos w32 _ (small .1 .1 .1 .0),
+      toZ-pos w32 _ (small .1 .1),
     )
 
 pub put-spec : {M : Type 1} → statement M
 put-spec =
     tie.close
     (tie.spec
-    mul-packed
-    add-packed
-    cast-t12
-    cast-t13
-    cast-t14
-    cast-t15
+    cast-t8
+    cast-t9
+    cast-t10
     place-requires
     slice-aggregate-store
     store-requires

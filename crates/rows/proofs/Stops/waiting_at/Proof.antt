@@ -1,7 +1,16 @@
--- `rows::Stops::waiting_at` meets its contract.
+use Prim.Native.Nat.{_*_}
+use mathlib.Core.Path.{_≡_, refl, sym, ap, _∙_}
+use mathlib.Core.Bool.{Bool, true, false, cond}
+use mathlib.Core.List.{List, [], _∷_}
+use Prim.Native.Nat.{ℕ, suc, zero, _≤_, _<_, _-_, _+_}
+use native.Mathlib.Omega.{arith}
+use lib.ListN.{length, getD, drop, take}
 use borrow.Author.Needs.{needs}
 use Rattle.rows.proofs.Stops.waiting_at.Statement.{statement}
 use Rattle.rows.proofs.Stops.waiting_at.Tie as tie
+use Rattle.rows.proofs.Stops.waiting_at.Reads as reads
+use Rattle.rows.proofs.Stops.waiting_at.Lts as lts
+use Rattle.rows.proofs.cells.nat_of.Reads as nat-of-reads
 
 nat-of-requires : tie.Need-nat-of-requires
 nat-of-requires c κs = search needs
@@ -10,7 +19,9 @@ nat-of-requires-2 : tie.Need-nat-of-requires-2
 nat-of-requires-2 c κs = search needs
 
 returns : tie.Need-returns
-returns c = rw (c .before .nat-of .ensures, c .nat-of2 .ensures)
+returns c =
+    let e : c .before .before .args .row .0 * 6 + 4 ≡ c .before .before .args .row .0 * 6 + 3 + 1 = omega arith in
+    rw (c .before .nat-of .ensures, c .nat-of2 .ensures, e)
 
 pub waiting-at-spec : {M : Type 1} → statement M
 waiting-at-spec = tie.close (tie.spec nat-of-requires nat-of-requires-2 returns)

@@ -1,25 +1,39 @@
 -- `tables::parents::waiting_parent` meets its contract.
-use Rattle.tables.proofs.Readings.{waited}
+use mathlib.Core.Path.{_≡_, refl, sym, ap, _∙_}
+use mathlib.Core.Bool.{Bool, true, false, cond}
+use mathlib.Core.List.{List, [], _∷_}
+use Prim.Native.Nat.{ℕ, suc, zero, _≤_, _<_, _-_, _+_, _*_}
+use native.Mathlib.Omega.{arith}
+use lib.ListN.{length, getD, drop, take}
+use lib.IntN.{ℤ, pos}
 use borrow.Author.Needs.{needs}
 use Rattle.tables.proofs.parents.waiting_parent.Statement.{statement}
 use Rattle.tables.proofs.parents.waiting_parent.Tie as tie
+use Rattle.tables.proofs.parents.waiting_parent.Reads as reads
+use Rattle.tables.proofs.parents.waiting_parent.Lts as lts
+use Rattle.ordering.proofs.part_of.Reads as part-of-reads
+use Rattle.resolve.proofs.find_stop.Reads as find-stop-reads
+use Rattle.rows.proofs.Stops.waiting_at.Reads as waiting-at-reads
 
 waiting-at-requires : tie.Need-waiting-at-requires
 waiting-at-requires c κs = search needs
 
-bytes-at-requires : tie.Need-bytes-at-requires
-bytes-at-requires c κs = search needs
+part-of-requires : tie.Need-part-of-requires
+part-of-requires c κs = search needs
 
 find-stop-requires : tie.Need-find-stop-requires
 find-stop-requires c κs = search needs
 
+same-length : tie.Need-same-length
+same-length c = search needs
+
 returns : tie.Need-returns
-returns c = (
-  (λ ids a e h from to low high.
-      waited _ _ _ ids _ _ _ a e h (c .find-stop .ensures .0) (c .before .bytes-at .ensures) (c .before .before .waiting-at .ensures) from to low high),
-  c .find-stop .ensures .1,
-)
+returns c =
+    let f = c .before .before .find-stop .ensures in
+    let p = c .before .before .before .before .before .waiting-at .ensures in
+    (rw (← p, ← c .before .before .before .before .part-of .ensures) (f .0), f .1)
 
 pub waiting-parent-spec : {M : Type 1} → statement M
 waiting-parent-spec =
-    tie.close (tie.spec waiting-at-requires bytes-at-requires find-stop-requires returns)
+    tie.close
+    (tie.spec waiting-at-requires part-of-requires find-stop-requires same-length returns)

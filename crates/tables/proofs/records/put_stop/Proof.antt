@@ -1,10 +1,23 @@
 -- `tables::records::put_stop` meets its contract.
-use Rattle.tables.proofs.LineRecords.{waiting-record}
-use Rattle.tables.proofs.Readings.{put-as}
+use Rattle.tables.proofs.LineRecords.{stop-record}
 use Rattle.num.proofs.Laws.{kept-is}
+use mathlib.Core.Path.{_≡_, refl, sym, ap, _∙_}
+use mathlib.Core.Bool.{Bool, true, false, cond}
+use mathlib.Core.List.{List, [], _∷_}
+use Prim.Native.Nat.{ℕ, suc, zero, _≤_, _<_, _-_, _+_, _*_}
+use native.Mathlib.Omega.{arith}
+use lib.ListN.{length, getD, drop, take}
+use lib.IntN.{ℤ, pos}
 use borrow.Author.Needs.{needs}
 use Rattle.tables.proofs.records.put_stop.Statement.{statement}
 use Rattle.tables.proofs.records.put_stop.Tie as tie
+use Rattle.tables.proofs.records.put_stop.Reads as reads
+use Rattle.tables.proofs.records.put_stop.Lts as lts
+use Rattle.rows.proofs.Stops.put.Reads as put-reads
+use Rattle.tables.proofs.records.field_place.Reads as field-place-reads
+use Rattle.tables.proofs.values.choice_or_zero.Reads as choice-or-zero-reads
+use Rattle.tables.proofs.values.latitude.Reads as latitude-reads
+use Rattle.tables.proofs.values.longitude.Reads as longitude-reads
 
 field-place-requires : tie.Need-field-place-requires
 field-place-requires c κs = search needs
@@ -18,9 +31,6 @@ longitude-requires c κs = search needs
 choice-or-zero-requires : tie.Need-choice-or-zero-requires
 choice-or-zero-requires c κs = search needs
 
-field-place-requires-2 : tie.Need-field-place-requires-2
-field-place-requires-2 c κs = search needs
-
 put-requires : tie.Need-put-requires
 put-requires c κs = search needs
 
@@ -29,15 +39,13 @@ same-length c = search needs
 
 returns : tie.Need-returns
 returns c =
-    let p = c .before .before .before in
-    let y = p .before .before in
-    let x = y .before in
-    let i = x .before in
-    let s = i .before .before .args in
-    let from = i .field-place .ensures .0 in
-    let to = p .field-place2 .ensures .0 in
-    λ ps loc. put-as _ _ _ _ _ (c .before .put .ensures)
-    (waiting-record ps (s .l .now) _ (s .q .start) (s .q .end) loc _ _ _ _ _ _ _ (from .0) (from .1) (kept-is _ _ (x .latitude .ok) (x .latitude .ensures)) (kept-is _ _ (y .longitude .ok) (y .longitude .ensures)) (p .before .choice-or-zero .ensures .0) (to .0) (to .1))
+    let s = c .before .before .before .before .before .before .before .before .args in
+    let i = c .before .before .before .before .before .before .field-place .ensures .0 in
+    let x = c .before .before .before .before .before .latitude in
+    let y = c .before .before .before .before .longitude in
+    λ w ps loc parent.
+    c .before .put .ensures
+    ∙ stop-record ps (s .l .now) _ (s .q .start) (s .q .end) loc w _ _ _ _ _ _ _ (c .before .before .before .before .before .before .before .before .pre .1) parent (i .0) (i .1) (kept-is _ _ (x .ok) (x .ensures)) (kept-is _ _ (y .ok) (y .ensures)) (c .before .before .before .choice-or-zero .ensures .0)
 
 pub put-stop-spec : {M : Type 1} → statement M
 put-stop-spec =
@@ -47,7 +55,6 @@ put-stop-spec =
     latitude-requires
     longitude-requires
     choice-or-zero-requires
-    field-place-requires-2
     put-requires
     same-length
     returns)

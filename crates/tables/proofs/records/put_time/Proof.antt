@@ -2,10 +2,26 @@
 use Rattle.tables.proofs.LineRecords.{time-record}
 use Rattle.tables.proofs.Readings.{put-as, referred}
 use Rattle.num.proofs.Laws.{kept-is}
+use mathlib.Core.Path.{_≡_, refl, sym, ap, _∙_}
+use mathlib.Core.Bool.{Bool, true, false, cond}
+use mathlib.Core.List.{List, [], _∷_}
+use Prim.Native.Nat.{ℕ, suc, zero, _≤_, _<_, _-_, _+_, _*_}
 use native.Mathlib.Omega.{arith}
+use lib.ListN.{length, getD, drop, take}
+use lib.IntN.{ℤ, pos}
 use borrow.Author.Needs.{needs}
 use Rattle.tables.proofs.records.put_time.Statement.{statement}
 use Rattle.tables.proofs.records.put_time.Tie as tie
+use Rattle.tables.proofs.records.put_time.Reads as reads
+use Rattle.tables.proofs.records.put_time.Lts as lts
+use Rattle.resolve.proofs.find_stop.Reads as find-stop-reads
+use Rattle.resolve.proofs.find_trip.Reads as find-trip-reads
+use Rattle.rows.proofs.StopTimes.put.Reads as put-reads
+use Rattle.tables.proofs.values.choice_or_minus.Reads as choice-or-minus-reads
+use Rattle.tables.proofs.values.choice_or_zero.Reads as choice-or-zero-reads
+use Rattle.tables.proofs.values.clock.Reads as clock-reads
+use Rattle.tables.proofs.values.raw.Reads as raw-reads
+use Rattle.tables.proofs.values.sequence.Reads as sequence-reads
 
 raw-requires : tie.Need-raw-requires
 raw-requires c κs = search needs
@@ -20,45 +36,51 @@ find-stop-requires : tie.Need-find-stop-requires
 find-stop-requires c κs = search needs
 
 sequence-requires : tie.Need-sequence-requires
-sequence-requires c κs = search needs
+sequence-requires c κs = (omega arith, c .before .before .before .before .before .before .before .before .before .before .before .before .before .before .before .pre .0 .0 .0)
 
 clock-requires : tie.Need-clock-requires
-clock-requires c κs = search needs
+clock-requires c κs = (omega arith, c .before .before .before .before .before .before .before .before .before .before .before .before .before .before .before .before .pre .0 .0 .0)
 
 clock-requires-2 : tie.Need-clock-requires-2
-clock-requires-2 c κs = search needs
+clock-requires-2 c κs = (omega arith, c .before .before .before .before .before .before .before .before .before .before .before .before .before .before .before .before .before .pre .0 .0 .0)
 
 choice-or-zero-requires : tie.Need-choice-or-zero-requires
-choice-or-zero-requires c κs = (omega arith, c .before .before .before .before .before .before .before .before .before .before .pre .0 .0 .0)
+choice-or-zero-requires c κs = (omega arith, c .before .before .before .before .before .before .before .before .before .before .before .before .before .before .before .before .before .before .pre .0 .0 .0)
 
 choice-or-zero-requires-2 : tie.Need-choice-or-zero-requires-2
-choice-or-zero-requires-2 c κs = (omega arith, c .before .before .before .before .before .before .before .before .before .before .before .pre .0 .0 .0)
+choice-or-zero-requires-2 c κs = (omega arith, c .before .before .before .before .before .before .before .before .before .before .before .before .before .before .before .before .before .before .before .pre .0 .0 .0)
 
 choice-or-minus-requires : tie.Need-choice-or-minus-requires
-choice-or-minus-requires c κs = (omega arith, c .before .before .before .before .before .before .before .before .before .before .before .before .pre .0 .0 .0)
+choice-or-minus-requires c κs = (omega arith, c .before .before .before .before .before .before .before .before .before .before .before .before .before .before .before .before .before .before .before .before .pre .0 .0 .0)
 
 put-requires : tie.Need-put-requires
 put-requires c κs =
-    let s = c .before .before .before .before .before .before .before .before .before .before .before .before .before .before .pre in
-    let trip = c .before .before .before .before .before .before .before .before .before .find-trip .ensures .1 in
-    let stop = c .before .before .before .before .before .before .before .find-stop .ensures .1 in
-    (s .0 .1, (omega (arith, trip, s .1 .0), (omega (arith, stop, s .1 .1), (omega arith, (omega arith, omega arith)))))
+    let s = c .before .before .before .before .before .before .before .before .before .before .before .before .before .before .before .before .before .before .before .before .before .before .pre in
+    (s .0 .1, (omega (arith, c .before .before .before .before .before .before .before .before .before .before .before .before .before .before .find-trip .ensures .1 .0, s .1 .0 .0), (omega (arith, c .before .before .before .before .before .before .before .before .before .find-stop .ensures .1 .0, s .1 .0 .1), (omega (arith, c .before .before .before .before .before .before .sequence .ensures .1), (omega (arith, c .before .before .before .choice-or-zero .ensures .1), omega (arith, c .before .before .choice-or-zero2 .ensures .1))))))
 
 same-length : tie.Need-same-length
 same-length c = search needs
 
+same-length-2 : tie.Need-same-length-2
+same-length-2 c = search needs
+
+same-length-3 : tie.Need-same-length-3
+same-length-3 c = search needs
+
 returns : tie.Need-returns
 returns c =
-    let s = c .before .before .before .before .before .before .before .before .before .before .before .before .before .before .before .before .args in
+    let s = c .before .before .before .before .before .before .before .before .before .before .before .before .before .before .before .before .before .before .before .before .before .before .before .before .args in
     let x = c .before .before .before .before .before .before .before .clock in
     let y = c .before .before .before .before .before .before .clock2 in
-    let z = c .before .before .before .choice-or-minus in
-    λ w ps loc trips stops. put-as _ _ _ _ _ (c .before .put .ensures)
-    (time-record ps (s .l .now) _ (s .q .start) (s .q .end) loc w _ _ _ _ _ _ _ _
-    (referred _ _ _ _ _ _ _ _ trips (c .before .before .before .before .before .before .before .before .before .before .before .find-trip .ensures .0) (c .before .before .before .before .before .before .before .before .before .before .before .before .raw .ensures))
-    (referred _ _ _ _ _ _ _ _ stops (c .before .before .before .before .before .before .before .before .before .find-stop .ensures .0) (c .before .before .before .before .before .before .before .before .before .before .raw2 .ensures))
-    (c .before .before .before .before .before .before .before .before .sequence .ensures .0) (kept-is _ _ (x .ok) (x .ensures)) (kept-is _ _ (y .ok) (y .ensures))
-    (c .before .before .before .before .before .choice-or-zero .ensures .0) (c .before .before .before .before .choice-or-zero2 .ensures .0) (kept-is _ _ (z .ok) (z .ensures)))
+    let z = c .before .before .before .choice-or-minus in (
+      (λ w ps loc trips stops. put-as _ _ _ _ _ (c .before .put .ensures)
+          (time-record ps (s .l .now) _ (s .q .start) (s .q .end) loc w _ _ _ _ _ _ _ _
+          (referred _ _ _ _ _ _ _ _ trips (c .before .before .before .before .before .before .before .before .before .before .before .before .before .before .before .before .find-trip .ensures .0) (c .before .before .before .before .before .before .before .before .before .before .before .before .before .before .before .before .before .before .raw .ensures))
+          (referred _ _ _ _ _ _ _ _ stops (c .before .before .before .before .before .before .before .before .before .before .before .find-stop .ensures .0) (c .before .before .before .before .before .before .before .before .before .before .before .before .before .raw2 .ensures))
+          (c .before .before .before .before .before .before .before .before .sequence .ensures .0) (kept-is _ _ (x .ok) (x .ensures)) (kept-is _ _ (y .ok) (y .ensures))
+          (c .before .before .before .before .before .choice-or-zero .ensures .0) (c .before .before .before .before .choice-or-zero2 .ensures .0) (kept-is _ _ (z .ok) (z .ensures)))),
+      (c .before .before .before .before .before .before .before .before .before .before .before .before .before .before .before .before .find-trip .ensures .1 .1, c .before .before .before .before .before .before .before .before .before .before .before .find-stop .ensures .1 .1),
+    )
 
 pub put-time-spec : {M : Type 1} → statement M
 put-time-spec =
@@ -76,4 +98,6 @@ put-time-spec =
     choice-or-minus-requires
     put-requires
     same-length
+    same-length-2
+    same-length-3
     returns)

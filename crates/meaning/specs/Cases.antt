@@ -1,0 +1,299 @@
+-- The cases of document 01 that are computed: the starred ones, the errors of a hurried hand, and worked examples.
+use mathlib.Core.Path.{_≡_}
+use mathlib.Core.List.{List, [], _∷_, map}
+use mathlib.Core.Bool.{true, false}
+use Prim.Native.Nat.{ℕ}
+use Prim.Native.String.{String}
+use lib.IntN.{ℤ, pos, negsuc}
+use lib.ListN.{replicate}
+use Rattle.meaning.specs.declared.Time.{Time}
+use Rattle.meaning.specs.declared.Time.the-variants.{Seconds, NoTime}
+use Rattle.meaning.specs.declared.Date.{Date}
+use Rattle.meaning.specs.declared.Date.the-variants.{Day, NoDate}
+use Rattle.meaning.specs.declared.Degrees.{Degrees}
+use Rattle.meaning.specs.declared.Degrees.the-variants.{TenMillionths, NoDegrees}
+use Rattle.meaning.specs.declared.Verdict.{Verdict}
+use Rattle.meaning.specs.declared.Verdict.the-variants.{Readable, Unreadable}
+use Rattle.meaning.specs.declared.Refusal.{Refusal}
+use Rattle.meaning.specs.declared.Place.{Place}
+use Rattle.meaning.specs.declared.Answer.{Answer}
+use Rattle.meaning.specs.declared.Answer.the-variants.{Accepted, Findings, Refused}
+use Rattle.meaning.specs.Lists.{ascii}
+use Rattle.meaning.specs.Bytes.{good, values}
+use Rattle.meaning.specs.Forms.{timeOf, dateOf, latitudeOf, longitudeOf}
+use Rattle.meaning.specs.Tables.{feedOf, fileOf, recordsOf}
+use Rattle.meaning.specs.Refusals.{verdictOf}
+use Rattle.meaning.specs.Findings.{Finding, finding, findingsOf}
+use Rattle.meaning.specs.Outcome.{Outcome, outcome}
+use Rattle.meaning.specs.Promises.{beginning}
+use Rattle.meaning.specs.Calls.{Lending, again, written, calls}
+
+-- n numbers as they may be lent
+abbrev pub sevens : ℕ → List ℤ
+sevens n = replicate n (pos 7)
+
+-- a text, and what document 01 says of it
+pub data Case : Type 0 where
+  time : String → Time → Case
+  date : String → Date → Case
+  latitude : String → Degrees → Case
+  longitude : String → Degrees → Case
+  line : String → List String → Case
+  refusedLine : String → Case
+  found : List String → List Finding → Case
+  read : List String → Verdict → Case
+  records : ℕ → List String → List (List ℤ) → Case
+  call : List String → List (List ℤ) → List ℤ → Place → Outcome → Case
+  handed : List String → List ℤ → Place → Answer → List ℤ → Case
+  called : List String → List ℤ → List Lending → List (List ℤ) → Case
+
+abbrev pub Holds : Case → Type 0
+Holds (time s t) = timeOf (ascii s) ≡ t
+Holds (date s d) = dateOf (ascii s) ≡ d
+Holds (latitude s d) = latitudeOf (ascii s) ≡ d
+Holds (longitude s d) = longitudeOf (ascii s) ≡ d
+Holds (line s vs) = (good (ascii s) ≡ true) × (values (ascii s) ≡ map ascii vs)
+Holds (refusedLine s) = good (ascii s) ≡ false
+Holds (found files ds) = findingsOf (feedOf (map ascii files)) ≡ ds
+Holds (read files v) = verdictOf (map ascii files) (replicate 5 99) ≡ v
+Holds (records f files rs) = recordsOf f (feedOf (map ascii files)) (fileOf (map ascii files) f) ≡ rs
+Holds (call files tables list p o) = outcome (map ascii files) tables list p ≡ o
+Holds (handed files list p a after) =
+    let o = outcome (map ascii files) (replicate 5 (sevens 99)) list p in
+    (o .answer ≡ a) × (o .list ≡ after)
+Holds (called files list lendings each) =
+    map written (calls (map ascii files) (replicate 5 (sevens 99)) list beginning lendings) ≡ each
+
+abbrev pub AllHold : List Case → Type 0
+AllHold [] = Unit {0}
+AllHold (c ∷ r) = Holds c × AllHold r
+
+-- One feed in full.
+abbrev pub example : List String
+example =
+    "stop_id,stop_name,stop_lat,stop_lon\nA,Alder,1.5,2\nB,Birch,1.6,2\n"
+    ∷ "route_id,route_short_name,route_type\nR,7,3\n"
+    ∷ "service_id,monday,tuesday,wednesday,thursday,friday,saturday,sunday,start_date,end_date\nW,1,1,1,1,1,0,0,20240101,20241231\n"
+    ∷ "route_id,service_id,trip_id\nR,W,T\nR,X,U\n"
+    ∷ "trip_id,arrival_time,departure_time,stop_id,stop_sequence\nT,08:00:00,08:00:00,A,1\nT,07:59:59,08:05:00,B,2\nT,,,C,2\n"
+    ∷ []
+
+-- Values at the edges, starred, and the feed above.
+abbrev pub starred : List Case
+starred =
+    time "8:10:00" (Seconds 29400)
+    ∷ time "25:55:00" (Seconds 93300)
+    ∷ time "99:59:59" (Seconds 359999)
+    ∷ time "10:5:00" NoTime
+    ∷ date "20240229" (Day 20240229)
+    ∷ date "20230229" NoDate
+    ∷ latitude "-33.86749999" (TenMillionths (negsuc 338674998))
+    ∷ latitude "90.00000001" NoDegrees
+    ∷ line "\"a\"\"b\",c" ("a\"b" ∷ "c" ∷ [])
+    ∷ refusedLine "a\"b"
+    ∷ refusedLine "\"a\"b"
+    ∷ call example (sevens 19 ∷ sevens 6 ∷ sevens 12 ∷ sevens 21 ∷ sevens 33 ∷ []) (sevens 20) beginning (record {
+      answer = Findings 6 6;
+      tables =
+          (pos 0 ∷ pos 0 ∷ pos 0 ∷ pos 0 ∷ pos 0 ∷ pos 0
+          ∷ pos 36 ∷ pos 37 ∷ pos 15000000 ∷ pos 20000000 ∷ pos 0 ∷ pos 0
+          ∷ pos 50 ∷ pos 51 ∷ pos 16000000 ∷ pos 20000000 ∷ pos 0 ∷ pos 0
+          ∷ pos 7 ∷ [])
+          ∷ (pos 0 ∷ pos 0 ∷ pos 0
+          ∷ pos 37 ∷ pos 38 ∷ pos 3 ∷ [])
+          ∷ (pos 0 ∷ pos 0 ∷ pos 0 ∷ pos 0 ∷ pos 0
+          ∷ pos 88 ∷ pos 89 ∷ pos 31 ∷ pos 20240101 ∷ pos 20241231
+          ∷ pos 7 ∷ pos 7 ∷ [])
+          ∷ (pos 0 ∷ pos 0 ∷ pos 0 ∷ pos 0 ∷ pos 0 ∷ pos 0 ∷ pos 0
+          ∷ pos 32 ∷ pos 33 ∷ pos 1 ∷ pos 1 ∷ negsuc 0 ∷ pos 0 ∷ pos 0
+          ∷ pos 38 ∷ pos 39 ∷ pos 1 ∷ pos 0 ∷ negsuc 0 ∷ pos 0 ∷ pos 0 ∷ [])
+          ∷ (pos 0 ∷ pos 0 ∷ pos 0 ∷ pos 0 ∷ pos 0 ∷ pos 0 ∷ pos 0 ∷ pos 0
+          ∷ pos 1 ∷ pos 1 ∷ pos 1 ∷ pos 28800 ∷ pos 28800 ∷ pos 0 ∷ pos 0 ∷ negsuc 0
+          ∷ pos 1 ∷ pos 2 ∷ pos 2 ∷ pos 28799 ∷ pos 29100 ∷ pos 0 ∷ pos 0 ∷ negsuc 0
+          ∷ pos 1 ∷ pos 0 ∷ pos 2 ∷ negsuc 0 ∷ negsuc 0 ∷ pos 0 ∷ pos 0 ∷ negsuc 0
+          ∷ pos 7 ∷ [])
+          ∷ [];
+      list =
+          pos 4 ∷ pos 2 ∷ pos 31
+          ∷ pos 4 ∷ pos 3 ∷ pos 21
+          ∷ pos 4 ∷ pos 3 ∷ pos 30
+          ∷ pos 5 ∷ pos 3 ∷ pos 29
+          ∷ pos 5 ∷ pos 4 ∷ pos 21
+          ∷ pos 5 ∷ pos 4 ∷ pos 28
+          ∷ pos 7 ∷ pos 7 ∷ [];
+    })
+    ∷ []
+
+-- Errors a hurried hand makes: a stop that is its own parent, an id repeated in quotes, a time that falls over an untimed line.
+abbrev pub hurriedFeed : List String
+hurriedFeed =
+    "stop_id,stop_name,stop_lat,stop_lon,parent_station\nA,Alder,1.5,2,A\n\"A\",Alder,1.5,2,\n"
+    ∷ "route_id,route_short_name,route_type\nR,7,3\n"
+    ∷ "service_id,monday,tuesday,wednesday,thursday,friday,saturday,sunday,start_date,end_date\nW,1,1,1,1,1,0,0,20240101,20241231\n"
+    ∷ "route_id,service_id,trip_id\nR,W,T\n"
+    ∷ "trip_id,arrival_time,departure_time,stop_id,stop_sequence\nT,08:00:00,08:05:00,A,1\nT,,,A,2\nT,08:04:59,08:10:00,A,3\n"
+    ∷ []
+
+abbrev pub hurried : List Case
+hurried =
+    time "24:00:00" (Seconds 86400)
+    ∷ latitude "90.00000001" NoDegrees
+    ∷ found hurriedFeed (finding 1 2 22 ∷ finding 1 3 20 ∷ finding 5 4 29 ∷ [])
+    ∷ []
+
+-- ---- worked examples: what a reader would get wrong soonest, from document 01's own words
+
+-- five files around these three: one route and one service
+abbrev pub around : String → String → String → List String
+around stops trips times =
+    stops
+    ∷ "route_id,route_short_name,route_type\nR,7,3\n"
+    ∷ "service_id,monday,tuesday,wednesday,thursday,friday,saturday,sunday,start_date,end_date\nW,1,1,1,1,1,0,0,20240101,20241231\n"
+    ∷ trips
+    ∷ times
+    ∷ []
+
+-- one stop, one trip, and its two timed lines
+abbrev pub oneStop : String
+oneStop = "stop_id,stop_name,stop_lat,stop_lon\nA,Alder,1.5,2\n"
+
+abbrev pub oneTrip : String
+oneTrip = "route_id,service_id,trip_id\nR,W,T\n"
+
+abbrev pub twoTimes : String
+twoTimes = "trip_id,arrival_time,departure_time,stop_id,stop_sequence\nT,8:00:00,8:00:00,A,1\nT,8:05:00,8:05:00,A,2\n"
+
+-- A trip with an untimed line between timed ones breaks no rule: the feed is accepted, and the empty times are stored as -1.
+abbrev pub acceptedCall : Case
+acceptedCall =
+    let times : String = "trip_id,arrival_time,departure_time,stop_id,stop_sequence\nT,08:00:00,08:00:00,A,1\nT,,,A,2\nT,08:05:00,08:05:00,A,3\n" in
+    call (around oneStop oneTrip times) (sevens 12 ∷ sevens 6 ∷ sevens 10 ∷ sevens 15 ∷ sevens 33 ∷ []) (sevens 4) beginning (record {
+      answer = Accepted;
+      tables =
+          (pos 0 ∷ pos 0 ∷ pos 0 ∷ pos 0 ∷ pos 0 ∷ pos 0
+          ∷ pos 36 ∷ pos 37 ∷ pos 15000000 ∷ pos 20000000 ∷ pos 0 ∷ pos 0 ∷ [])
+          ∷ (pos 0 ∷ pos 0 ∷ pos 0
+          ∷ pos 37 ∷ pos 38 ∷ pos 3 ∷ [])
+          ∷ (pos 0 ∷ pos 0 ∷ pos 0 ∷ pos 0 ∷ pos 0
+          ∷ pos 88 ∷ pos 89 ∷ pos 31 ∷ pos 20240101 ∷ pos 20241231 ∷ [])
+          ∷ (pos 0 ∷ pos 0 ∷ pos 0 ∷ pos 0 ∷ pos 0 ∷ pos 0 ∷ pos 0
+          ∷ pos 32 ∷ pos 33 ∷ pos 1 ∷ pos 1 ∷ negsuc 0 ∷ pos 0 ∷ pos 0
+          ∷ pos 7 ∷ [])
+          ∷ (pos 0 ∷ pos 0 ∷ pos 0 ∷ pos 0 ∷ pos 0 ∷ pos 0 ∷ pos 0 ∷ pos 0
+          ∷ pos 1 ∷ pos 1 ∷ pos 1 ∷ pos 28800 ∷ pos 28800 ∷ pos 0 ∷ pos 0 ∷ negsuc 0
+          ∷ pos 1 ∷ pos 1 ∷ pos 2 ∷ negsuc 0 ∷ negsuc 0 ∷ pos 0 ∷ pos 0 ∷ negsuc 0
+          ∷ pos 1 ∷ pos 1 ∷ pos 3 ∷ pos 29100 ∷ pos 29100 ∷ pos 0 ∷ pos 0 ∷ negsuc 0
+          ∷ pos 7 ∷ [])
+          ∷ [];
+      list = sevens 4;
+    })
+
+-- a refusal's number, file and line
+abbrev pub refusedAs : ℕ → ℕ → ℕ → Refusal
+refusedAs n f l = record { number = n; file = f; line = l; column = 0 }
+
+-- Refused, for a minute 60: the answer is number, file, line; every table and the list stay as lent.
+abbrev pub refusedCall : Case
+refusedCall =
+    let times : String = "trip_id,arrival_time,departure_time,stop_id,stop_sequence\nT,8:00:00,8:00:00,A,1\nT,9:60:00,9:60:00,A,2\n" in
+    let tables : List (List ℤ) = sevens 12 ∷ sevens 6 ∷ sevens 10 ∷ sevens 14 ∷ sevens 24 ∷ [] in
+    call (around oneStop oneTrip times) tables (sevens 4) beginning (record { answer = Refused (refusedAs 13 5 3); tables = tables; list = sevens 4 })
+
+-- The feed in full, from its second finding on, with room for two: its third and its fourth, and the total of six.
+abbrev pub secondPage : Case
+secondPage =
+    handed example (sevens 8) (record { file = pos 4; line = pos 3; rule = pos 21 })
+    (Findings 2 6) (pos 4 ∷ pos 3 ∷ pos 30 ∷ pos 5 ∷ pos 3 ∷ pos 29 ∷ pos 7 ∷ pos 7 ∷ [])
+
+-- The same feed in calls with room for four: four findings, then two, then none.
+abbrev pub threeCalls : Case
+threeCalls =
+    called example (sevens 12) (again ∷ again ∷ again ∷ [])
+    ((pos 4 ∷ pos 2 ∷ pos 31 ∷ pos 4 ∷ pos 3 ∷ pos 21 ∷ pos 4 ∷ pos 3 ∷ pos 30 ∷ pos 5 ∷ pos 3 ∷ pos 29 ∷ [])
+    ∷ (pos 5 ∷ pos 4 ∷ pos 21 ∷ pos 5 ∷ pos 4 ∷ pos 28 ∷ [])
+    ∷ []
+    ∷ [])
+
+-- 23: the resolved stop isn't type 0. Line 2 stops at A, of type 0, and line 3 at S, the station on the line below.
+abbrev pub stationServed : Case
+stationServed =
+    found (around "stop_id,stop_name,stop_lat,stop_lon,location_type\nA,Alder,1.5,2,0\nS,Spruce,1.5,2,1\n" oneTrip
+    "trip_id,arrival_time,departure_time,stop_id,stop_sequence\nT,8:00:00,8:00:00,A,1\nT,8:05:00,8:05:00,S,2\n")
+    (finding 5 3 23 ∷ [])
+
+-- An id is kept as start and end of its raw field, quotes included: "A" from byte 36 to byte 39.
+abbrev pub quotedId : Case
+quotedId =
+    records 1 (around "stop_id,stop_name,stop_lat,stop_lon\n\"A\",Alder,1.5,2\n" oneTrip twoTimes)
+    ((pos 0 ∷ pos 0 ∷ pos 0 ∷ pos 0 ∷ pos 0 ∷ pos 0 ∷ [])
+    ∷ (pos 36 ∷ pos 39 ∷ pos 15000000 ∷ pos 20000000 ∷ pos 0 ∷ pos 0 ∷ [])
+    ∷ [])
+
+-- 22: a type 2 stop has no parent
+abbrev pub entranceAlone : Case
+entranceAlone =
+    found (around "stop_id,stop_name,stop_lat,stop_lon,location_type,parent_station\nA,Alder,1.5,2,,\nE,Elm,1.5,2,2,\n" oneTrip twoTimes)
+    (finding 1 3 22 ∷ [])
+
+-- 28: sequence not above that of the nearest earlier line of the same trip. T goes from 5 to 4, with 1 on the line between; U from 1 to 2.
+abbrev pub tripsMixed : Case
+tripsMixed =
+    found (around oneStop "route_id,service_id,trip_id\nR,W,T\nR,W,U\n"
+    "trip_id,arrival_time,departure_time,stop_id,stop_sequence\nT,8:00:00,8:00:00,A,5\nU,8:00:00,8:00:00,A,1\nT,8:00:00,8:00:00,A,4\nU,8:00:00,8:00:00,A,2\n")
+    (finding 5 4 28 ∷ [])
+
+-- Rules 30 and 31 concern only the first line of each trip_id: the second line of T breaks rule 20 alone.
+abbrev pub tripTwice : Case
+tripTwice =
+    found (around oneStop "route_id,service_id,trip_id\nR,W,T\nR,W,T\n"
+    "trip_id,arrival_time,departure_time,stop_id,stop_sequence\nT,8:00:00,8:00:00,A,1\n")
+    (finding 4 2 30 ∷ finding 4 3 20 ∷ [])
+
+-- 9: a must-be-present name is missing. The two times may be empty, and their columns must be there.
+abbrev pub timeMissing : Case
+timeMissing =
+    read (around oneStop oneTrip "trip_id,departure_time,stop_id,stop_sequence\nT,8:00:00,A,1\n") (Unreadable (refusedAs 9 5 1))
+
+-- 5: tab, also inside quotes
+abbrev pub tabQuoted : Case
+tabQuoted =
+    read (around "stop_id,stop_name,stop_lat,stop_lon\nA,\"Al\tder\",1.5,2\n" oneTrip twoTimes) (Unreadable (refusedAs 5 1 2))
+
+-- 7: more than 32 fields. A line of 33 breaks it, a line of 32 only rule 10.
+abbrev pub fields33 : Case
+fields33 =
+    read (around "stop_id,stop_name,stop_lat,stop_lon\nA,Alder,1.5,2,,,,,,,,,,,,,,,,,,,,,,,,,,,,,\n" oneTrip twoTimes) (Unreadable (refusedAs 7 1 2))
+
+abbrev pub fields32 : Case
+fields32 =
+    read (around "stop_id,stop_name,stop_lat,stop_lon\nA,Alder,1.5,2,,,,,,,,,,,,,,,,,,,,,,,,,,,,\n" oneTrip twoTimes) (Unreadable (refusedAs 10 1 2))
+
+-- 11: an id longer than 64 bytes
+abbrev pub id64 : Case
+id64 =
+    read (around "stop_id,stop_name,stop_lat,stop_lon\n1234567890123456789012345678901234567890123456789012345678901234,Alder,1.5,2\n" oneTrip twoTimes) Readable
+
+abbrev pub id65 : Case
+id65 =
+    read (around "stop_id,stop_name,stop_lat,stop_lon\n12345678901234567890123456789012345678901234567890123456789012345,Alder,1.5,2\n" oneTrip twoTimes) (Unreadable (refusedAs 11 1 2))
+
+abbrev pub worked : List Case
+worked =
+    acceptedCall
+    ∷ refusedCall
+    ∷ secondPage
+    ∷ threeCalls
+    ∷ stationServed
+    ∷ quotedId
+    ∷ entranceAlone
+    ∷ tripsMixed
+    ∷ tripTwice
+    ∷ timeMissing
+    ∷ tabQuoted
+    ∷ fields33
+    ∷ fields32
+    ∷ id64
+    ∷ id65
+    ∷ longitude "180" (TenMillionths (pos 1800000000))
+    ∷ time "9:60:00" NoTime
+    ∷ []

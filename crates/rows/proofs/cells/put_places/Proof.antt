@@ -1,0 +1,64 @@
+use Rattle.rows.proofs.Laws.{take-room}
+use mir.Syntax.{w32}
+use mir.ValLaws.{toZ-pos}
+use lib.Seq.{length-take-le}
+use mathlib.Core.Path.{_≡_, refl, sym, ap, _∙_}
+use mathlib.Core.Bool.{Bool, true, false, cond}
+use mathlib.Core.List.{List, [], _∷_}
+use Prim.Native.Nat.{ℕ, suc, zero, _≤_, _<_, _-_, _+_}
+use native.Mathlib.Omega.{arith}
+use lib.ListN.{length, getD, drop, take}
+use borrow.Author.Needs.{needs}
+use Rattle.rows.proofs.cells.put_places.Statement.{statement}
+use Rattle.rows.proofs.cells.put_places.Tie as tie
+use Rattle.rows.proofs.cells.put_places.Reads as reads
+use Rattle.rows.proofs.cells.put_places.Lts as lts
+use Rattle.rows.proofs.cells.store.Reads as store-reads
+
+cast-t7 : tie.Need-cast-t7
+cast-t7 c = search needs
+
+cast-t8 : tie.Need-cast-t8
+cast-t8 c = search needs
+
+cast-t9 : tie.Need-cast-t9
+cast-t9 c = search needs
+
+cast-t10 : tie.Need-cast-t10
+cast-t10 c = search needs
+
+mul-store : tie.Need-mul-store
+mul-store c = search needs
+
+array-share-prefix-r : tie.Need-array-share-prefix-r
+array-share-prefix-r c = search needs
+
+slice-aggregate-store : tie.Need-slice-aggregate-store
+slice-aggregate-store c = sym (length-take-le (c .before .before .before .before .before .before .args .width) _ (c .before .before .before .before .before .before .pre .0 .0))
+
+store-requires : tie.Need-store-requires
+store-requires c κs = take-room _ _ _ _ (c .before .before .before .before .before .before .pre .0 .0) (c .before .before .before .before .before .before .pre .0 .1)
+
+same-length : tie.Need-same-length
+same-length c = search needs
+
+returns : tie.Need-returns
+returns c =
+    let small = c .before .before .before .before .before .before .before .before .pre .1 in
+    c .before .store .ensures
+    ∙ simp (toZ-pos w32 _ (small .0), toZ-pos w32 _ (small .1 .0), toZ-pos w32 _ (small .1 .1 .0), toZ-pos w32 _ (small .1 .1 .1))
+
+pub put-places-spec : {M : Type 1} → statement M
+put-places-spec =
+    tie.close
+    (tie.spec
+    cast-t7
+    cast-t8
+    cast-t9
+    cast-t10
+    mul-store
+    array-share-prefix-r
+    slice-aggregate-store
+    store-requires
+    same-length
+    returns)

@@ -1,0 +1,71 @@
+-- `tables::order_all` meets its contract.
+use Rattle.tables.proofs.Marking.{noted-all}
+use mathlib.Core.Path.{_≡_, refl, sym, ap, _∙_}
+use mathlib.Core.Bool.{Bool, true, false, cond}
+use mathlib.Core.List.{List, [], _∷_}
+use Prim.Native.Nat.{ℕ, suc, zero, _≤_, _<_, _-_, _+_, _*_}
+use native.Mathlib.Omega.{arith}
+use lib.ListN.{length, getD, drop, take}
+use lib.IntN.{ℤ, pos}
+use borrow.Author.Needs.{needs}
+use Rattle.tables.proofs.order_all.Statement.{statement}
+use Rattle.tables.proofs.order_all.Tie as tie
+use Rattle.tables.proofs.order_all.Reads as reads
+use Rattle.tables.proofs.order_all.Lts as lts
+use Rattle.tables.proofs.placing.order_file.Reads as order-file-reads
+
+order-file-requires : tie.Need-order-file-requires
+order-file-requires c κs = let s = c .before .before .before .before .before .before .before .pre .0 in (omega arith, (omega arith, s .0))
+
+order-file-requires-2 : tie.Need-order-file-requires-2
+order-file-requires-2 c κs = let s = c .before .before .before .before .before .before .before .before .before .before .before .before .before .pre .0 in (omega arith, (omega arith, s .1 .0))
+
+order-file-requires-3 : tie.Need-order-file-requires-3
+order-file-requires-3 c κs = let s = c .before .before .before .before .before .before .before .before .before .before .before .before .before .before .before .before .before .before .before .pre .0 in (omega arith, (omega arith, s .1 .1 .0))
+
+order-file-requires-4 : tie.Need-order-file-requires-4
+order-file-requires-4 c κs = let s = c .before .before .before .before .before .before .before .before .before .before .before .before .before .before .before .before .before .before .before .before .before .before .before .before .before .pre .0 in (omega arith, (omega arith, s .1 .1 .1))
+
+same-length : tie.Need-same-length
+same-length c = search needs
+
+same-length-2 : tie.Need-same-length-2
+same-length-2 c = search needs
+
+same-length-3 : tie.Need-same-length-3
+same-length-3 c = search needs
+
+same-length-4 : tie.Need-same-length-4
+same-length-4 c = search needs
+
+same-length-5 : tie.Need-same-length-5
+same-length-5 c = search needs
+
+returns : tie.Need-returns
+returns c =
+    let s = c .before .before .before .before .before .before .before .before .before .before .before .before .before .before .before .before .before .before .before .before .before .before .before .before .before .before .before .before .before .pre in
+    let a = c .before .before .before .before .before .before .before .before .before .before .before .before .before .before .before .before .before .before .before .before .before .order-file .ensures in
+    let b = c .before .before .before .before .before .before .before .before .before .before .before .before .before .before .before .order-file2 .ensures in
+    let d = c .before .before .before .before .before .before .before .before .before .order-file3 .ensures in
+    let e = c .before .before .before .order-file4 .ensures in (
+      a .0,
+      (
+        b .0,
+        (d .0, (e .0, λ times. noted-all _ _ _ _ times _ _ _ _ _ (a .1) (b .1) (d .1) (e .1) (s .1 .0) (s .1 .1) (s .0 .0 .few, (s .0 .1 .0 .few, (s .0 .1 .1 .0 .few, s .0 .1 .1 .1 .few))))),
+      ),
+    )
+
+pub order-all-spec : {M : Type 1} → statement M
+order-all-spec =
+    tie.close
+    (tie.spec
+    order-file-requires
+    order-file-requires-2
+    order-file-requires-3
+    order-file-requires-4
+    same-length
+    same-length-2
+    same-length-3
+    same-length-4
+    same-length-5
+    returns)

@@ -1,0 +1,63 @@
+-- `tables::placing::place_line` meets its contract.
+use Rattle.tables.proofs.LineRecords.{located, lies, within}
+use mathlib.Core.Path.{_≡_, refl, sym, ap, _∙_}
+use mathlib.Core.Bool.{Bool, true, false, cond}
+use mathlib.Core.List.{List, [], _∷_}
+use Prim.Native.Nat.{ℕ, suc, zero, _≤_, _<_, _-_, _+_, _*_}
+use native.Mathlib.Omega.{arith}
+use lib.ListN.{length, getD, drop, take}
+use lib.IntN.{ℤ, pos}
+use borrow.Author.Needs.{needs}
+use Rattle.tables.proofs.placing.place_line.Statement.{statement}
+use Rattle.tables.proofs.placing.place_line.Tie as tie
+use Rattle.tables.proofs.placing.place_line.Reads as reads
+use Rattle.tables.proofs.placing.place_line.Lts as lts
+use Rattle.columns.proofs.locate.Reads as locate-reads
+use Rattle.tables.proofs.placing.is_noted.Reads as is-noted-reads
+use Rattle.tables.proofs.placing.mark_if.Reads as mark-if-reads
+use Rattle.tables.proofs.placing.put_places.Reads as put-places-reads
+
+locate-requires : tie.Need-locate-requires
+locate-requires c κs = search needs
+
+put-places-requires : tie.Need-put-places-requires
+put-places-requires c κs =
+    let s = c .before .before .before .before in
+    let x = c .before .locate in
+    ((s .pre .0, lies _ _ _ _ (x .ensures .0) (x .ensures .1) _ (s .pre .1 .0)), s .pre .1 .1)
+
+is-noted-requires : tie.Need-is-noted-requires
+is-noted-requires c κs = let x = c .before .before .before .locate in within _ _ _ _ (x .ensures .0) (x .ensures .1)
+
+add-mark-if : tie.Need-add-mark-if
+add-mark-if c = omega (arith, c .before .before .before .before .before .before .before .before .pre .0)
+
+mark-if-requires : tie.Need-mark-if-requires
+mark-if-requires c κs = omega (arith, c .before .before .before .before .before .before .before .before .pre .0)
+
+same-length : tie.Need-same-length
+same-length c = search needs
+
+same-length-2 : tie.Need-same-length-2
+same-length-2 c = search needs
+
+returns : tie.Need-returns
+returns c =
+    let s = c .before .before .before .before .before .before .before .before .before .before .before .args in
+    let x = c .before .before .before .before .before .before .before .before .locate in
+    λ ps e.
+    let loc = located (s .l .now) (s .places) _ _ (x .ensures .0) (x .ensures .1) ps e in
+    (c .before .before .before .before .before .before .put-places .ensures ps loc, rw (← c .before .before .before .before .is-noted .ensures ps loc) (c .before .before .mark-if .ensures))
+
+pub place-line-spec : {M : Type 1} → statement M
+place-line-spec =
+    tie.close
+    (tie.spec
+    locate-requires
+    put-places-requires
+    is-noted-requires
+    add-mark-if
+    mark-if-requires
+    same-length
+    same-length-2
+    returns)

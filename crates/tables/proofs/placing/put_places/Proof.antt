@@ -1,0 +1,66 @@
+-- `tables::placing::put_places` meets its contract.
+use Rattle.meaning.specs.Tables.{widthOf}
+use Rattle.tables.proofs.LineRecords.{places-record}
+use Rattle.tables.proofs.Readings.{put-as}
+use Rattle.tables.proofs.FirstWalk.{seven-wide}
+use mathlib.Core.Path.{_≡_, refl, sym, ap, _∙_}
+use mathlib.Core.Bool.{Bool, true, false, cond}
+use mathlib.Core.List.{List, [], _∷_}
+use Prim.Native.Nat.{ℕ, suc, zero, _≤_, _<_, _-_, _+_, _*_}
+use native.Mathlib.Omega.{arith}
+use lib.ListN.{length, getD, drop, take}
+use lib.IntN.{ℤ, pos}
+use borrow.Author.Needs.{needs}
+use Rattle.tables.proofs.placing.put_places.Statement.{statement}
+use Rattle.tables.proofs.placing.put_places.Tie as tie
+use Rattle.tables.proofs.placing.put_places.Reads as reads
+use Rattle.tables.proofs.placing.put_places.Lts as lts
+use Rattle.rows.proofs.cells.put_places.Reads as put-places-reads
+use Rattle.rows.proofs.width_of.Reads as width-of-reads
+use Rattle.tables.proofs.placing.id_column.Reads as id-column-reads
+use Rattle.tables.proofs.records.field_place.Reads as field-place-reads
+
+id-column-requires : tie.Need-id-column-requires
+id-column-requires c κs = search needs
+
+field-place-requires : tie.Need-field-place-requires
+field-place-requires c κs = search needs
+
+field-place-requires-2 : tie.Need-field-place-requires-2
+field-place-requires-2 c κs = search needs
+
+width-of-requires : tie.Need-width-of-requires
+width-of-requires c κs = search needs
+
+put-places-requires : tie.Need-put-places-requires
+put-places-requires c κs =
+    let s = c .before .before .before .before .before .before in
+    let a = c .before .before .before .field-place .ensures .1 in
+    let b = c .before .before .field-place2 .ensures .1 in
+    ((rw (c .width-of .ensures) (seven-wide _ (s .pre .0 .0)), rw (c .width-of .ensures) (s .pre .1)), (omega (arith, a .0), (omega (arith, a .1), (omega (arith, b .0), omega (arith, b .1)))))
+
+same-length : tie.Need-same-length
+same-length c = search needs
+
+returns : tie.Need-returns
+returns c =
+    let s = c .before .before .before .before .before .before .before .before .args in
+    let a = c .before .before .before .before .before .field-place .ensures .0 in
+    let b = c .before .before .before .before .field-place2 .ensures .0 in
+    let e = c .before .before .before .before .before .before .id-column .ensures .0 in
+    λ ps loc.
+    rw (← c .before .before .width-of .ensures)
+    (put-as _ _ _ _ _ (c .before .put-places .ensures)
+    (rw (c .before .before .width-of .ensures) (places-record ps (s .l .now) _ (s .q .start) (s .q .end) loc (s .f) _ _ _ _ (rw e at (a .0)) (rw e at (a .1)) (b .0) (b .1))))
+
+pub put-places-spec : {M : Type 1} → statement M
+put-places-spec =
+    tie.close
+    (tie.spec
+    id-column-requires
+    field-place-requires
+    field-place-requires-2
+    width-of-requires
+    put-places-requires
+    same-length
+    returns)

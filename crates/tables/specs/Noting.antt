@@ -1,0 +1,46 @@
+-- What the first walk marks of a line.
+use Prim.Native.Nat.{ℕ, _+_, _-_, _≤_, _<_}
+use mathlib.Core.Path.{_≡_}
+use mathlib.Core.List.{List, []}
+use mathlib.Core.Bool.{Bool, false, not, cond, _&&_, _||_}
+use lib.ListN.{length, getD}
+use lib.Dec.{eqb}
+use Rattle.meaning.specs.Lists.{empty}
+use Rattle.meaning.specs.Bytes.{countLf}
+use Rattle.meaning.specs.Columns.{Row, rowsOf}
+use Rattle.meaning.specs.Tables.{parentStation, routeShortName, routeLongName}
+use Rattle.meaning.specs.Rules.{rule20}
+use Rattle.marks.specs.Marks.{marked}
+use Rattle.tables.specs.Walk.{idsOf}
+
+-- a stop has a parent, a route no name
+unfoldable pub noted : ℕ → Row → Bool
+noted f r =
+    cond (eqb f 1) (not (empty (parentStation r)))
+    (cond (eqb f 2) (empty (routeShortName r) && empty (routeLongName r)) false)
+
+-- the mark of file f for it
+abbrev pub noteMark : ℕ → ℕ
+noteMark f = f + 6
+
+-- mark k of record r is set where b says so, and nothing else changes
+pub record Told (b : Bool) (k r : ℕ) (m m′ : List ℕ) : Type 0 where
+  pub size : length m′ ≡ length m
+  pub here : r < length m → marked m′ k r ≡ b || marked m k r
+  pub other : (c q : ℕ) → (c ≡ k → q ≡ r → ⊥) → marked m′ c q ≡ marked m c q
+
+-- the same of all records from 1 to below r
+pub record Telling (b : ℕ → Bool) (k r : ℕ) (m m′ : List ℕ) : Type 0 where
+  pub size : length m′ ≡ length m
+  pub told : (i : ℕ) → 0 < i → i < r → i < length m → marked m′ k i ≡ b i || marked m k i
+  pub other : (c i : ℕ) → (c ≡ k → 0 < i → i < r → ⊥) → marked m′ c i ≡ marked m c i
+
+-- marks in which those of file f are set: the id repeats, and what is noted of the text
+pub record Marking (f : ℕ) (s m m′ : List ℕ) : Type 0 where
+  pub size : length m′ ≡ length m
+  pub repeats :
+      ((i : ℕ) → marked m f i ≡ false) → countLf s ≤ length m → (i : ℕ) → i + 1 < countLf s → marked m′ f (i + 1) ≡ rule20 (idsOf f s) i
+  pub notes :
+      ((i : ℕ) → marked m (noteMark f) i ≡ false)
+      → countLf s ≤ length m → (i : ℕ) → i + 1 < countLf s → marked m′ (noteMark f) (i + 1) ≡ noted f (getD (rowsOf f s) i [])
+  pub other : (c i : ℕ) → (c ≡ f → ⊥) → (c ≡ noteMark f → ⊥) → marked m′ c i ≡ marked m c i

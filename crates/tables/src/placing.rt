@@ -1,0 +1,156 @@
+// The first walk along files 1 to 4: where each id stands, what only the text can tell, and then the order of the ids.
+ghost use mathlib.Core.Path.{_≡_};
+ghost use mathlib.Core.List.{List, []};
+ghost use Prim.Native.Nat.{ℕ, _+_, _*_, _-_, _<_, _≤_};
+ghost use lib.IntN.{ℤ};
+ghost use lib.ListN.{length, getD, take};
+ghost use Rattle.meaning.specs.Lists.{empty, flat, laid};
+ghost use Rattle.meaning.specs.Bytes.{countLf};
+ghost use Rattle.meaning.specs.Columns.{rowOf, rowsOf};
+ghost use Rattle.meaning.specs.Tables.{under, widthOf, idColumn};
+ghost use Rattle.rows.specs.Cells.{putAt};
+ghost use Rattle.tables.specs.Fill.{line, Lies, Within, Located, Heading, Room};
+ghost use Rattle.tables.specs.Noting.{noted, noteMark, Told, Telling, Marking};
+ghost use Rattle.tables.specs.Walk.{placing, placedOf, Ordered};
+use crate::records;
+use crate::values;
+use columns::Cells;
+use rows::Routes;
+use rows::Stops;
+use rows::Trips;
+use text::LineStep;
+
+// Where in the schema a file's own id stands.
+fn id_column(f: usize) -> usize
+    ensures { λ r. ⌜ (r ≡ idColumn f) × (r < 10) ⌝ }
+{
+    if f == Trips::FILE {
+        return 2;
+    }
+    0
+}
+
+// The places of a line's id and of the field under known column 5.
+fn put_places(f: usize, l: &[u8], at: usize, q: Cells, t: &mut [i32], r: usize)
+    requires { ⌜ (f ≤ 4) × Lies (now l) at (q .start) (q .end) ⌝ }
+    requires { ⌜ r * widthOf f + widthOf f ≤ length (now t) ⌝ }
+    ensures { λ _. ⌜ ((ps : List ℕ) → Located (now (l .entry)) ps (q .start) (q .end)
+        → now (t .exit) ≡ putAt (now (t .entry)) (r * widthOf f) (placing f ps (line at (now (l .entry))))) ⌝ }
+{
+    let id = records::field_place(l, at, q, id_column(f));
+    let other = records::field_place(l, at, q, 5);
+    rows::cells::put_places(t, r, rows::width_of(f), id, other);
+}
+
+// Is the value under known column k empty?
+fn is_bare(l: &[u8], q: Cells, k: usize) -> bool
+    requires { ⌜ (k < 10) × Within (length (now l)) (q .start) (q .end) ⌝ }
+    ensures { λ r. ⌜ ((ps : List ℕ) → Located (now (l .entry)) ps (q .start) (q .end) → r ≡ empty (under k (rowOf ps (now (l .entry))))) ⌝ }
+{
+    text::is_empty_value(values::raw(l, q, k))
+}
+
+// Has a stop a parent, a route no name?
+fn is_noted(f: usize, l: &[u8], q: Cells) -> bool
+    requires { ⌜ Within (length (now l)) (q .start) (q .end) ⌝ }
+    ensures { λ r. ⌜ ((ps : List ℕ) → Located (now (l .entry)) ps (q .start) (q .end) → r ≡ noted f (rowOf ps (now (l .entry)))) ⌝ }
+{
+    if f == Stops::FILE {
+        return !is_bare(l, q, 5);
+    }
+    if f == Routes::FILE {
+        if is_bare(l, q, 2) {
+            return is_bare(l, q, 3);
+        }
+    }
+    false
+}
+
+// Mark k of record r where b says so.
+fn mark_if(b: bool, m: &mut [u16], k: usize, r: usize)
+    requires { ⌜ k < 16 ⌝ }
+    ensures { λ _. ⌜ Told b k r (now (m .entry)) (now (m .exit)) ⌝ }
+{
+    if b {
+        marks::mark(m, k, r);
+    }
+}
+
+// What the first walk does with a line of file f, whose record is r.
+fn place_line(
+    f: usize,
+    l: &[u8],
+    at: usize,
+    places: [usize; 10],
+    t: &mut [i32],
+    r: usize,
+    m: &mut [u16],
+)
+    requires { ⌜ (f ≤ 4) × ((at + length (now l) ≤ 16777216) × (r * widthOf f + widthOf f ≤ length (now t))) ⌝ }
+    ensures { λ _. ⌜ ((ps : List ℕ) → ((k : ℕ) → getD places k 0 ≡ getD ps k 0)
+        → (now (t .exit) ≡ putAt (now (t .entry)) (r * widthOf f) (placing f ps (line at (now (l .entry)))))
+        × Told (noted f (rowOf ps (now (l .entry)))) (noteMark f) r (now (m .entry)) (now (m .exit))) ⌝ }
+{
+    let q = columns::locate(l, places);
+    put_places(f, l, at, q, t, r);
+    mark_if(is_noted(f, l, q), m, f + 6, r);
+}
+
+// The lines from `at` on, the first of which has record 1; how many records there are.
+fn place_lines(
+    f: usize,
+    s: &[u8],
+    at: usize,
+    known: [usize; 10],
+    t: &mut [i32],
+    m: &mut [u16],
+) -> usize
+    requires { ⌜ (1 ≤ f) × ((f ≤ 4) × Room f (now s) (now t)) ⌝ }
+    requires { ⌜ Heading f (now s) known at ⌝ }
+    ensures { λ _. ⌜ ((lent : List ℤ) → now (t .entry) ≡ laid (flat (take 1 (placedOf f (now (s .entry))))) lent
+        → now (t .exit) ≡ laid (flat (placedOf f (now (s .entry)))) lent) ⌝ }
+    ensures { λ _. ⌜ Telling (λ i. noted f (getD (rowsOf f (now (s .entry))) (i - 1) [])) (noteMark f) (countLf (now (s .entry))) (now (m .entry)) (now (m .exit)) ⌝ }
+    ensures { λ r. ⌜ r + 1 ≡ countLf (now (s .entry)) ⌝ }
+{
+    let mut here = at;
+    let mut r = 1;
+    loop {
+        match text::next_line(s, here) {
+            LineStep::Line { start, end, next } => {
+                place_line(f, &s[start..end], start, known, t, r, m);
+                here = next;
+                r += 1;
+            }
+            LineStep::Done => {
+                return r - 1;
+            }
+        }
+    }
+}
+
+// Record 0, and what the first walk writes for each line; how many records there are.
+fn place_file(f: usize, s: &[u8], t: &mut [i32], m: &mut [u16]) -> usize
+    requires { ⌜ (1 ≤ f) × ((f ≤ 4) × Room f (now s) (now t)) ⌝ }
+    ensures { λ _. ⌜ now (t .exit) ≡ laid (flat (placedOf f (now (s .entry)))) (now (t .entry)) ⌝ }
+    ensures { λ _. ⌜ Telling (λ i. noted f (getD (rowsOf f (now (s .entry))) (i - 1) [])) (noteMark f) (countLf (now (s .entry))) (now (m .entry)) (now (m .exit)) ⌝ }
+    ensures { λ r. ⌜ r + 1 ≡ countLf (now (s .entry)) ⌝ }
+{
+    let h = crate::read_header(f, s);
+    rows::cells::zero_record(t, rows::width_of(f));
+    let known = h.known;
+    let next = h.next;
+    place_lines(f, s, next, known, t, m)
+}
+
+// The ids of file f in its table, and its records in their order; how many there are.
+pub fn order_file(f: usize, s: &[u8], t: &mut [i32], m: &mut [u16]) -> usize
+    requires { ⌜ (1 ≤ f) × ((f ≤ 4) × Room f (now s) (now t)) ⌝ }
+    ensures { λ r. ⌜ Ordered f (now (s .entry)) r (now (t .entry)) (now (t .exit)) ⌝ }
+    ensures { λ _. ⌜ Marking f (now (s .entry)) (now (m .entry)) (now (m .exit)) ⌝ }
+{
+    let n = place_file(f, s, t, m);
+    let width = rows::width_of(f);
+    seeking::arrange(s, t, width, n);
+    repeats::mark_repeats(s, t, width, n, f, m);
+    n
+}

@@ -1,0 +1,69 @@
+//! A large feed while it is written, line by line; every line is good, and times never fall along a trip.
+
+use crate::random::Random;
+
+/// The five files so far.
+pub struct Draft(pub [Vec<u8>; 5]);
+
+const HEADERS: [&str; 5] = [
+    "stop_id,stop_name,stop_lat,stop_lon,location_type,parent_station\n",
+    "route_id,route_short_name,route_type\n",
+    "service_id,monday,tuesday,wednesday,thursday,friday,saturday,sunday,start_date,end_date\n",
+    "route_id,service_id,trip_id\n",
+    "trip_id,arrival_time,departure_time,stop_id,stop_sequence\n",
+];
+
+impl Draft {
+    pub fn new() -> Self {
+        Draft(HEADERS.map(|header| header.as_bytes().to_vec()))
+    }
+
+    fn line(&mut self, file: usize, line: String) {
+        self.0[file - 1].extend(line.into_bytes());
+    }
+
+    /// A stop of a type, with a parent or an empty text.
+    pub fn stop(&mut self, id: &str, kind: usize, parent: &str) {
+        let place = self.0[0].len() % 90;
+        self.line(1, format!("{id},Stop {place},{place}.25,-{place}.1234567,{kind},{parent}\n"));
+    }
+
+    pub fn route(&mut self, id: &str) {
+        self.line(2, format!("{id},7,3\n"));
+    }
+
+    pub fn service(&mut self, id: &str) {
+        self.line(3, format!("{id},1,1,1,1,1,0,0,20240101,20241231\n"));
+    }
+
+    pub fn trip(&mut self, route: &str, service: &str, id: &str) {
+        self.line(4, format!("{route},{service},{id}\n"));
+    }
+
+    /// The line of a trip with this place along it, from 0 on: five seconds after the line before.
+    pub fn call(&mut self, trip: &str, place: usize, stop: &str) {
+        let seconds = place * 5;
+        let time = format!("{:02}:{:02}:{:02}", seconds / 3600, seconds / 60 % 60, seconds % 60);
+        self.line(5, format!("{trip},{time},{time},{stop},{}\n", place + 1));
+    }
+
+    /// Puts the record lines of a file in random order.
+    pub fn shuffle(&mut self, file: usize, random: &mut Random) {
+        let bytes = std::mem::take(&mut self.0[file - 1]);
+        let mut lines: Vec<&[u8]> = bytes.split_inclusive(|&byte| byte == b'\n').collect();
+        random.shuffle(&mut lines[1..]);
+        self.0[file - 1] = lines.concat();
+    }
+
+    /// Puts every field of every file in quotes, those of the headers too.
+    pub fn quote(&mut self) {
+        for file in &mut self.0 {
+            let mut quoted = Vec::new();
+            for line in file.split(|&byte| byte == b'\n').filter(|line| !line.is_empty()) {
+                let fields: Vec<&[u8]> = line.split(|&byte| byte == b',').collect();
+                quoted.extend([b"\"", &fields.join(&b"\",\""[..])[..], b"\"\n"].concat());
+            }
+            *file = quoted;
+        }
+    }
+}

@@ -1,0 +1,174 @@
+//! The feeds of the benchmark, each within rules 1 and 2: their longest file has just as many lines as asked for.
+
+use super::draft::Draft;
+use super::plan::{prefixed, short, with_long_trips, Plan};
+use crate::random::Random;
+use std::cmp::Reverse;
+
+/// What a feed is to the benchmark's aims.
+#[derive(Clone, Copy, Debug, PartialEq, Eq)]
+pub enum Kind {
+    /// As publishers send them.
+    Plain,
+    /// As somebody could send them.
+    Hard,
+    /// Lines of stop_times whose trips stand nowhere.
+    Nowhere,
+}
+
+/// Feeds of one shape and any size.
+pub struct Family {
+    pub name: &'static str,
+    pub about: &'static str,
+    pub kind: Kind,
+    /// The feed whose longest file has so many lines, its header counted; 64 at least.
+    pub feed: fn(usize) -> [Vec<u8>; 5],
+}
+
+const fn family(name: &'static str, kind: Kind, feed: fn(usize) -> [Vec<u8>; 5], about: &'static str) -> Family {
+    Family { name, about, kind, feed }
+}
+
+/// All families, in the benchmark's order.
+pub const FAMILIES: [Family; 14] = [
+    family("plain", Kind::Plain, plain, "trips one after the other, ten lines a trip"),
+    family("long-ids", Kind::Hard, long_ids, "trip ids of 64 bytes, two lines a trip"),
+    family("last-parent", Kind::Hard, last_parent, "all stops have the same parent, on the last line of stops"),
+    family("nowhere", Kind::Nowhere, nowhere, "each line of stop_times has its own trip, which stands nowhere"),
+    family(
+        "all-at-once",
+        Kind::Nowhere,
+        all_at_once,
+        "the three before in one feed, every stop_times line at the parent",
+    ),
+    family("few-ids", Kind::Plain, few_ids, "four trips and four stops, so that the walk along the files is all"),
+    family("prefix", Kind::Hard, prefix, "as plain, and all ids begin with the same 60 bytes"),
+    family("interleaved", Kind::Hard, interleaved, "as plain, but the lines of the trips are taken by turns"),
+    family("backward", Kind::Hard, backward, "as plain, but stop_times has the last trip first"),
+    family("shuffled", Kind::Hard, shuffled, "as plain, but the lines of stops, trips and stop_times are shuffled"),
+    family(
+        "unresolved",
+        Kind::Hard,
+        unresolved,
+        "every file that long, and no stop, route or service named stands anywhere",
+    ),
+    family("equal-ids", Kind::Hard, equal_ids, "every file that long, and all its ids equal"),
+    family("one-trip", Kind::Hard, one_trip, "as plain, but one trip has all lines of stop_times"),
+    family("quoted", Kind::Plain, quoted, "as plain, and every field is quoted"),
+];
+
+fn plain(lines: usize) -> [Vec<u8>; 5] {
+    Plan::new(lines, short).write().0
+}
+
+fn long_ids(lines: usize) -> [Vec<u8>; 5] {
+    Plan::new(lines, with_long_trips).with_trips((lines - 1) / 2).write().0
+}
+
+fn few_ids(lines: usize) -> [Vec<u8>; 5] {
+    Plan { stops: 4, ..Plan::new(lines, short).with_trips(4) }.write().0
+}
+
+fn one_trip(lines: usize) -> [Vec<u8>; 5] {
+    Plan::new(lines, short).with_trips(1).write().0
+}
+
+fn prefix(lines: usize) -> [Vec<u8>; 5] {
+    Plan::new(lines, prefixed).write().0
+}
+
+fn interleaved(lines: usize) -> [Vec<u8>; 5] {
+    let mut plan = Plan::new(lines, short);
+    plan.calls.sort_by_key(|&(_, place)| place);
+    plan.write().0
+}
+
+fn backward(lines: usize) -> [Vec<u8>; 5] {
+    let mut plan = Plan::new(lines, short);
+    plan.calls.sort_by_key(|&(trip, _)| Reverse(trip));
+    plan.write().0
+}
+
+fn shuffled(lines: usize) -> [Vec<u8>; 5] {
+    let mut draft = Plan::new(lines, short).write();
+    let mut random = Random::new(0);
+    for file in [1, 4, 5] {
+        draft.shuffle(file, &mut random);
+    }
+    draft.0
+}
+
+fn quoted(lines: usize) -> [Vec<u8>; 5] {
+    let mut draft = Plan::new(lines, short).write();
+    draft.quote();
+    draft.0
+}
+
+/// Stops whose parent is the station on the last line, with ids of numbers; the station's id.
+fn stops_of_one_station(draft: &mut Draft, lines: usize) -> String {
+    let station = short('S', lines - 1);
+    for number in 1..lines - 1 {
+        draft.stop(&short('S', number), 0, &station);
+    }
+    draft.stop(&station, 1, "");
+    station
+}
+
+fn last_parent(lines: usize) -> [Vec<u8>; 5] {
+    let mut draft = Draft::new();
+    stops_of_one_station(&mut draft, lines);
+    draft.route("R");
+    draft.service("W");
+    draft.trip("R", "W", "T");
+    draft.call("T", 0, "S1");
+    draft.call("T", 1, "S2");
+    draft.0
+}
+
+fn nowhere(lines: usize) -> [Vec<u8>; 5] {
+    let plan = Plan::new(lines, short);
+    let mut draft = plan.write_records();
+    for number in 1..lines {
+        draft.call(&short('X', number), 0, "S1");
+    }
+    draft.0
+}
+
+fn all_at_once(lines: usize) -> [Vec<u8>; 5] {
+    let mut draft = Draft::new();
+    let station = stops_of_one_station(&mut draft, lines);
+    draft.route("R");
+    draft.service("W");
+    for number in 1..lines {
+        draft.trip("R", "W", &with_long_trips('T', number));
+        // Past the number of every trip: of 64 bytes too, and nowhere in trips.txt.
+        draft.call(&with_long_trips('T', lines + number), 0, &station);
+    }
+    draft.0
+}
+
+fn unresolved(lines: usize) -> [Vec<u8>; 5] {
+    let mut draft = Draft::new();
+    for number in 1..lines {
+        // A name that stands nowhere has its place between two that do, whichever way names are ordered.
+        let [stop, route, service] = ['S', 'R', 'W'].map(|letter| short(letter, number));
+        draft.stop(&stop, 0, "");
+        draft.route(&route);
+        draft.service(&service);
+        draft.trip(&format!("{route}x"), &format!("{service}x"), &short('T', number));
+        draft.call(&short('T', number), 0, &format!("{stop}x"));
+    }
+    draft.0
+}
+
+fn equal_ids(lines: usize) -> [Vec<u8>; 5] {
+    let mut draft = Draft::new();
+    for place in 0..lines - 1 {
+        draft.stop("S", 0, "");
+        draft.route("R");
+        draft.service("W");
+        draft.trip("R", "W", "T");
+        draft.call("T", place, "S");
+    }
+    draft.0
+}

@@ -1,0 +1,108 @@
+//! The benchmark's feeds are readable, of the size asked for, and what they are said to be.
+
+use cases::large::families::{Family, Kind, FAMILIES};
+use cases::large::tables;
+use model::columns::WIDTHS;
+use model::fields::line_ends;
+use model::Answer;
+
+/// How many findings each feed of 64 lines has, counted by hand; none where chance decides.
+fn findings(name: &str) -> Option<usize> {
+    let (lines, trips) = (63, 6);
+    match name {
+        // The trip of each line (21), and each trip that no line has (30).
+        "nowhere" => Some(lines + trips),
+        // The trip of each line (21) and its stop, a station (23), and each trip (30).
+        "all-at-once" => Some(lines * 3),
+        // The stop of each line (21), and each trip for its route and service (21) and its one line (30).
+        "unresolved" => Some(lines * 3),
+        // All lines but the first of four files (20).
+        "equal-ids" => Some((lines - 1) * 4),
+        "shuffled" => None,
+        _ => Some(0),
+    }
+}
+
+#[test]
+fn small_ones_find_what_was_meant() {
+    for family in &FAMILIES {
+        let files = (family.feed)(64);
+        assert_eq!(files.iter().map(|file| line_ends(file)).max(), Some(64), "{}", family.name);
+        let answer = model::check(&files, &mut tables(&files, 0), &mut [], [0, 0, 0]);
+        let total = match answer {
+            Answer::Accepted => 0,
+            Answer::Findings { total, .. } => total,
+            Answer::Refused { .. } => panic!("{}: {answer:?}", family.name),
+        };
+        let wanted = findings(family.name).unwrap_or(total.max(1));
+        assert_eq!(total, wanted, "{}", family.name);
+        assert!(family.kind != Kind::Plain || answer == Answer::Accepted, "{}", family.name);
+    }
+}
+
+/// Has this file of the family the lines that the plain feed has there, in another order?
+fn reordered(family: &Family, file: usize) -> bool {
+    let sorted = |files: &[Vec<u8>; 5]| {
+        let mut lines: Vec<Vec<u8>> = files[file - 1].split(|&byte| byte == b'\n').map(<[u8]>::to_vec).collect();
+        lines.sort();
+        lines
+    };
+    let plain = (FAMILIES[0].feed)(64);
+    let files = (family.feed)(64);
+    plain[file - 1] != files[file - 1] && sorted(&plain) == sorted(&files)
+}
+
+#[test]
+fn some_are_the_plain_feed_in_another_order() {
+    for family in &FAMILIES {
+        let wanted = ["interleaved", "backward", "shuffled"].contains(&family.name);
+        assert_eq!(reordered(family, 5), wanted, "{}", family.name);
+    }
+}
+
+/// The files of a feed of 64 lines, and the tables that the model fills, in numbers by record.
+fn filled(name: &str) -> ([Vec<u8>; 5], [Vec<Vec<i32>>; 5]) {
+    let family = FAMILIES.iter().find(|family| family.name == name).expect("a family of this name");
+    let files = (family.feed)(64);
+    let mut filled = tables(&files, -1);
+    model::check(&files, &mut filled, &mut [], [0, 0, 0]);
+    let records = |file: usize| filled[file].chunks(WIDTHS[file]).skip(1).map(<[i32]>::to_vec).collect();
+    let records = [0, 1, 2, 3, 4].map(records);
+    (files, records)
+}
+
+#[test]
+fn ids_are_as_long_as_said() {
+    let (files, tables) = filled("prefix");
+    for file in 0..4 {
+        let ids = tables[file].iter().map(|record| &files[file][record[0] as usize..record[1] as usize]);
+        assert!(ids.into_iter().all(|id| id.len() == 64 && id[..60] == [b'0'; 60]), "file {}", file + 1);
+    }
+    let [_, _, _, trips, calls] = filled("long-ids").1;
+    assert!(trips.iter().all(|trip| trip[1] - trip[0] == 64));
+    assert!(calls[..62].chunks(2).all(|pair| pair[0][0] == pair[1][0]), "two lines a trip");
+}
+
+#[test]
+fn references_go_where_they_should() {
+    let [stops, ..] = filled("last-parent").1;
+    assert!(stops[..62].iter().all(|stop| stop[5] == 63) && stops[62][5] == 0);
+    assert!(filled("all-at-once").1[4].iter().all(|call| call[..2] == [0, 63]));
+    assert!(filled("nowhere").1[4].iter().all(|call| call[0] == 0 && call[1] > 0));
+    let [_, _, _, trips, calls] = filled("unresolved").1;
+    assert!(trips.iter().all(|trip| trip[2..4] == [0, 0]));
+    assert!(calls.iter().zip(1..).all(|(call, record)| call[..2] == [record, 0]));
+}
+
+#[test]
+fn lines_stand_in_the_order_said() {
+    let calls = |name: &str| filled(name).1[4].clone();
+    let trips = |name: &str| calls(name).into_iter().map(|call| call[0]).collect::<Vec<_>>();
+    assert!(trips("plain").windows(2).all(|pair| pair[0] <= pair[1]));
+    assert!(trips("backward").windows(2).all(|pair| pair[0] >= pair[1]));
+    assert_eq!(trips("interleaved")[..8], [1, 2, 3, 4, 5, 6, 1, 2]);
+    assert_eq!(trips("one-trip"), [1; 63]);
+    assert_eq!(trips("few-ids").iter().max(), Some(&4));
+    assert_eq!(calls("quoted"), calls("plain"));
+    assert!(filled("quoted").0.iter().all(|file| file.starts_with(b"\"") && file.ends_with(b"\"\n")));
+}

@@ -1,0 +1,106 @@
+//! The five tables and the findings, in one pass over the records.
+
+use crate::findings::Findings;
+use crate::ids::Ids;
+use crate::reading::{Feed, WIDTHS};
+use crate::records::{Call, Route, Service, Stop, Trip};
+use crate::trips::Trips;
+
+/// Fills the tables and finds what rules 20 to 31 find.
+pub fn fill(feed: &Feed, tables: [&mut [i32]; 5]) -> Findings {
+    let [stops_table, routes_table, services_table, trips_table, calls_table] = tables;
+    let mut found = Findings::default();
+    let stop_ids = Ids::new(feed.stops.iter().map(|stop| stop.id.value));
+    let route_ids = Ids::new(feed.routes.iter().map(|route| route.id.value));
+    let service_ids = Ids::new(feed.services.iter().map(|service| service.id.value));
+    let mut seen = Trips::new(Ids::new(feed.trips.iter().map(|trip| trip.id.value)));
+    stops(&feed.stops, &stop_ids, stops_table, &mut found);
+    routes(&feed.routes, &route_ids, routes_table, &mut found);
+    services(&feed.services, &service_ids, services_table, &mut found);
+    // Rules 30 and 31 stand on lines of trips.txt, and only the lines of stop_times tell them.
+    let later = calls(feed, &mut seen, &stop_ids, calls_table);
+    trips(&feed.trips, [&route_ids, &service_ids], &seen, trips_table, &mut found);
+    found.append(later);
+    found
+}
+
+/// The records of a file from 1 on, each with its room in the table; record 0 is set to zero.
+fn records<'t, R>(
+    records: &'t [R],
+    table: &'t mut [i32],
+    file: usize,
+) -> impl Iterator<Item = (usize, &'t R, &'t mut [i32])> {
+    let width = WIDTHS[file - 1];
+    table[..width].fill(0);
+    let rooms = table.chunks_exact_mut(width).enumerate().skip(1);
+    rooms.zip(records).map(|((record, room), read)| (record, read, room))
+}
+
+fn stops(stops: &[Stop], ids: &Ids, table: &mut [i32], found: &mut Findings) {
+    for (record, stop, room) in records(stops, table, 1) {
+        let has_parent = !stop.parent.is_empty();
+        let parent = if has_parent { ids.record(stop.parent) } else { 0 };
+        let [latitude, longitude] = stop.place;
+        room.copy_from_slice(&[stop.id.start, stop.id.end, latitude, longitude, stop.kind, parent as i32]);
+        found.add(1, record, 20, ids.repeated[record - 1]);
+        found.add(1, record, 21, has_parent && parent == 0);
+        let no_station = parent > 0 && stops[parent - 1].kind != 1;
+        let unfit = if has_parent { stop.kind == 1 } else { stop.kind == 2 };
+        found.add(1, record, 22, unfit || no_station);
+    }
+}
+
+fn routes(routes: &[Route], ids: &Ids, table: &mut [i32], found: &mut Findings) {
+    for (record, route, room) in records(routes, table, 2) {
+        room.copy_from_slice(&[route.id.start, route.id.end, route.kind]);
+        found.add(2, record, 20, ids.repeated[record - 1]);
+        found.add(2, record, 25, !route.named);
+    }
+}
+
+fn services(services: &[Service], ids: &Ids, table: &mut [i32], found: &mut Findings) {
+    for (record, service, room) in records(services, table, 3) {
+        room.copy_from_slice(&[service.id.start, service.id.end, service.days, service.start, service.end]);
+        found.add(3, record, 20, ids.repeated[record - 1]);
+        found.add(3, record, 24, service.end < service.start);
+    }
+}
+
+fn trips(trips: &[Trip], [routes, services]: [&Ids; 2], seen: &Trips, table: &mut [i32], found: &mut Findings) {
+    for (record, trip, room) in records(trips, table, 4) {
+        let (route, service) = (routes.record(trip.route), services.record(trip.service));
+        let [direction, wheelchair, bikes] = trip.choices;
+        let (start, end) = (trip.id.start, trip.id.end);
+        room.copy_from_slice(&[start, end, route as i32, service as i32, direction, wheelchair, bikes]);
+        let repeated = seen.ids.repeated[record - 1];
+        found.add(4, record, 20, repeated);
+        found.add(4, record, 21, route == 0 || service == 0);
+        found.add(4, record, 30, !repeated && seen.seen(record).too_few());
+        found.add(4, record, 31, !repeated && seen.seen(record).untimed_end());
+    }
+}
+
+fn calls<'a>(feed: &Feed<'a>, trips: &mut Trips<'a>, stops: &Ids, table: &mut [i32]) -> Findings {
+    let mut found = Findings::default();
+    for (record, call, room) in records(&feed.calls, table, 5) {
+        let (trip, [falls, early]) = trips.call(call);
+        let stop = stops.record(call.stop);
+        let [pickup, drop_off, timepoint] = call.choices;
+        let (sequence, arrival, departure) = (call.sequence, call.arrival, call.departure);
+        let numbers = [trip as i32, stop as i32, sequence, arrival, departure, pickup, drop_off, timepoint];
+        room.copy_from_slice(&numbers);
+        found.add(5, record, 21, trip == 0 || stop == 0);
+        found.add(5, record, 23, stop > 0 && feed.stops[stop - 1].kind != 0);
+        found.add(5, record, 26, half_timed(call));
+        found.add(5, record, 27, call.timed() && departure < arrival);
+        found.add(5, record, 28, falls);
+        found.add(5, record, 29, early);
+    }
+    found
+}
+
+/// Rule 26: just one time is given, or timepoint is 1 without both.
+fn half_timed(call: &Call) -> bool {
+    let one_time = (call.arrival < 0) != (call.departure < 0);
+    one_time || call.choices[2] == 1 && !call.timed()
+}

@@ -1,0 +1,89 @@
+//! Refusals 1 to 13: rules 1 to 4 over whole files, then each file once, line by line.
+
+use crate::header::Header;
+use crate::lines::Cut;
+use crate::records::{Call, Record, Route, Service, Stop, Trip};
+use crate::row::Row;
+use model::Answer;
+
+/// How many numbers a record of each table has.
+pub const WIDTHS: [usize; 5] = [6, 3, 5, 7, 8];
+
+const MOST_BYTES: usize = 16_777_216;
+const MOST_LINES: usize = 65_536;
+
+/// The five files, read.
+pub struct Feed<'a> {
+    pub stops: Vec<Stop<'a>>,
+    pub routes: Vec<Route<'a>>,
+    pub services: Vec<Service<'a>>,
+    pub trips: Vec<Trip<'a>>,
+    pub calls: Vec<Call<'a>>,
+}
+
+/// The feed, or its first refusal.
+pub fn read(files: &[Vec<u8>; 5], rooms: [usize; 5]) -> Result<Feed<'_>, Answer> {
+    let lines = whole_files(files, rooms)?;
+    Ok(Feed {
+        stops: file(files, lines, 1)?,
+        routes: file(files, lines, 2)?,
+        services: file(files, lines, 3)?,
+        trips: file(files, lines, 4)?,
+        calls: file(files, lines, 5)?,
+    })
+}
+
+/// Rules 1 to 4, each over all files: how many lines each file has.
+fn whole_files(files: &[Vec<u8>; 5], rooms: [usize; 5]) -> Result<[usize; 5], Answer> {
+    let refuse = |number, broken: Option<usize>| match broken {
+        Some(file) => Err(Answer::Refused { number, file: file + 1, line: 0 }),
+        None => Ok(()),
+    };
+    refuse(1, files.iter().position(|file| file.len() > MOST_BYTES))?;
+    let lines = files.each_ref().map(|file| line_ends(file));
+    refuse(2, lines.iter().position(|&lines| lines > MOST_LINES))?;
+    refuse(3, (0..5).find(|&file| rooms[file] < WIDTHS[file] * lines[file]))?;
+    refuse(4, files.iter().position(|file| file.last() != Some(&b'\n')))?;
+    Ok(lines)
+}
+
+/// How many LF bytes a file has. A sum of up to 255 of them fits in a byte, which lets many be added at once.
+fn line_ends(file: &[u8]) -> usize {
+    let of = |piece: &[u8]| piece.iter().fold(0_u8, |sum, &byte| sum.wrapping_add(u8::from(byte == b'\n')));
+    file.chunks(255).map(|piece| usize::from(of(piece))).sum()
+}
+
+/// The records of one of the files, or its first refusal.
+fn file<'a, R: Record<'a>>(files: &'a [Vec<u8>; 5], lines: [usize; 5], number: usize) -> Result<Vec<R>, Answer> {
+    let mut records = Vec::with_capacity(lines[number - 1]);
+    match fill(&files[number - 1], &mut records) {
+        Ok(()) => Ok(records),
+        Err((rule, line)) => Err(Answer::Refused { number: rule, file: number, line }),
+    }
+}
+
+/// Reads a file's lines into records; the first rule broken comes with its line.
+fn fill<'a, R: Record<'a>>(file: &'a [u8], records: &mut Vec<R>) -> Result<(), (usize, usize)> {
+    let start = if file.starts_with(b"\xEF\xBB\xBF") { 3 } else { 0 };
+    let mut line = Cut::new();
+    let on_line_1 = |rule| (rule, 1);
+    let mut at = line.cut(file, start).map_err(on_line_1)?;
+    let header = Header::read(file, &line, &R::COLUMNS).map_err(on_line_1)?;
+    while at < file.len() {
+        let on_this = |rule| (rule, records.len() + 2);
+        at = line.cut(file, at).map_err(on_this)?;
+        let record = record(file, &line, &header).map_err(on_this)?;
+        records.push(record);
+    }
+    Ok(())
+}
+
+/// Rules 10 to 13 on a line that is cut, and its record.
+fn record<'a, R: Record<'a>>(file: &'a [u8], line: &Cut, header: &Header) -> Result<R, usize> {
+    if line.count != header.count {
+        return Err(10);
+    }
+    let mut row = Row { file, header, line, broken: None };
+    let record = R::read(&mut row);
+    row.broken.map_or(Ok(record), Err)
+}

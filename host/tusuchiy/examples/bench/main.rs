@@ -1,0 +1,97 @@
+//! A benchmark, not a test: the proved check beside a check by hash maps, on the same feeds, in one run.
+//! Run it with: cargo run --release --example bench -- [--only FEED] [--lines N]
+#![deny(unsafe_code)]
+
+mod clock;
+mod measure;
+mod report;
+mod table;
+
+use cases::large::families::{Family, FAMILIES};
+use measure::{fastest, parts, Checker};
+use model::Answer;
+use report::{Parts, Row};
+
+/// The lines of the longest file, the header counted: the most that rule 2 allows.
+const MOST_LINES: usize = 65_536;
+
+/// A size is skipped where a check would take longer than so many seconds, if its time grew with the square.
+const PATIENCE: f64 = 30.0;
+
+const USAGE: &str = "usage: bench [--only FEED] [--lines N]";
+
+struct Options {
+    only: Option<String>,
+    lines: usize,
+}
+
+fn options() -> Option<Options> {
+    let mut options = Options { only: None, lines: MOST_LINES };
+    let mut words = std::env::args().skip(1);
+    while let Some(word) = words.next() {
+        match word.as_str() {
+            "--only" => options.only = Some(words.next()?),
+            "--lines" => options.lines = words.next()?.parse().ok().filter(|&lines| lines >= 1024)?,
+            _ => return None,
+        }
+    }
+    Some(options)
+}
+
+fn main() {
+    let Some(options) = options() else { stop(USAGE) };
+    let chosen = |family: &&Family| options.only.as_ref().map_or(true, |name| name == family.name);
+    let families: Vec<&'static Family> = FAMILIES.iter().filter(chosen).collect();
+    if families.is_empty() {
+        stop(&format!("the feeds are: {}", FAMILIES.each_ref().map(|family| family.name).join(", ")));
+    }
+    report::introduce(&families);
+    let rows: Vec<Row> = families.iter().flat_map(|family| sizes(family, options.lines)).collect();
+    let parts: Vec<Parts> = families.iter().map(|family| parts_of(family, &rows)).collect();
+    report::parts(&parts);
+    report::summary(&rows);
+}
+
+fn stop(words: &str) -> ! {
+    eprintln!("{words}");
+    std::process::exit(2);
+}
+
+/// Measures a feed at a sixteenth of the lines, at a fourth, and at all of them.
+fn sizes(family: &'static Family, most: usize) -> Vec<Row> {
+    let mut rows: Vec<Row> = Vec::new();
+    for lines in [most / 16, most / 4, most] {
+        let before = rows.last().map(|row| row.check);
+        let row = size(family, lines, before);
+        report::row(&row);
+        rows.push(row);
+    }
+    rows
+}
+
+/// One size: `before` is the check's time for a fourth of the lines, none within if that was skipped.
+fn size(family: &'static Family, lines: usize, before: Option<Option<f64>>) -> Row {
+    let files = (family.feed)(lines);
+    let (quick, outcome) = fastest(Checker::Quick, &files);
+    if let Answer::Refused { number, .. } = outcome.answer {
+        stop(&format!("{} of {lines} lines is refused by rule {number}, and a refusal is no measure", family.name));
+    }
+    let patient = before.map_or(true, |before| before.is_some_and(|before| before * 16.0 <= PATIENCE));
+    let check = patient.then(|| {
+        let (time, proved) = fastest(Checker::Proved, &files);
+        assert!(proved == outcome, "{}: the two checks differ", family.name);
+        time
+    });
+    let growth = check.zip(before.flatten()).map(|(check, before)| check / before);
+    let bytes = files.iter().map(Vec::len).sum();
+    Row { family, lines, bytes, check, quick, growth }
+}
+
+/// The parts of both checks at the largest size of a feed that wasn't skipped.
+fn parts_of(family: &'static Family, rows: &[Row]) -> Parts {
+    let measured = |row: &&Row| row.family.name == family.name && row.check.is_some();
+    let row = rows.iter().filter(measured).last().expect("the smallest size is never skipped");
+    let files = (family.feed)(row.lines);
+    let proved = parts(Checker::Proved, &files, row.check.unwrap_or_default());
+    Parts { family, lines: row.lines, proved, quick: parts(Checker::Quick, &files, row.quick) }
+}

@@ -1,0 +1,94 @@
+//! The processor time of one call: of either check on a feed, and of its parts.
+
+use crate::clock;
+use cases::Outcome;
+use model::Answer;
+use tusuchiy::Verdict;
+
+/// A call is made again until this many seconds are spent, but so many times at most; the fastest counts.
+pub const SPENT: f64 = 0.4;
+pub const RUNS: usize = 20;
+
+/// The command's list: room for so many findings.
+pub const ROOM: usize = 65_536;
+
+type Files = [Vec<u8>; 5];
+
+#[derive(Clone, Copy)]
+pub enum Checker {
+    Proved,
+    Quick,
+}
+
+impl Checker {
+    /// One call, and its time.
+    fn call(self, files: &Files, lent: &mut Outcome) -> f64 {
+        let (tables, list) = (&mut lent.tables, &mut lent.list[..]);
+        let start = clock::seconds();
+        lent.answer = match self {
+            Checker::Quick => quick::check(files, tables, list, [0, 0, 0]),
+            Checker::Proved => {
+                let files = files.each_ref().map(|file| &file[..]);
+                let tables = tables.each_mut().map(|table| &mut table[..]);
+                words(&tusuchiy::check(files, tables, list, [0, 0, 0]))
+            }
+        };
+        clock::seconds() - start
+    }
+}
+
+/// The archive's answer in the model's words.
+fn words(answer: &tusuchiy::Answer) -> Answer {
+    match answer.verdict().expect("a known answer") {
+        Verdict::Accepted => Answer::Accepted,
+        Verdict::Findings { written, total } => Answer::Findings { written, total },
+        Verdict::Refused { number, file, line } => Answer::Refused { number, file, line },
+    }
+}
+
+/// Tables and list as lent, written to before the clock starts, so that their memory is there.
+fn lend(files: &Files) -> Outcome {
+    Outcome { answer: Answer::Accepted, tables: cases::large::tables(files, -1), list: vec![-1; ROOM * 3] }
+}
+
+/// The time of the fastest call, and what a call gave.
+pub fn fastest(checker: Checker, files: &Files) -> (f64, Outcome) {
+    let mut lent = lend(files);
+    let mut least = checker.call(files, &mut lent);
+    let mut spent = least;
+    for _ in 1..RUNS {
+        if spent >= SPENT {
+            break;
+        }
+        lent = lend(files);
+        let time = checker.call(files, &mut lent);
+        least = least.min(time);
+        spent += time;
+    }
+    (least, lent)
+}
+
+/// The parts of a call that takes this long: rules 1 to 4, reading, and all that follows.
+pub fn parts(checker: Checker, files: &Files, whole: f64) -> [f64; 3] {
+    let (wholes, outcome) = fastest(checker, &unended(files));
+    assert_eq!(outcome.answer, Answer::Refused { number: 4, file: 5, line: 0 });
+    let (read, outcome) = fastest(checker, &malformed(files));
+    let line = model::fields::line_ends(&files[4]);
+    assert_eq!(outcome.answer, Answer::Refused { number: 13, file: 5, line });
+    [wholes, (read - wholes).max(0.0), (whole - read).max(0.0)]
+}
+
+/// The feed without its last LF, refused before any line is read.
+fn unended(files: &Files) -> Files {
+    let mut files = files.clone();
+    files[4].pop();
+    files
+}
+
+/// The feed with a letter in its last value, refused after all is read.
+fn malformed(files: &Files) -> Files {
+    let mut files = files.clone();
+    let last = files[4].iter().rposition(u8::is_ascii_digit).expect("a last sequence");
+    files[4][last] = b'x';
+    files
+}
