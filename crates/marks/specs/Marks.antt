@@ -6,10 +6,6 @@ use mathlib.Core.Bool.{Bool, true, false}
 use lib.ListN.{length, getD}
 use lib.Dec.{eqb}
 
--- as many entries as a file can have lines, by rule 2
-abbrev pub entries : ℕ
-entries = 65536
-
 -- has record r mark b
 unfoldable pub marked : List ℕ → ℕ → ℕ → Bool
 marked m b r = eqb (getD m r 0 / 2 ^ b % 2) 1

@@ -2,20 +2,18 @@
 ghost use mathlib.Core.Path.{_≡_};
 ghost use Prim.Native.Nat.{_<_};
 ghost use Rattle.marks.specs.Marks.{marked, Blank, OneMore};
-
-// As many entries as a file can have lines, by rule 2: record r of any file has entry r.
-pub const ENTRIES: usize = 65536;
+use meaning::MAX_LINES;
 
 // Mark f, of files 1 to 6: the id of the line stands on an earlier one of file f. The marks from 7 on have names.
 pub const PARENT: usize = 7;
 
 pub const NAMELESS: usize = 8;
 
-// No record is marked.
-pub fn blank() -> [u16; ENTRIES]
+// No record is marked. As many entries as a file can have lines: record r of any file has entry r.
+pub fn blank() -> [u16; MAX_LINES]
     ensures { λ r. ⌜ Blank r ⌝ }
 {
-    [0u16; ENTRIES]
+    [0u16; MAX_LINES]
 }
 
 // Has record r mark b? None has that has no entry.

@@ -15,7 +15,7 @@ use Rattle.meaning.specs.Lists.{same, keep, laid}
 use Rattle.meaning.specs.Bytes.{Line, linesOf, countLf, fields}
 use Rattle.meaning.specs.Columns.{places, headerOf}
 use Rattle.meaning.specs.Tables.{Feed, fileOf, timeTrip, widthOf}
-use Rattle.meaning.specs.Refusals.{Test, test, Claim, claim, rule1, rule2, rule3, rule4, headTests, lineTests, long, blank, formless, refusal, verdictOf}
+use Rattle.meaning.specs.Refusals.{Test, test, Claim, claim, maxBytes, maxLines, rule1, rule2, rule3, rule4, headTests, lineTests, long, blank, formless, refusal, verdictOf}
 use Rattle.meaning.specs.Rules.{row, timed, arrives, departs, rulesOf, recordCount}
 use Rattle.meaning.specs.Findings.{Finding, after, triples, answerNumbers}
 use Rattle.meaning.specs.Outcome.{Outcome}
@@ -152,8 +152,8 @@ pub data Ends (files : List (List ℕ)) (ns : List ℕ) : Type 0 where
 
 -- rules 1 to 4 are kept by a file and its table's length
 pub record WholeKept (f : ℕ) (s : List ℕ) (room : ℕ) : Type 0 where
-  pub short : length s ≤ 16777216
-  pub few : countLf s ≤ 65536
+  pub short : length s ≤ maxBytes
+  pub few : countLf s ≤ maxLines
   pub roomy : widthOf f * countLf s ≤ room
   pub ended : rule4 f s room ≡ false
 

@@ -37,13 +37,20 @@ unfoldable pub onLine : ℕ → ℕ → List Test → List Claim
 onLine f n [] = []
 onLine f n (t ∷ r) = claim (t .number) f n (t .broken) ∷ onLine f n r
 
+-- the limits of rules 1 and 2: every size that follows from them names these two
+abbrev pub maxBytes : ℕ
+maxBytes = 16777216
+
+abbrev pub maxLines : ℕ
+maxLines = 65536
+
 -- 1: file longer than 16,777,216 bytes
 unfoldable pub rule1 : ℕ → List ℕ → ℕ → Bool
-rule1 f s room = ltb 16777216 (length s)
+rule1 f s room = ltb maxBytes (length s)
 
 -- 2: more than 65,536 LF bytes
 unfoldable pub rule2 : ℕ → List ℕ → ℕ → Bool
-rule2 f s room = ltb 65536 (countLf s)
+rule2 f s room = ltb maxLines (countLf s)
 
 -- 3: table shorter than its width times the file's LF count
 unfoldable pub rule3 : ℕ → List ℕ → ℕ → Bool

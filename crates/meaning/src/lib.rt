@@ -1,4 +1,10 @@
-// The types that definitions and code share.
+// The types and the limits that definitions and code share.
+
+// The most bytes of a file, by rule 1.
+pub const MAX_BYTES: usize = 16777216;
+
+// The most LF bytes of a file, by rule 2; as many entries has every array with one for each line.
+pub const MAX_LINES: usize = 65536;
 
 // Where something starts and where it ends, the end excluded.
 pub struct Bounds {

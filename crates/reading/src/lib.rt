@@ -4,6 +4,8 @@ use meaning::Choice;
 use meaning::Column;
 use meaning::Date;
 use meaning::Degrees;
+use meaning::MAX_BYTES;
+use meaning::MAX_LINES;
 use meaning::Number;
 use meaning::Refusal;
 use meaning::Time;
@@ -344,8 +346,8 @@ fn whole_of(f: usize, s: &[u8], room: usize) -> Whole
     let short = is_short(f, room, lf);
     let ended = text::ends_with_lf(s);
     Whole {
-        one: 16777216 < s.len(),
-        two: 65536 < lf,
+        one: MAX_BYTES < s.len(),
+        two: MAX_LINES < lf,
         three: short,
         four: !ended,
     }

@@ -9,7 +9,7 @@ use lib.ListN.{length, getD}
 use Rattle.meaning.specs.declared.Place.{Place}
 use Rattle.meaning.specs.Bytes.{countLf}
 use Rattle.meaning.specs.Tables.{Feed}
-use Rattle.meaning.specs.Refusals.{Claim}
+use Rattle.meaning.specs.Refusals.{Claim, maxLines}
 use Rattle.meaning.specs.Rules.{bindings, bindingsOf}
 use Rattle.meaning.specs.Findings.{findingsOf}
 use Rattle.rows.specs.Cells.{natAt}
@@ -33,8 +33,8 @@ module _ (w : Feed) (s₁ s₂ s₃ s₄ s₅ : List ℕ) (t₁ t₂ t₃ t₄ t
       → ((k : ℕ) → getD b k 0 ≡ 0)
       → (FirstLines (λ j. natAt t₅ ((j + 1) * 8)) a 0 → FirstLines (λ j. natAt t₅ ((j + 1) * 8)) first n)
       → (LastLines (λ j. natAt t₅ ((j + 1) * 8)) (λ j. true) b 0 → LastLines (λ j. natAt t₅ ((j + 1) * 8)) (λ j. true) last n)
-      → length first ≡ 65536
-      → length last ≡ 65536
+      → length first ≡ maxLines
+      → length last ≡ maxLines
       → Marked w t₅ first last
   all-marked n a b first last e za zb f l p q =
       let lines : n ≡ length (w .stopTimes) = omega (arith, lines-held 5 (omega arith) (omega arith) w (w .stopTimes) s₅ t₅ (h .times)) in
@@ -103,5 +103,5 @@ all-noted w p lent four five a b =
     b ∙ ap (noting p (bindingsOf w 5)) a ∙ sym (noting-append p cs (bindingsOf w 5) (lentOnly lent)) ∙ ap (λ l. noting p l (lentOnly lent)) e ∙ noting-all p (bindings w) lent
 
 -- a file of at most 65,536 lines adds at most so many findings to at most m
-pub total-more : (r k n l m : ℕ) → r ≤ k + 4 * n → n ≡ l - 1 → l ≤ 65536 → k ≤ m → r ≤ m + 4 * 65536
+pub total-more : (r k n l m : ℕ) → r ≤ k + 4 * n → n ≡ l - 1 → l ≤ maxLines → k ≤ m → r ≤ m + 4 * maxLines
 total-more r k n l m e a h g = omega arith

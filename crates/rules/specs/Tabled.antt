@@ -4,6 +4,7 @@ use mathlib.Core.List.{List}
 use lib.IntN.{ℤ}
 use lib.ListN.{length}
 use Rattle.meaning.specs.Tables.{Feed}
+use Rattle.meaning.specs.Refusals.{maxLines}
 use Rattle.marks.specs.Noted.{Noted}
 use Rattle.held.specs.Held.{Filled}
 use Rattle.file_rules.specs.Lines.{NamedTrips}
@@ -17,4 +18,4 @@ pub record Tabled (w : Feed) (s₁ s₂ s₃ s₄ s₅ : List ℕ) (t₁ t₂ t�
   pub times : Filled 5 w (w .stopTimes) s₅ t₅
   pub noted : Noted w marks
   pub named : NamedTrips w
-  pub few : length (w .trips) < 65536
+  pub few : length (w .trips) < maxLines

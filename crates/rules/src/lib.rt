@@ -7,6 +7,7 @@ ghost use Rattle.meaning.specs.Bytes.{countLf};
 ghost use Rattle.meaning.specs.Tables.{Feed};
 ghost use Rattle.meaning.specs.Rules.{bindingsOf};
 ghost use Rattle.meaning.specs.Findings.{findingsOf};
+ghost use Rattle.meaning.specs.Refusals.{maxLines};
 ghost use Rattle.listing.specs.Handing.{state, noting, handedOut};
 ghost use Rattle.file_rules.specs.Lines.{Marked};
 ghost use Rattle.rules.specs.Tabled.{Tabled};
@@ -41,13 +42,13 @@ fn list_four(
     out: &mut [i32],
     p: Place,
 ) -> Sink
-    requires { ⌜ (countLf (now stops) ≤ 65536) × ((countLf (now routes) ≤ 65536) × ((countLf (now calendar) ≤ 65536) × (countLf (now trips) ≤ 65536))) ⌝ }
+    requires { ⌜ (countLf (now stops) ≤ maxLines) × ((countLf (now routes) ≤ maxLines) × ((countLf (now calendar) ≤ maxLines) × (countLf (now trips) ≤ maxLines))) ⌝ }
     ensures { λ r. ⌜ ((w : Feed) (file : List ℕ)
         → Tabled w (now (stops .entry)) (now (routes .entry)) (now (calendar .entry)) (now (trips .entry)) file
         (now («stops_table» .entry)) (now («routes_table» .entry)) (now («calendar_table» .entry)) (now («trips_table» .entry)) (now (times .entry)) (now (marks .entry))
         → Marked w (now (times .entry)) (now (first .entry)) (now (last .entry))
         → state (now (out .exit)) r ≡ noting p (bindingsOf w 1 ++ (bindingsOf w 2 ++ (bindingsOf w 3 ++ bindingsOf w 4))) (state (now (out .entry)) (record { written = 0; total = 0 }))) ⌝ }
-    ensures { λ r. ⌜ r .total ≤ 16 * 65536 ⌝ }
+    ensures { λ r. ⌜ r .total ≤ 16 * maxLines ⌝ }
 {
     let none = Sink {
         written: 0,
@@ -79,12 +80,12 @@ pub fn list_findings(
     out: &mut [i32],
     p: Place,
 ) -> Sink
-    requires { ⌜ (countLf (now stops) ≤ 65536) × ((countLf (now routes) ≤ 65536) × ((countLf (now calendar) ≤ 65536) × ((countLf (now trips) ≤ 65536) × (countLf (now «stop_times») ≤ 65536)))) ⌝ }
+    requires { ⌜ (countLf (now stops) ≤ maxLines) × ((countLf (now routes) ≤ maxLines) × ((countLf (now calendar) ≤ maxLines) × ((countLf (now trips) ≤ maxLines) × (countLf (now «stop_times») ≤ maxLines)))) ⌝ }
     ensures { λ r. ⌜ ((w : Feed)
         → Tabled w (now (stops .entry)) (now (routes .entry)) (now (calendar .entry)) (now (trips .entry)) (now («stop_times» .entry))
         (now («stops_table» .entry)) (now («routes_table» .entry)) (now («calendar_table» .entry)) (now («trips_table» .entry)) (now (times .entry)) (now (marks .entry))
         → state (now (out .exit)) r ≡ handedOut p (findingsOf w) (now (out .entry))) ⌝ }
-    ensures { λ r. ⌜ r .total ≤ 22 * 65536 ⌝ }
+    ensures { λ r. ⌜ r .total ≤ 22 * maxLines ⌝ }
 {
     let mut first = trip_order::blank();
     let mut last = trip_order::blank();

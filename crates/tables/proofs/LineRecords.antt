@@ -8,6 +8,7 @@ use lib.ListN.{length, getD, take, List·getD-map}
 use Rattle.meaning.specs.Columns.{fieldAt, cell, rowOf}
 use Rattle.meaning.specs.Forms.{latitudeOf, longitudeOf, timeOf, dateOf, sequenceOf, routeTypeOf}
 use Rattle.meaning.specs.Tables.{Feed, degrees, day, number, seconds, picked, orZero, orMinus, refer, packedDays, stopIds, routeIds, serviceIds, tripIds, idPlace, idColumn, parentStation, widthOf, recordOf, numbersOf, stopNumbers, routeNumbers, serviceNumbers, tripNumbers, timeNumbers}
+use Rattle.meaning.specs.Refusals.{maxBytes}
 use Rattle.rows.specs.Cells.{putAt}
 use Rattle.columns.specs.Columns.{startsOf, endsOf}
 use Rattle.columns.proofs.Laws.{row-at, located-inside}
@@ -114,5 +115,5 @@ module _ (l cs st en : List ℕ) (starts : st ≡ startsOf l cs) (ends : en ≡ 
   pub within : Within (length l) st en
   within k = located-inside l cs st en starts ends k
 
-  pub lies : (at : ℕ) → at + length l ≤ 16777216 → Lies l at st en
+  pub lies : (at : ℕ) → at + length l ≤ maxBytes → Lies l at st en
   lies at h = (within, h)

@@ -12,7 +12,8 @@ use Rattle.meaning.specs.Bytes.{countLf}
 use Rattle.meaning.specs.Columns.{Row, rowsOf}
 use Rattle.meaning.specs.Tables.{Feed, feedOf, fileOf, widthOf, idColumn, stopIds, routeIds, serviceIds, tripIds, parentStation, routeShortName, routeLongName}
 use Rattle.meaning.specs.Rules.{row, rule20, rule25, recordCount, recordCounts}
-use Rattle.marks.specs.Marks.{entries, marked, Blank, OneMore, parentMark, namelessMark}
+use Rattle.meaning.specs.Refusals.{maxLines}
+use Rattle.marks.specs.Marks.{marked, Blank, OneMore, parentMark, namelessMark}
 use Rattle.marks.specs.Noted.{idsIn, Noted}
 use Rattle.repeats.specs.Repeats.{Marking as Repeated}
 use Rattle.seeking.specs.First.{Held}
@@ -98,7 +99,7 @@ module _ (f : ℕ) (s : List ℕ) (n : ℕ) (t : List ℤ) (m m′ m″ : List �
 -- ---- the marks of four files
 
 module _ (a b c d e : List ℕ) (m m₁ m₂ m₃ m₄ : List ℕ) (p : Marking 1 a m m₁) (q : Marking 2 b m₁ m₂) (r : Marking 3 c m₂ m₃) (t : Marking 4 d m₃ m₄)
-    (blank : Blank m) (long : entries ≤ length m) (few : (countLf a ≤ 65536) × ((countLf b ≤ 65536) × ((countLf c ≤ 65536) × (countLf d ≤ 65536)))) where
+    (blank : Blank m) (long : maxLines ≤ length m) (few : (countLf a ≤ maxLines) × ((countLf b ≤ maxLines) × ((countLf c ≤ maxLines) × (countLf d ≤ maxLines)))) where
   w : Feed
   w = feedOf (a ∷ b ∷ c ∷ d ∷ e ∷ [])
 

@@ -8,6 +8,7 @@ use Rattle.meaning.specs.declared.Bounds.{Bounds}
 use Rattle.meaning.specs.Bytes.{bounds, part, value, countLf, Line, linesFrom, linesOf}
 use Rattle.meaning.specs.Columns.{fieldAt, places, headerOf}
 use Rattle.meaning.specs.Tables.{Feed, stopIds, routeIds, serviceIds, tripIds, widthOf}
+use Rattle.meaning.specs.Refusals.{maxBytes, maxLines}
 use Rattle.seeking.specs.First.{Held}
 use Rattle.ordering.specs.Ids.{Placed, Arranged}
 use Rattle.memo.specs.Memo.{Ready}
@@ -34,7 +35,7 @@ Located l ps st en = (k : ℕ) → fieldIn st en k ≡ fieldAt l (getD ps k 0)
 
 -- a line at a byte, and its fields, lie inside a file of the largest size
 abbrev pub Lies : List ℕ → ℕ → List ℕ → List ℕ → Type 0
-Lies l at st en = Within (length l) st en × (at + length l ≤ 16777216)
+Lies l at st en = Within (length l) st en × (at + length l ≤ maxBytes)
 
 -- a table of n records, record 0 aside, holds ids
 pub record Lists (s : List ℕ) (t : List ℤ) (width n : ℕ) (ids : List (List ℕ)) : Type 0 where
@@ -65,8 +66,8 @@ pub record Sought (f : ℕ) (a : List ℕ) (at : List ℤ) (an : ℕ) (am b : Li
 -- a file that has a line, no longer than allowed, and a table with room for its records
 pub record Room (f : ℕ) (s : List ℕ) (t : List ℤ) : Type 0 where
   pub lines : 1 ≤ countLf s
-  pub few : countLf s ≤ 65536
-  pub size : length s ≤ 16777216
+  pub few : countLf s ≤ maxLines
+  pub size : length s ≤ maxBytes
   pub room : widthOf f * countLf s ≤ length t
 
 -- what a file's header tells: the columns of its known names, and where the next line starts

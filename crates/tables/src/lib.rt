@@ -8,7 +8,8 @@ ghost use Rattle.meaning.specs.Lists.{flat, laid};
 ghost use Rattle.meaning.specs.Bytes.{countLf};
 ghost use Rattle.meaning.specs.Columns.{rowsOf};
 ghost use Rattle.meaning.specs.Tables.{Feed, feedOf, recordsOf, filled};
-ghost use Rattle.marks.specs.Marks.{entries, Blank};
+ghost use Rattle.meaning.specs.Refusals.{maxBytes, maxLines};
+ghost use Rattle.marks.specs.Marks.{Blank};
 ghost use Rattle.marks.specs.Noted.{Noted};
 ghost use Rattle.tables.specs.Fill.{Heading, Indexed, Refers, Room, Sought};
 ghost use Rattle.tables.specs.Walk.{Ordered, Parents};
@@ -67,7 +68,7 @@ fn fill_lines(
 )
     requires { ⌜ (1 ≤ f) × ((f ≤ 5) × Room f (now s) (now t)) ⌝ }
     requires { ⌜ Heading f (now s) known at ⌝ }
-    requires { ⌜ («a_count» ≤ 16777216) × («b_count» ≤ 16777216) ⌝ }
+    requires { ⌜ («a_count» ≤ maxBytes) × («b_count» ≤ maxBytes) ⌝ }
     requires { ⌜ Sought f (now a) (now «a_table») «a_count» (now «a_memo») (now b) (now «b_table») «b_count» (now «b_memo») ⌝ }
     ensures { λ _. ⌜ ((w : Feed) (lent : List ℤ)
         → Refers f w (now (a .entry)) (now («a_table» .entry)) «a_count» (now (b .entry)) (now («b_table» .entry)) «b_count»
@@ -119,7 +120,7 @@ fn fill(
     b_count: usize,
 )
     requires { ⌜ (1 ≤ f) × ((f ≤ 5) × Room f (now s) (now t)) ⌝ }
-    requires { ⌜ («a_count» ≤ 16777216) × («b_count» ≤ 16777216) ⌝ }
+    requires { ⌜ («a_count» ≤ maxBytes) × («b_count» ≤ maxBytes) ⌝ }
     requires { ⌜ Indexed f (now a) (now «a_table») «a_count» (now b) (now «b_table») «b_count» ⌝ }
     ensures { λ _. ⌜ ((w : Feed)
         → Refers f w (now (a .entry)) (now («a_table» .entry)) «a_count» (now (b .entry)) (now («b_table» .entry)) «b_count»
@@ -179,7 +180,7 @@ fn order_all(
     marks: &mut [u16],
 ) -> Counts
     requires { ⌜ Room 1 (now stops) (now «stops_table») × (Room 2 (now routes) (now «routes_table») × (Room 3 (now calendar) (now «calendar_table») × Room 4 (now trips) (now «trips_table»))) ⌝ }
-    requires { ⌜ Blank (now marks) × (entries ≤ length (now marks)) ⌝ }
+    requires { ⌜ Blank (now marks) × (maxLines ≤ length (now marks)) ⌝ }
     ensures { λ r. ⌜ Ordered 1 (now (stops .entry)) (r .stops) (now («stops_table» .entry)) (now («stops_table» .exit)) ⌝ }
     ensures { λ r. ⌜ Ordered 2 (now (routes .entry)) (r .routes) (now («routes_table» .entry)) (now («routes_table» .exit)) ⌝ }
     ensures { λ r. ⌜ Ordered 3 (now (calendar .entry)) (r .services) (now («calendar_table» .entry)) (now («calendar_table» .exit)) ⌝ }
@@ -213,7 +214,7 @@ pub fn fill_all(
     requires { ⌜ Room 3 (now calendar) (now «calendar_table») ⌝ }
     requires { ⌜ Room 4 (now trips) (now «trips_table») ⌝ }
     requires { ⌜ Room 5 (now «stop_times») (now «stop_times_table») ⌝ }
-    requires { ⌜ Blank (now marks) × (entries ≤ length (now marks)) ⌝ }
+    requires { ⌜ Blank (now marks) × (maxLines ≤ length (now marks)) ⌝ }
     ensures { λ _. ⌜ now («stops_table» .exit) ≡ filled 1 (feedOf (now (stops .entry) ∷ now (routes .entry) ∷ now (calendar .entry) ∷ now (trips .entry) ∷ now («stop_times» .entry) ∷ []))
         (now (stops .entry)) (now («stops_table» .entry)) ⌝ }
     ensures { λ _. ⌜ now («routes_table» .exit) ≡ filled 2 (feedOf (now (stops .entry) ∷ now (routes .entry) ∷ now (calendar .entry) ∷ now (trips .entry) ∷ now («stop_times» .entry) ∷ []))

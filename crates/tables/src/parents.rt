@@ -3,6 +3,7 @@ ghost use mathlib.Core.Path.{_≡_};
 ghost use Prim.Native.Nat.{_+_, _*_, _≤_};
 ghost use lib.ListN.{length};
 ghost use Rattle.meaning.specs.Bytes.{part, value};
+ghost use Rattle.meaning.specs.Refusals.{maxBytes};
 ghost use Rattle.rows.specs.Cells.{boundsAt};
 ghost use Rattle.ordering.specs.Ids.{Placed, Arranged};
 ghost use Rattle.seeking.specs.First.{First, names};
@@ -24,7 +25,7 @@ fn waiting_parent(s: &[u8], t: &[i32], n: usize, row: StopRow, memo: &mut [u32])
 
 // Each stop's parent, number 5 of its record, behind a memo.
 fn settle_with(s: &[u8], n: usize, t: &mut [i32], memo: &mut [u32])
-    requires { ⌜ Ready (now s) (now t) 6 n (now memo) × (n ≤ 16777216) ⌝ }
+    requires { ⌜ Ready (now s) (now t) 6 n (now memo) × (n ≤ maxBytes) ⌝ }
     ensures { λ _. ⌜ Settled (now (s .entry)) n (now (t .entry)) (now (t .exit)) ⌝ }
 {
     let mut r = 1;
@@ -37,7 +38,7 @@ fn settle_with(s: &[u8], n: usize, t: &mut [i32], memo: &mut [u32])
 
 // Each stop's parent, number 5 of its record.
 pub fn settle_parents(s: &[u8], n: usize, t: &mut [i32])
-    requires { ⌜ Placed (now s) (now t) 6 n × (Arranged (now s) 6 n (now t) × (n ≤ 16777216)) ⌝ }
+    requires { ⌜ Placed (now s) (now t) 6 n × (Arranged (now s) 6 n (now t) × (n ≤ maxBytes)) ⌝ }
     ensures { λ _. ⌜ Settled (now (s .entry)) n (now (t .entry)) (now (t .exit)) ⌝ }
 {
     let mut memo = memo::blank();

@@ -8,6 +8,7 @@ ghost use Rattle.meaning.specs.Lists.{empty, flat, laid};
 ghost use Rattle.meaning.specs.Bytes.{countLf};
 ghost use Rattle.meaning.specs.Columns.{rowOf, rowsOf};
 ghost use Rattle.meaning.specs.Tables.{under, widthOf, idColumn};
+ghost use Rattle.meaning.specs.Refusals.{maxBytes};
 ghost use Rattle.rows.specs.Cells.{putAt};
 ghost use Rattle.tables.specs.Fill.{line, Lies, Within, Located, Heading, Room};
 ghost use Rattle.tables.specs.Noting.{noted, noteMark, Told, Telling, Marking};
@@ -86,7 +87,7 @@ fn place_line(
     r: usize,
     m: &mut [u16],
 )
-    requires { ⌜ (f ≤ 4) × ((at + length (now l) ≤ 16777216) × (r * widthOf f + widthOf f ≤ length (now t))) ⌝ }
+    requires { ⌜ (f ≤ 4) × ((at + length (now l) ≤ maxBytes) × (r * widthOf f + widthOf f ≤ length (now t))) ⌝ }
     ensures { λ _. ⌜ ((ps : List ℕ) → ((k : ℕ) → getD places k 0 ≡ getD ps k 0)
         → (now (t .exit) ≡ putAt (now (t .entry)) (r * widthOf f) (placing f ps (line at (now (l .entry)))))
         × Told (noted f (rowOf ps (now (l .entry)))) (noteMark f) r (now (m .entry)) (now (m .exit))) ⌝ }

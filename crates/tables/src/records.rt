@@ -6,6 +6,7 @@ ghost use lib.IntN.{pos};
 ghost use lib.ListN.{length, getD};
 ghost use Rattle.meaning.specs.Columns.{rowOf};
 ghost use Rattle.meaning.specs.Tables.{Feed, widthOf, recordOf, refer, parentStation, routeIds, serviceIds, tripIds, stopIds};
+ghost use Rattle.meaning.specs.Refusals.{maxBytes};
 ghost use Rattle.rows.specs.Cells.{putAt};
 ghost use Rattle.memo.specs.Memo.{Ready};
 ghost use Rattle.tables.specs.Fill.{line, Lies, Located, Lists, Refers, Sought};
@@ -27,7 +28,7 @@ use rows::Trips;
 pub fn field_place(l: &[u8], at: usize, q: Cells, k: usize) -> Bounds
     requires { ⌜ (k < 10) × Lies (now l) at (q .start) (q .end) ⌝ }
     ensures { λ r. ⌜ (r .start ≡ at + getD (q .start) k 0) × (r .end ≡ at + getD (q .end) k 0) ⌝ }
-    ensures { λ r. ⌜ (r .start ≤ 16777216) × (r .end ≤ 16777216) ⌝ }
+    ensures { λ r. ⌜ (r .start ≤ maxBytes) × (r .end ≤ maxBytes) ⌝ }
 {
     let starts = q.start;
     let ends = q.end;
@@ -94,7 +95,7 @@ pub fn put_trip(
     b_memo: &mut [u32],
 )
     requires { ⌜ Lies (now l) at (q .start) (q .end) × (row .0 * 7 + 7 ≤ length (now t)) ⌝ }
-    requires { ⌜ («a_count» ≤ 16777216) × («b_count» ≤ 16777216) ⌝ }
+    requires { ⌜ («a_count» ≤ maxBytes) × («b_count» ≤ maxBytes) ⌝ }
     requires { ⌜ Ready (now a) (now «a_table») 3 «a_count» (now «a_memo») × Ready (now b) (now «b_table») 5 «b_count» (now «b_memo») ⌝ }
     ensures { λ _. ⌜ ((w : Feed) (ps : List ℕ) → Located (now (l .entry)) ps (q .start) (q .end)
         → Lists (now (a .entry)) (now («a_table» .entry)) 3 «a_count» (routeIds w) → Lists (now (b .entry)) (now («b_table» .entry)) 5 «b_count» (serviceIds w)
@@ -127,7 +128,7 @@ pub fn put_time(
     b_memo: &mut [u32],
 )
     requires { ⌜ Lies (now l) at (q .start) (q .end) × (row .0 * 8 + 8 ≤ length (now t)) ⌝ }
-    requires { ⌜ («a_count» ≤ 16777216) × («b_count» ≤ 16777216) ⌝ }
+    requires { ⌜ («a_count» ≤ maxBytes) × («b_count» ≤ maxBytes) ⌝ }
     requires { ⌜ Ready (now a) (now «a_table») 7 «a_count» (now «a_memo») × Ready (now b) (now «b_table») 6 «b_count» (now «b_memo») ⌝ }
     ensures { λ _. ⌜ ((w : Feed) (ps : List ℕ) → Located (now (l .entry)) ps (q .start) (q .end)
         → Lists (now (a .entry)) (now («a_table» .entry)) 7 «a_count» (tripIds w) → Lists (now (b .entry)) (now («b_table» .entry)) 6 «b_count» (stopIds w)
@@ -173,9 +174,9 @@ pub fn put_record(
     b_count: usize,
     b_memo: &mut [u32],
 )
-    requires { ⌜ (1 ≤ f) × ((f ≤ 5) × (at + length (now l) ≤ 16777216)) ⌝ }
+    requires { ⌜ (1 ≤ f) × ((f ≤ 5) × (at + length (now l) ≤ maxBytes)) ⌝ }
     requires { ⌜ r * widthOf f + widthOf f ≤ length (now t) ⌝ }
-    requires { ⌜ («a_count» ≤ 16777216) × («b_count» ≤ 16777216) ⌝ }
+    requires { ⌜ («a_count» ≤ maxBytes) × («b_count» ≤ maxBytes) ⌝ }
     requires { ⌜ Sought f (now a) (now «a_table») «a_count» (now «a_memo») (now b) (now «b_table») «b_count» (now «b_memo») ⌝ }
     ensures { λ _. ⌜ ((w : Feed) (ps : List ℕ) → ((k : ℕ) → getD places k 0 ≡ getD ps k 0)
         → Refers f w (now (a .entry)) (now («a_table» .entry)) «a_count» (now (b .entry)) (now («b_table» .entry)) «b_count»

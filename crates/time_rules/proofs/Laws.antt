@@ -15,7 +15,7 @@ use Rattle.meaning.specs.Bytes.{Line, bounds, part, countLf, startOf, linesFrom
 use Rattle.meaning.specs.Columns.{cell, places, headerOf}
 use Rattle.meaning.specs.Forms.{timeOf}
 use Rattle.meaning.specs.Tables.{Feed, tripId, timeTrip, timeStop, tripIds, stopIds, refer, stopId, arrivalTime, departureTime}
-use Rattle.meaning.specs.Refusals.{onLine}
+use Rattle.meaning.specs.Refusals.{onLine, maxLines}
 use Rattle.meaning.specs.Rules.{row, timed, timeRules, onRecords, bindingsOf, rulesOf, recordCount, recordCounts}
 use Rattle.meaning.proofs.References.{Named, named}
 use Rattle.text.specs.Lines.{LineStands}
@@ -241,7 +241,7 @@ pub some-line : (w : Feed) (s : List ℕ) (t : List ℤ) {X : Type 0} → Filled
 some-line w s t f at is none = absurd (omega (arith, no-header s at is none, f .some))
 
 -- before the first line no mark is set
-pub no-marks : (w : Feed) (seen timed : List ℕ) → ((k : ℕ) → getD seen k 0 ≡ 0) → ((k : ℕ) → getD timed k 0 ≡ 0) → length seen ≡ 65536 → length timed ≡ 65536 → length (w .trips) < 65536 → Marks w seen timed 0
+pub no-marks : (w : Feed) (seen timed : List ℕ) → ((k : ℕ) → getD seen k 0 ≡ 0) → ((k : ℕ) → getD timed k 0 ≡ 0) → length seen ≡ maxLines → length timed ≡ maxLines → length (w .trips) < maxLines → Marks w seen timed 0
 no-marks w seen timed a b m n h = record {
   last = none-last (tripAt w) (λ j. true) seen a;
   last-timed = none-last (tripAt w) (timedAt w) timed b;

@@ -7,7 +7,7 @@ ghost use lib.ListN.{length};
 ghost use Rattle.meaning.specs.Bytes.{value, linesFrom, countLf};
 ghost use Rattle.meaning.specs.Tables.{Feed, tripIds, refer, timeTrip};
 ghost use Rattle.meaning.specs.Rules.{row, timeRules, bindingsOf};
-ghost use Rattle.meaning.specs.Refusals.{onLine};
+ghost use Rattle.meaning.specs.Refusals.{onLine, maxLines};
 ghost use Rattle.rows.specs.Cells.{natAt, timeAt};
 ghost use Rattle.listing.specs.Handing.{state, noting};
 ghost use Rattle.judging.specs.Judging.{testsFrom};
@@ -183,12 +183,12 @@ fn walk(
     k: Sink,
     p: Place,
 ) -> Sink
-    requires { ⌜ (from ≤ length (now s)) × ((length (linesFrom (now s) from) ≤ 65536) × (k .total ≤ 2 ^ 60)) ⌝ }
+    requires { ⌜ (from ≤ length (now s)) × ((length (linesFrom (now s) from) ≤ maxLines) × (k .total ≤ 2 ^ 60)) ⌝ }
     ensures { λ r. ⌜ ((w : Feed) (sb : List ℕ)
         → Context w (now (s .entry)) from at (now (t .entry)) sb (now (stops .entry))
         → Marks w (now (seen .entry)) (now (timed .entry)) 0
         → state (now (out .exit)) r ≡ noting p (bindingsOf w 5) (state (now (out .entry)) k)) ⌝ }
-    ensures { λ r. ⌜ r .total ≤ k .total + 6 * 65536 ⌝ }
+    ensures { λ r. ⌜ r .total ≤ k .total + 6 * maxLines ⌝ }
     ensures { λ _. ⌜ (length (now (seen .exit)) ≡ length (now (seen .entry))) × (length (now (timed .exit)) ≡ length (now (timed .entry))) ⌝ }
 {
     let mut sink = k;
@@ -212,13 +212,13 @@ fn walk(
 
 // The findings of stop_times, whose table and that of stops are filled.
 pub fn list_times(s: &[u8], t: &[i32], stops: &[i32], out: &mut [i32], k: Sink, p: Place) -> Sink
-    requires { ⌜ (countLf (now s) ≤ 65536) × (k .total ≤ 2 ^ 60) ⌝ }
+    requires { ⌜ (countLf (now s) ≤ maxLines) × (k .total ≤ 2 ^ 60) ⌝ }
     ensures { λ r. ⌜ ((w : Feed) (sb : List ℕ)
         → Filled 5 w (w .stopTimes) (now (s .entry)) (now (t .entry))
         → Filled 1 w (w .stops) sb (now (stops .entry))
-        → length (w .trips) < 65536
+        → length (w .trips) < maxLines
         → state (now (out .exit)) r ≡ noting p (bindingsOf w 5) (state (now (out .entry)) k)) ⌝ }
-    ensures { λ r. ⌜ r .total ≤ k .total + 6 * 65536 ⌝ }
+    ensures { λ r. ⌜ r .total ≤ k .total + 6 * maxLines ⌝ }
 {
     match text::next_line(s, text::body_start(s)) {
         LineStep::Line { start, end, next } => {

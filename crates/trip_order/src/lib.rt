@@ -11,6 +11,7 @@ ghost use Rattle.rows.specs.Cells.{natAt};
 ghost use Rattle.trip_order.specs.Ones.{lastOne};
 ghost use Rattle.trip_order.specs.Marks.{LastLines, FirstLines, markedIf};
 ghost use Rattle.trip_order.specs.Nearest.{isTrip, isTimed};
+use meaning::MAX_LINES;
 use meaning::Time;
 use rows::StopTimes;
 use rows::TimeRow;
@@ -18,10 +19,10 @@ use rows::TripRow;
 use text::LineStep;
 
 // As many marks as there can be trip records, none of them set.
-pub fn blank() -> [u32; 65536]
+pub fn blank() -> [u32; MAX_LINES]
     ensures { λ r. ⌜ ((k : ℕ) → getD r k 0 ≡ 0) ⌝ }
 {
-    [0u32; 65536]
+    [0u32; MAX_LINES]
 }
 
 // One mark set, where it is asked for: this line for this trip.

@@ -17,7 +17,7 @@ use Rattle.meaning.specs.declared.Answer.the-variants.{Accepted, Findings, Refu
 use Rattle.meaning.specs.Lists.{keep}
 use Rattle.meaning.specs.Bytes.{countLf}
 use Rattle.meaning.specs.Tables.{fileOf}
-use Rattle.meaning.specs.Refusals.{Claim, claim, refusal, rule2, claims, verdictOf}
+use Rattle.meaning.specs.Refusals.{Claim, claim, refusal, rule2, claims, verdictOf, maxLines}
 use Rattle.meaning.specs.Findings.{Finding, after, page, roomOf}
 use Rattle.meaning.specs.Promises.{Ordered, fileTests, speaksBefore, noClaim, FirstBroken, Sayable}
 use Rattle.meaning.proofs.Laws.{getD-mem}
@@ -67,20 +67,20 @@ module _ (files : List (List ℕ)) (rooms : List ℕ) (r : Refusal) (e : verdict
   said = refusal-numbers files rooms r e
 
   -- a line speaks only where rule 2 is kept
-  few-lines : 5 ≤ r .number → countLf (fileOf files (r .file)) ≤ 65536
+  few-lines : 5 ≤ r .number → countLf (fileOf files (r .file)) ≤ maxLines
   unfolding fileTests rule2 speaksBefore
   few-lines h =
       let p : Claim = claim 2 (r .file) 0 (rule2 (r .file) (fileOf files (r .file)) (getD rooms (r .file - 1) 0)) in
-      ltb-false 65536 (countLf (fileOf files (r .file)))
+      ltb-false maxLines (countLf (fileOf files (r .file)))
       (earlier-kept (claims files rooms) r (first-broken files rooms r .0 e) (claims-ordered files rooms) p
       (claim-of-file files rooms p refl .1 (record { line = refl; from = said .file .0; to = said .file .1; room = omega (arith, said .file .1); rule = List·Memᴰ·tail (List·Memᴰ·head refl) }))
       (λ q g. rw (le-ltb (q .number) 5 (rw (sym (ap (λ (x : Refusal). x .number) g)) at h)))
       (λ q g d. let n : r .number ≡ 2 = sym (ap (λ (x : Refusal). x .number) g) ∙ ap (λ (x : Claim). x .number) d in omega arith))
 
-  pub small-line : r .line ≤ 65536
+  pub small-line : r .line ≤ maxLines
   small-line = go (ltb (r .number) 5) refl
     where
-      go : (t : Bool) → ltb (r .number) 5 ≡ t → r .line ≤ 65536
+      go : (t : Bool) → ltb (r .number) 5 ≡ t → r .line ≤ maxLines
       go true h = let z : r .line ≡ 0 = said .line .1 (omega (arith, ltb-true (r .number) 5 h)) in omega arith
       go false h = omega (arith, said .last, lines-all (fileOf files (r .file)), few-lines (ltb-false (r .number) 5 h))
 

@@ -15,7 +15,7 @@ use Rattle.meaning.specs.declared.Answer.the-variants.{Accepted, Findings, Refu
 use Rattle.meaning.specs.Bytes.{countLf}
 use Rattle.meaning.specs.Columns.{rowsOf, schemas, schema, knownAt, columnOf, countOf, tripsColumns}
 use Rattle.meaning.specs.Tables.{Feed, fileOf, feedOf, filled}
-use Rattle.meaning.specs.Refusals.{verdictOf, blank}
+use Rattle.meaning.specs.Refusals.{verdictOf, blank, maxLines}
 use Rattle.meaning.specs.Findings.{findingsOf, answerOf, handed, page, roomOf}
 use Rattle.meaning.specs.Outcome.{Outcome, readOutcome, filledFrom, outcome}
 use Rattle.meaning.proofs.Readable.{whole-kept, values-kept}
@@ -63,7 +63,7 @@ module _ (s₁ s₂ s₃ s₄ s₅ : List ℕ) (t₁ t₂ t₃ t₄ t₅ : List 
   pub rooms-kept : Room 1 s₁ t₁ × (Room 2 s₂ t₂ × (Room 3 s₃ t₃ × (Room 4 s₄ t₄ × Room 5 s₅ t₅)))
   rooms-kept = (stops-kept, (routes-kept, (calendar-kept, (trips-kept, times-kept))))
 
-  pub few-kept : (countLf s₁ ≤ 65536) × ((countLf s₂ ≤ 65536) × ((countLf s₃ ≤ 65536) × ((countLf s₄ ≤ 65536) × (countLf s₅ ≤ 65536))))
+  pub few-kept : (countLf s₁ ≤ maxLines) × ((countLf s₂ ≤ maxLines) × ((countLf s₃ ≤ maxLines) × ((countLf s₄ ≤ maxLines) × (countLf s₅ ≤ maxLines))))
   few-kept = (stops-kept .few, (routes-kept .few, (calendar-kept .few, (trips-kept .few, times-kept .few))))
 
   -- rule 12: a readable feed has no trip without a route, a service or an id

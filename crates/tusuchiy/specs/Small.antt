@@ -2,8 +2,9 @@
 use Prim.Native.Nat.{_≤_}
 use Rattle.meaning.specs.declared.Answer.{Answer}
 use Rattle.meaning.specs.declared.Answer.the-variants.{Accepted, Findings, Refused}
+use Rattle.meaning.specs.Refusals.{maxLines}
 
 abbrev pub Small : Answer → Type 0
 Small Accepted = Unit {0}
 Small (Findings written total) = (written ≤ 1441792) × (total ≤ 1441792)
-Small (Refused r) = (r .number ≤ 13) × ((r .file ≤ 5) × ((r .line ≤ 65536) × (r .column ≤ 0)))
+Small (Refused r) = (r .number ≤ 13) × ((r .file ≤ 5) × ((r .line ≤ maxLines) × (r .column ≤ 0)))
