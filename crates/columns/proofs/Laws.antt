@@ -282,3 +282,15 @@ module _ (f : ℕ) (header : List (List ℕ)) (l ps ss es : List ℕ) (places-ar
   pub known-value : value (part l (bounds (getD ss k 0) (getD es k 0))) ≡ getD (rowOf (places f header) l) k []
   unfolding cell
   known-value = rw (known-field, row-at (places f header) l k)
+
+-- a column past the last field, or none, has none
+pub field-past : (l : List ℕ) (p n : ℕ) → length (fields l) < n → (p < n → p ≡ 0) → fieldAt l p ≡ bounds 0 0
+unfolding fieldAt
+field-past l p n o none = go (eqb p 0) refl
+  where
+    go : (t : Bool) → eqb p 0 ≡ t → cond t (bounds 0 0) (getD (fields l) (p - 1) (bounds 0 0)) ≡ bounds 0 0
+    go true e = refl
+    go false e =
+        let z : p ≡ 0 → ⊥ = eqb-false p 0 e in
+        let y : p < n → ⊥ = λ h. z (none h) in
+        List·getD-eq-default (fields l) (bounds 0 0) (omega (arith, y))

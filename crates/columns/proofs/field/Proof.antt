@@ -1,60 +1,44 @@
 -- `columns::field` meets its contract.
-use native.Mathlib.Omega.{arith}
+use Rattle.text.proofs.Fields.{field-inside}
+use Rattle.meaning.specs.declared.Bounds.{Bounds}
 use Rattle.meaning.specs.Bytes.{part}
-use Rattle.columns.proofs.Laws.{located-inside, field-of}
+use mathlib.Core.Path.{ap}
+use Prim.Native.Nat.{_-_}
+use native.Mathlib.Omega.{arith}
+use lib.ListN.{getD}
 use borrow.Author.Needs.{needs}
 use Rattle.columns.proofs.field.Statement.{statement}
 use Rattle.columns.proofs.field.Tie as tie
 
-locate-requires : tie.Need-locate-requires
-locate-requires c κs = search needs
+mul-p : tie.Need-mul-p
+mul-p c = search needs
 
-mul-a : tie.Need-mul-a
-mul-a c = search needs
+array-read-p : tie.Need-array-read-p
+array-read-p c = search needs
 
-array-read-a : tie.Need-array-read-a
-array-read-a c = search needs
-
-mul-e : tie.Need-mul-e
-mul-e c = search needs
-
-array-read-e : tie.Need-array-read-e
-array-read-e c = search needs
+bounds-at-requires : tie.Need-bounds-at-requires
+bounds-at-requires c κs = search needs
 
 sub-result : tie.Need-sub-result
-sub-result c =
-    let k = c .before .before .locate in
-    let s = c .before .before .before .before .args in
-    omega (arith, located-inside (s .l .now) (s .at) _ _ (k .ensures .0) (k .ensures .1) (s .k))
+sub-result c = rw (c .bounds-at .ensures) (field-inside _ _ .ordered)
 
 part-result-start : tie.Need-part-result-start
-part-result-start c =
-    let k = c .before .before .locate in
-    let s = c .before .before .before .before .args in
-    omega (arith, located-inside (s .l .now) (s .at) _ _ (k .ensures .0) (k .ensures .1) (s .k))
+part-result-start c = let i = field-inside (c .before .before .args .l .now) (getD (c .before .before .args .t2) (c .before .before .args .k) 0) in omega (arith, i .ordered, i .within, ap (λ (b : Bounds). b .start) (c .bounds-at .ensures), ap (λ (b : Bounds). b .end) (c .bounds-at .ensures))
 
 part-result-end : tie.Need-part-result-end
-part-result-end c =
-    let k = c .before .before .locate in
-    let s = c .before .before .before .before .args in
-    omega (arith, located-inside (s .l .now) (s .at) _ _ (k .ensures .0) (k .ensures .1) (s .k))
+part-result-end c = let i = field-inside (c .before .before .args .l .now) (getD (c .before .before .args .t2) (c .before .before .args .k) 0) in omega (arith, i .ordered, i .within, ap (λ (b : Bounds). b .start) (c .bounds-at .ensures), ap (λ (b : Bounds). b .end) (c .bounds-at .ensures))
 
 returns : tie.Need-returns
 unfolding part
-returns c =
-    let k = c .before .before .before .locate in
-    let s = c .before .before .before .before .before .args in
-    rw (k .ensures .0, k .ensures .1) (field-of (s .l .now) (s .at) (s .k))
+returns c = ap (λ (b : Bounds). part (c .before .before .before .args .l .now) b) (c .before .bounds-at .ensures)
 
 pub field-spec : {M : Type 1} → statement M
 field-spec =
     tie.close
     (tie.spec
-    locate-requires
-    mul-a
-    array-read-a
-    mul-e
-    array-read-e
+    mul-p
+    array-read-p
+    bounds-at-requires
     sub-result
     part-result-start
     part-result-end
