@@ -134,29 +134,20 @@ pub struct Cells {
     pub end: [usize; 10],
 }
 
-// v at each known column that stands in column j.
-fn note(to: [usize; 10], at: [usize; 10], j: usize, v: usize) -> [usize; 10]
-    ensures { λ r. ⌜ r ≡ noted at j v 10 to ⌝ }
-{
-    let mut r = to;
-    let mut k = 0;
-    while k < 10 {
-        if at[k] == j {
-            r[k] = v;
-        }
-        k += 1;
-    }
-    r
-}
-
 // A field from a to e, noted at each known column that stands in its column j.
 fn note_field(c: Cells, at: [usize; 10], j: usize, a: usize, e: usize) -> Cells
     ensures { λ r. ⌜ (r .start ≡ noted at j a 10 (c .start)) × (r .end ≡ noted at j e 10 (c .end)) ⌝ }
 {
-    let starts = c.start;
-    let ends = c.end;
-    let start = note(starts, at, j, a);
-    let end = note(ends, at, j, e);
+    let mut start = c.start;
+    let mut end = c.end;
+    let mut k = 0;
+    while k < 10 {
+        if at[k] == j {
+            start[k] = a;
+            end[k] = e;
+        }
+        k += 1;
+    }
     Cells { start, end }
 }
 
