@@ -4,7 +4,7 @@ use mathlib.Core.Bool.{Bool, true, false}
 use mathlib.Core.List.{List}
 use Prim.Native.Nat.{ℕ, _+_, _*_, _≤_, _<_}
 use native.Mathlib.Omega.{arith}
-use lib.IntN.{ℤ, pos}
+use lib.IntN.{ℤ}
 use lib.ListN.{length, getD, set}
 use lib.Seq.{getD-set-same, getD-set-other, set-out}
 use lib.Dec.{leb}
@@ -12,7 +12,7 @@ use borrow.Author.Tests.{leb-true, leb-false}
 use Rattle.meaning.specs.Lists.{same}
 use Rattle.meaning.specs.Bytes.{part, value}
 use Rattle.meaning.proofs.ListLaws.{same-equal}
-use Rattle.rows.specs.Cells.{natAt, boundsAt}
+use Rattle.rows.specs.Cells.{boundsAt}
 use Rattle.ordering.specs.Ids.{idOf, Placed, Arranged}
 use Rattle.ordering.proofs.Laws.{Alike, yes, no, alike}
 use Rattle.seeking.specs.First.{First, idIs}

@@ -1,5 +1,4 @@
 // The record that a reference names.
-ghost use mathlib.Core.Path.{_≡_};
 ghost use Prim.Native.Nat.{_+_, _≤_};
 ghost use Rattle.meaning.specs.Bytes.{value};
 ghost use Rattle.seeking.specs.First.{First, names};

@@ -65,15 +65,7 @@ fn stops() {
         b"settled",
         same(&t, &[7, 7, 7, 7, 7, 7, 36, 37, 0, 41, 44, 1, 7]),
     );
-    Stops::put(
-        &mut t,
-        StopRow(1),
-        id,
-        -338674999,
-        -1800000000,
-        2,
-        StopRow(1),
-    );
+    Stops::put(&mut t, StopRow(1), id, -338674999, -1800000000, 2);
     let want = [7, 7, 7, 7, 7, 7, 36, 37, -338674999, -1800000000, 2, 1, 7];
     told(b"stops", same(&t, &want));
 }

@@ -1,6 +1,6 @@
 // The first record with an id, found by halving a sorted order.
 ghost use mathlib.Core.Path.{_≡_};
-ghost use Prim.Native.Nat.{ℕ, _+_, _*_, _^_, _<_, _≤_};
+ghost use Prim.Native.Nat.{_+_, _^_, _<_, _≤_};
 ghost use Rattle.meaning.specs.Bytes.{value};
 ghost use Rattle.ranking.specs.Ranks.{before};
 ghost use Rattle.ordering.specs.Cells.{cell, Room, Kept};

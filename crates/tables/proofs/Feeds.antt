@@ -15,7 +15,6 @@ use Rattle.text.proofs.Lines.{ended-count}
 use Rattle.meaning.specs.Columns.{rowsOf}
 use Rattle.meaning.specs.Tables.{Feed, under, idColumn, widths, widthOf, parentStation, stopIds, routeIds, serviceIds, tripIds, fileOf, feedOf}
 use Rattle.ordering.specs.Ids.{Placed, Arranged}
-use Rattle.seeking.specs.First.{Held}
 use Rattle.seeking.proofs.First.{refer-held, held-as}
 use Rattle.seeking.proofs.Laws.{held-placed, arranged-as}
 use Rattle.memo.specs.Memo.{Ready}

@@ -1,26 +1,25 @@
 -- After the first walk and the sort a table holds its file's ids in their order, and the places of parents.
-use mathlib.Core.Path.{_≡_, refl, sym, ap, _∙_}
+use mathlib.Core.Path.{_≡_, sym, ap, _∙_}
 use mathlib.Core.List.{List, []}
 use Prim.Native.Nat.{ℕ, zero, suc, _+_, _*_, _-_, _^_, _≤_, _<_}
 use native.Mathlib.Omega.{arith}
 use native.Mathlib.Nat.{mul-comm}
 use lib.IntN.{ℤ, pos}
 use lib.ListN.{length, getD}
-use Rattle.num.specs.Signs.{natOf}
 use Rattle.meaning.specs.Lists.{flat, laid}
-use Rattle.meaning.specs.Bytes.{Line, bounds, part, value, countLf, linesOf, startOf}
-use Rattle.meaning.specs.Columns.{places, headerOf, rowOf, rowsOf}
+use Rattle.meaning.specs.Bytes.{Line, part, value, countLf, linesOf, startOf}
+use Rattle.meaning.specs.Columns.{places, headerOf, rowsOf}
 use Rattle.meaning.specs.Tables.{widths, widthOf, idPlace, parentStation}
 use Rattle.text.proofs.Lines.{lines-all}
 use Rattle.columns.proofs.Laws.{row-at}
-use Rattle.rows.specs.Cells.{natAt, boundsAt}
+use Rattle.rows.specs.Cells.{boundsAt}
 use Rattle.rows.proofs.Records.{flat-length}
 use Rattle.ordering.specs.Cells.{Kept, Room as Wide}
 use Rattle.ordering.specs.Ids.{Arranged}
 use Rattle.seeking.proofs.Laws.{held-kept}
 use Rattle.tables.specs.Fill.{line, Room}
-use Rattle.tables.specs.Walk.{placeOf, tabled, placing, placedOf, Ordered}
-use Rattle.tables.proofs.Turns.{eight-wide, wide, table-length, count-length}
+use Rattle.tables.specs.Walk.{placeOf, placing, placedOf, Ordered}
+use Rattle.tables.proofs.Turns.{eight-wide, wide, table-length}
 use Rattle.tables.proofs.Written.{placing-id, placing-wide}
 use Rattle.tables.proofs.Ids.{lines-in, place-value, row-of-line, cell-of, ids-laid}
 use Rattle.tables.proofs.Past.{beyond-trans, laid-beyond, kept-beyond}

@@ -5,22 +5,18 @@ use Prim.Native.Nat.{ℕ, _+_, _*_, _≤_}
 use native.Mathlib.Omega.{arith}
 use lib.IntN.{ℤ, pos}
 use lib.ListN.{length, getD, take, List·getD-map}
-use Rattle.meaning.specs.Columns.{fieldAt, cell, rowOf}
+use Rattle.meaning.specs.Columns.{fieldAt, rowOf}
 use Rattle.meaning.specs.Forms.{latitudeOf, longitudeOf, timeOf, dateOf, sequenceOf, routeTypeOf}
 use Rattle.meaning.specs.Tables.{Feed, degrees, day, number, seconds, picked, orZero, orMinus, refer, packedDays, stopIds, routeIds, serviceIds, tripIds, idPlace, idColumn, parentStation, widthOf, recordOf, numbersOf, stopNumbers, routeNumbers, serviceNumbers, tripNumbers, timeNumbers}
 use Rattle.meaning.specs.Refusals.{maxBytes}
 use Rattle.rows.specs.Cells.{putAt}
 use Rattle.columns.specs.Columns.{startsOf, endsOf}
-use Rattle.columns.proofs.Laws.{row-at, located-inside}
-use Rattle.tables.specs.Fill.{line, valueIn, Located, Within, Lies}
+use Rattle.columns.proofs.Laws.{located-inside}
+use Rattle.values.specs.Located.{valueIn, Located, Within}
+use Rattle.values.proofs.Readings.{in-row}
+use Rattle.tables.specs.Fill.{line, Lies}
 use Rattle.tables.specs.Walk.{placing}
 use Rattle.tables.proofs.Past.{put-last}
-
--- the value under a column is the row's
-pub in-row :
-    (ps l st en : List ℕ) → Located l ps st en → (k : ℕ) → getD (rowOf ps l) k [] ≡ valueIn l st en k
-unfolding cell
-in-row ps l st en loc k = row-at ps l k ∙ rw (loc k)
 
 module _ (ps l : List ℕ) (at : ℕ) (st en : List ℕ) (loc : Located l ps st en) where
   id-in : (k a e : ℕ) → a ≡ at + getD st k 0 → e ≡ at + getD en k 0 → idPlace (getD ps k 0) (line at l) ≡ pos a ∷ pos e ∷ []

@@ -1,76 +1,15 @@
 -- What the helpers of one located line answer.
 use mathlib.Core.Path.{_≡_, ap, _∙_}
-use mathlib.Core.Bool.{true, false}
 use mathlib.Core.List.{List}
-use Prim.Native.Nat.{ℕ, suc, _+_, _*_, _-_, _^_, _≤_, _<_}
+use Prim.Native.Nat.{ℕ, _+_, _*_, _-_, _≤_}
 use native.Mathlib.Omega.{arith}
-use native.Mathlib.Nat.{pow-le-pow-right, pow-succ', zero-lt-suc}
-use lib.IntN.{ℤ, pos}
-use lib.ListN.{length}
-use Rattle.meaning.specs.declared.Bounds.{Bounds}
-use Rattle.meaning.specs.declared.Choice.{Choice}
-use Rattle.meaning.specs.declared.Choice.the-variants.{Picked, NoChoice}
-use Rattle.meaning.specs.Lists.{empty}
-use Rattle.meaning.specs.Bytes.{bounds, part, value, Line}
-use Rattle.meaning.specs.Columns.{rowOf}
-use Rattle.meaning.specs.Forms.{choiceOf}
-use Rattle.meaning.specs.Tables.{Feed, widthOf, recordOf, picked, oneIf, choiceOr, refer, packFrom, packedDays}
+use lib.IntN.{ℤ}
+use Rattle.meaning.specs.Bytes.{value, Line}
+use Rattle.meaning.specs.Tables.{Feed, widthOf, recordOf, refer}
 use Rattle.rows.specs.Cells.{putAt}
 use Rattle.seeking.specs.First.{First, names}
 use Rattle.seeking.proofs.First.{refer-held}
-use Rattle.tables.specs.Fill.{valueIn, Located, Lists}
-use Rattle.tables.proofs.LineRecords.{in-row}
-
--- a form read from the raw field under a column
-pub through : {A : Type 0} (f : List ℕ → A) (x : A) (r p : List ℕ) → x ≡ f (value r) → r ≡ p → x ≡ f (value p)
-through f x r p e g = e ∙ ap (λ (l : List ℕ). f (value l)) g
-
-pub picked-one : (c : Choice) (n : ℕ) → n ≡ oneIf c → pos n ≡ picked c
-picked-one (Picked m) n e = rw e
-picked-one NoChoice n e = rw e
-
-module _ (none : ℤ) (m : ℕ) (v : List ℕ) where
-  pub choice-empty : empty v ≡ true → none ≡ choiceOr none m v
-  unfolding choiceOr
-  choice-empty e = rw e
-
-  pub choice-given : (n : ℕ) (c : Choice) → empty v ≡ false → n ≡ oneIf c → c ≡ choiceOf m v → pos n ≡ choiceOr none m v
-  unfolding choiceOr
-  choice-given n c e p q = rw (e, ← q) (picked-one c n p)
-
--- the day mark of one day more, Monday lowest
-days-left : (d : ℕ) → 0 < d → d ≤ 7 → 7 - (d - 1) ≡ suc (7 - d)
-days-left d h k = omega arith
-
-module _ (b n d : ℕ) (some : 0 < d) (week : d ≤ 7) where
-  pub pack-turn :
-      (l st en ps : List ℕ)
-      → Located l ps st en
-      → b ≡ oneIf (choiceOf 1 (valueIn l st en d))
-      → n ≡ packFrom d (7 - d) (rowOf ps l)
-      → b + 2 * n ≡ packFrom (d - 1) (7 - (d - 1)) (rowOf ps l)
-  unfolding packFrom
-  pack-turn l st en ps loc e inv =
-      let j : d - 1 + 1 ≡ d = omega arith in
-      rw (days-left d some week, j, in-row ps l st en loc d, e, inv)
-
-  pub bits-turn : b ≤ 1 → n < 2 ^ (7 - d) → b + 2 * n < 2 ^ (7 - (d - 1))
-  bits-turn h k =
-      let p : 2 ^ suc (7 - d) ≡ 2 * 2 ^ (7 - d) = pow-succ' 2 (7 - d) in
-      rw (days-left d some week, p) (omega arith)
-
-pub bits-few : (n d : ℕ) → n < 2 ^ (7 - d) → n < 128
-bits-few n d h =
-    let p : 2 ^ (7 - d) ≤ 2 ^ 7 = pow-le-pow-right {n = 2} (zero-lt-suc 1) {i = 7 - d} {j = 7} (omega arith) in
-    omega arith
-
-pub pack-first : (ps l : List ℕ) (d : ℕ) → d ≡ 7 → 0 ≡ packFrom d (7 - d) (rowOf ps l)
-unfolding packFrom
-pack-first ps l d e = rw e
-
-pub pack-last : (ps l : List ℕ) (n d : ℕ) → d ≤ 0 → n ≡ packFrom d (7 - d) (rowOf ps l) → n ≡ packedDays (rowOf ps l)
-unfolding packedDays
-pack-last ps l n d h e = let z : d ≡ 0 = omega arith in rw z at e
+use Rattle.tables.specs.Fill.{Lists}
 
 -- a reference that was looked up in a table that holds the ids
 pub referred :

@@ -1,6 +1,5 @@
 -- Parents are settled one by one: number 5 of a stop's record is none of those that its id's place and the order use.
-use mathlib.Core.Path.{_≡_, refl, sym, ap, _∙_, subst, fun-ext}
-use mathlib.Core.Bool.{Bool}
+use mathlib.Core.Path.{_≡_, refl, _∙_, fun-ext}
 use mathlib.Core.List.{List}
 use Prim.Native.Nat.{ℕ, _+_, _*_, _-_, _≤_, _<_}
 use native.Mathlib.Omega.{arith}
@@ -8,12 +7,11 @@ use native.Mathlib.Nat.{add-zero}
 use lib.IntN.{ℤ, pos}
 use lib.ListN.{length, getD, set, length-set}
 use lib.Seq.{getD-set-same, getD-set-other}
-use Rattle.num.specs.Signs.{natOf}
 use Rattle.meaning.specs.Bytes.{part, value}
 use Rattle.rows.specs.Cells.{natAt, boundsAt}
 use Rattle.ordering.specs.Ids.{idOf, Placed}
 use Rattle.ordering.proofs.Laws.{Alike, yes, no, alike}
-use Rattle.seeking.specs.First.{First, valueIs, idIs, names}
+use Rattle.seeking.specs.First.{First, idIs, names}
 use Rattle.seeking.proofs.Laws.{arranged-as}
 use Rattle.memo.specs.Memo.{FirstOfOwn, Known, Ready}
 use Rattle.tables.specs.Walk.{Settled}

@@ -4,11 +4,11 @@ use mathlib.Core.Path.{_≡_}
 use mathlib.Core.List.{List}
 use lib.IntN.{ℤ}
 use lib.ListN.{length, getD, drop}
-use Rattle.meaning.specs.declared.Bounds.{Bounds}
-use Rattle.meaning.specs.Bytes.{bounds, part, value, countLf, Line, linesFrom, linesOf}
-use Rattle.meaning.specs.Columns.{fieldAt, places, headerOf}
+use Rattle.meaning.specs.Bytes.{countLf, Line, linesFrom, linesOf}
+use Rattle.meaning.specs.Columns.{places, headerOf}
 use Rattle.meaning.specs.Tables.{Feed, stopIds, routeIds, serviceIds, tripIds, widthOf}
 use Rattle.meaning.specs.Refusals.{maxBytes, maxLines}
+use Rattle.values.specs.Located.{Within}
 use Rattle.seeking.specs.First.{Held}
 use Rattle.ordering.specs.Ids.{Placed, Arranged}
 use Rattle.memo.specs.Memo.{Ready}
@@ -16,22 +16,6 @@ use Rattle.memo.specs.Memo.{Ready}
 -- a line that starts at a byte
 abbrev pub line : ℕ → List ℕ → Line
 line at l = record { start = at; text = l }
-
--- where the field under known column k lies, by lists of starts and of ends
-abbrev pub fieldIn : List ℕ → List ℕ → ℕ → Bounds
-fieldIn st en k = bounds (getD st k 0) (getD en k 0)
-
--- the value under known column k
-abbrev pub valueIn : List ℕ → List ℕ → List ℕ → ℕ → List ℕ
-valueIn l st en k = value (part l (fieldIn st en k))
-
--- the fields lie inside a line of n bytes
-abbrev pub Within : ℕ → List ℕ → List ℕ → Type 0
-Within n st en = (k : ℕ) → (getD st k 0 ≤ getD en k 0) × (getD en k 0 ≤ n)
-
--- they are those in the columns ps of a line
-abbrev pub Located : List ℕ → List ℕ → List ℕ → List ℕ → Type 0
-Located l ps st en = (k : ℕ) → fieldIn st en k ≡ fieldAt l (getD ps k 0)
 
 -- a line at a byte, and its fields, lie inside a file of the largest size
 abbrev pub Lies : List ℕ → ℕ → List ℕ → List ℕ → Type 0

@@ -6,7 +6,6 @@ ghost use lib.IntN.{ℤ};
 ghost use lib.ListN.{length, take};
 ghost use Rattle.meaning.specs.Lists.{flat, laid};
 ghost use Rattle.meaning.specs.Bytes.{countLf};
-ghost use Rattle.meaning.specs.Columns.{rowsOf};
 ghost use Rattle.meaning.specs.Tables.{Feed, feedOf, recordsOf, filled};
 ghost use Rattle.meaning.specs.Refusals.{maxBytes, maxLines};
 ghost use Rattle.marks.specs.Marks.{Blank};
@@ -20,7 +19,6 @@ use rows::Stops;
 use rows::Trips;
 use text::LineStep;
 
-pub mod values; // values.rt: the numbers that the fields of one located line say
 mod records; // records.rt: the record of one located line, written into its table
 mod placing; // placing.rt: the first walk along files 1 to 4, and the order of their ids
 mod parents; // parents.rt: the parents of stops, once every stop's id is in the table

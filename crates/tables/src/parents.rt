@@ -1,7 +1,5 @@
 // The parents of stops, once every stop's id is in the table and in its order.
-ghost use mathlib.Core.Path.{_≡_};
 ghost use Prim.Native.Nat.{_+_, _*_, _≤_};
-ghost use lib.ListN.{length};
 ghost use Rattle.meaning.specs.Bytes.{part, value};
 ghost use Rattle.meaning.specs.Refusals.{maxBytes};
 ghost use Rattle.rows.specs.Cells.{boundsAt};

@@ -9,8 +9,8 @@ ghost use Rattle.meaning.specs.Tables.{Feed, widthOf, recordOf, refer, parentSt
 ghost use Rattle.meaning.specs.Refusals.{maxBytes};
 ghost use Rattle.rows.specs.Cells.{putAt};
 ghost use Rattle.memo.specs.Memo.{Ready};
-ghost use Rattle.tables.specs.Fill.{line, Lies, Located, Lists, Refers, Sought};
-use crate::values;
+ghost use Rattle.values.specs.Located.{Located};
+ghost use Rattle.tables.specs.Fill.{line, Lies, Lists, Refers, Sought};
 use columns::Cells;
 use meaning::Bounds;
 use rows::Calendar;

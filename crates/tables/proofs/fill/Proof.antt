@@ -5,23 +5,11 @@ use Rattle.meaning.specs.Bytes.{linesOf}
 use Rattle.tables.specs.Walk.{tabled}
 use Rattle.tables.proofs.Turns.{first-room, walk-first}
 use Rattle.tables.proofs.Feeds.{sought-blank, parents-zeroed}
-use mathlib.Core.Path.{_≡_, refl, sym, ap, _∙_}
-use mathlib.Core.Bool.{Bool, true, false, cond}
-use mathlib.Core.List.{List, [], _∷_}
-use Prim.Native.Nat.{ℕ, suc, zero, _≤_, _<_, _-_, _+_, _*_}
+use Prim.Native.Nat.{_-_}
 use native.Mathlib.Omega.{arith}
-use lib.ListN.{length, getD, drop, take}
-use lib.IntN.{ℤ, pos}
 use borrow.Author.Needs.{needs}
 use Rattle.tables.proofs.fill.Statement.{statement}
 use Rattle.tables.proofs.fill.Tie as tie
-use Rattle.tables.proofs.fill.Reads as reads
-use Rattle.tables.proofs.fill.Lts as lts
-use Rattle.memo.proofs.blank.Reads as blank-reads
-use Rattle.rows.proofs.cells.zero_record.Reads as zero-record-reads
-use Rattle.rows.proofs.width_of.Reads as width-of-reads
-use Rattle.tables.proofs.fill_lines.Reads as fill-lines-reads
-use Rattle.tables.proofs.read_header.Reads as read-header-reads
 
 read-header-requires : tie.Need-read-header-requires
 read-header-requires c κs = search needs

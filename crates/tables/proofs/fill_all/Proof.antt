@@ -2,22 +2,13 @@
 use Rattle.meaning.specs.Tables.{feedOf, widths, widthOf}
 use Rattle.tables.proofs.Feeds.{ordered-index, ordered-lists, ordered-room, settled-index, settled-lists, settled-room, settled-past, settled-parents, indexed-trips, indexed-times, refers-trips, refers-times, stop-ids, route-ids, service-ids, trip-ids}
 use Rattle.tables.proofs.SecondWalk.{filled-beyond}
-use mathlib.Core.Path.{_≡_, refl, sym, ap, _∙_}
-use mathlib.Core.Bool.{Bool, true, false, cond}
-use mathlib.Core.List.{List, [], _∷_}
-use Prim.Native.Nat.{ℕ, suc, zero, _≤_, _<_, _-_, _+_, _*_}
+use mathlib.Core.Path.{_∙_}
+use mathlib.Core.List.{[], _∷_}
+use Prim.Native.Nat.{_-_}
 use native.Mathlib.Omega.{arith}
-use lib.ListN.{length, getD, drop, take}
-use lib.IntN.{ℤ, pos}
 use borrow.Author.Needs.{needs}
 use Rattle.tables.proofs.fill_all.Statement.{statement}
 use Rattle.tables.proofs.fill_all.Tie as tie
-use Rattle.tables.proofs.fill_all.Reads as reads
-use Rattle.tables.proofs.fill_all.Lts as lts
-use Rattle.tables.proofs.fill.Reads as fill-reads
-use Rattle.tables.proofs.fill_alone.Reads as fill-alone-reads
-use Rattle.tables.proofs.order_all.Reads as order-all-reads
-use Rattle.tables.proofs.parents.settle_parents.Reads as settle-parents-reads
 
 order-all-requires : tie.Need-order-all-requires
 order-all-requires c κs = let s = c .before .before .before .before .before .before .before .before .before .before .before .pre in ((s .0, (s .1 .0, (s .1 .1 .0, s .1 .1 .1 .0))), s .1 .1 .1 .1 .1)

@@ -1,18 +1,10 @@
 -- `tables::fill_alone` meets its contract.
 use Rattle.tables.proofs.Feeds.{refers-none, indexed-none}
-use mathlib.Core.Path.{_≡_, refl, sym, ap, _∙_}
-use mathlib.Core.Bool.{Bool, true, false, cond}
-use mathlib.Core.List.{List, [], _∷_}
-use Prim.Native.Nat.{ℕ, suc, zero, _≤_, _<_, _-_, _+_, _*_}
+use Prim.Native.Nat.{_-_}
 use native.Mathlib.Omega.{arith}
-use lib.ListN.{length, getD, drop, take}
-use lib.IntN.{ℤ, pos}
 use borrow.Author.Needs.{needs}
 use Rattle.tables.proofs.fill_alone.Statement.{statement}
 use Rattle.tables.proofs.fill_alone.Tie as tie
-use Rattle.tables.proofs.fill_alone.Reads as reads
-use Rattle.tables.proofs.fill_alone.Lts as lts
-use Rattle.tables.proofs.fill.Reads as fill-reads
 
 slice-aggregate-fill : tie.Need-slice-aggregate-fill
 slice-aggregate-fill c = search needs

@@ -11,20 +11,15 @@ use Rattle.tables.specs.Walk.{tabled, Parents}
 use Rattle.tables.proofs.Turns.{two-wide, walk-inside, walk-room, walk-count, walk-size, walk-turn, walk-end}
 use Rattle.tables.proofs.Ids.{row-here}
 use Rattle.tables.proofs.SecondWalk.{parent-here}
-use mathlib.Core.Path.{_≡_, refl, sym, ap, _∙_}
-use mathlib.Core.Bool.{Bool, true, false, cond}
-use mathlib.Core.List.{List, [], _∷_}
-use Prim.Native.Nat.{ℕ, suc, zero, _≤_, _<_, _-_, _+_, _*_}
+use mathlib.Core.Path.{_≡_, refl, sym, _∙_}
+use mathlib.Core.List.{List}
+use Prim.Native.Nat.{_≤_, _-_}
 use native.Mathlib.Omega.{arith}
-use lib.ListN.{length, getD, drop, take}
-use lib.IntN.{ℤ, pos}
+use lib.ListN.{length, drop, take}
+use lib.IntN.{ℤ}
 use borrow.Author.Needs.{needs}
 use Rattle.tables.proofs.fill_lines.Statement.{statement}
 use Rattle.tables.proofs.fill_lines.Tie as tie
-use Rattle.tables.proofs.fill_lines.Reads as reads
-use Rattle.tables.proofs.fill_lines.Lts as lts
-use Rattle.tables.proofs.records.put_record.Reads as put-record-reads
-use Rattle.text.proofs.next_line.Reads as next-line-reads
 
 abbrev Inv-loop : tie.InvT-loop
 Inv-loop f s at known t₀ a a-table a-count a-memo₀ b b-table b-count b-memo₀ here₀ r₀ t a-memo b-memo here r = ((1 ≤ r) × (r ≤ countLf s)) × ((linesFrom s here ≡ drop r (linesOf s)) × (((length t ≡ length t₀) × ((length a-memo ≡ length a-memo₀) × (length b-memo ≡ length b-memo₀))) × (Sought f a a-table a-count a-memo b b-table b-count b-memo × ((w : Feed) (lent : List ℤ) → Refers f w a a-table a-count b b-table b-count → Parents f w s t₀ → t₀ ≡ laid (flat (take 1 (recordsOf f w s))) lent → t ≡ laid (flat (take r (recordsOf f w s))) lent))))

@@ -1,18 +1,10 @@
 -- `tables::order_all` meets its contract.
 use Rattle.tables.proofs.Marking.{noted-all}
-use mathlib.Core.Path.{_≡_, refl, sym, ap, _∙_}
-use mathlib.Core.Bool.{Bool, true, false, cond}
-use mathlib.Core.List.{List, [], _∷_}
-use Prim.Native.Nat.{ℕ, suc, zero, _≤_, _<_, _-_, _+_, _*_}
+use Prim.Native.Nat.{_-_}
 use native.Mathlib.Omega.{arith}
-use lib.ListN.{length, getD, drop, take}
-use lib.IntN.{ℤ, pos}
 use borrow.Author.Needs.{needs}
 use Rattle.tables.proofs.order_all.Statement.{statement}
 use Rattle.tables.proofs.order_all.Tie as tie
-use Rattle.tables.proofs.order_all.Reads as reads
-use Rattle.tables.proofs.order_all.Lts as lts
-use Rattle.tables.proofs.placing.order_file.Reads as order-file-reads
 
 order-file-requires : tie.Need-order-file-requires
 order-file-requires c κs = let s = c .before .before .before .before .before .before .before .pre .0 in (omega arith, (omega arith, s .0))

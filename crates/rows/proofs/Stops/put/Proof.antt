@@ -1,18 +1,10 @@
 use mir.Syntax.{w32}
 use mir.ValLaws.{toZ-ofZ, toZ-pos}
-use mathlib.Core.Path.{_≡_, refl, sym, ap, _∙_}
-use mathlib.Core.Bool.{Bool, true, false, cond}
-use mathlib.Core.List.{List, [], _∷_}
-use Prim.Native.Nat.{ℕ, suc, zero, _≤_, _<_, _-_, _+_}
-use native.Mathlib.Omega.{arith}
-use lib.ListN.{length, getD, drop, take}
+use mathlib.Core.Path.{_∙_}
+use Prim.Native.Nat.{_-_}
 use borrow.Author.Needs.{needs}
 use Rattle.rows.proofs.Stops.put.Statement.{statement}
 use Rattle.rows.proofs.Stops.put.Tie as tie
-use Rattle.rows.proofs.Stops.put.Reads as reads
-use Rattle.rows.proofs.Stops.put.Lts as lts
-use Rattle.rows.proofs.Stops.place.Reads as place-reads
-use Rattle.rows.proofs.cells.store.Reads as store-reads
 
 cast-t8 : tie.Need-cast-t8
 cast-t8 c = search needs

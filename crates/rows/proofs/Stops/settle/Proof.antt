@@ -1,17 +1,9 @@
 use mir.Syntax.{w32}
 use mir.ValLaws.{toZ-pos}
-use mathlib.Core.Path.{_≡_, refl, sym, ap, _∙_}
-use mathlib.Core.Bool.{Bool, true, false, cond}
-use mathlib.Core.List.{List, [], _∷_}
-use Prim.Native.Nat.{ℕ, suc, zero, _≤_, _<_, _-_, _+_}
-use native.Mathlib.Omega.{arith}
-use lib.ListN.{length, getD, drop, take}
+use Prim.Native.Nat.{_-_}
 use borrow.Author.Needs.{needs}
 use Rattle.rows.proofs.Stops.settle.Statement.{statement}
 use Rattle.rows.proofs.Stops.settle.Tie as tie
-use Rattle.rows.proofs.Stops.settle.Reads as reads
-use Rattle.rows.proofs.Stops.settle.Lts as lts
-use Rattle.rows.proofs.Stops.place.Reads as place-reads
 
 cast-t : tie.Need-cast-t
 cast-t c = search needs

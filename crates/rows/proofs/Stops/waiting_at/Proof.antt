@@ -1,16 +1,10 @@
 use Prim.Native.Nat.{_*_}
-use mathlib.Core.Path.{_≡_, refl, sym, ap, _∙_}
-use mathlib.Core.Bool.{Bool, true, false, cond}
-use mathlib.Core.List.{List, [], _∷_}
-use Prim.Native.Nat.{ℕ, suc, zero, _≤_, _<_, _-_, _+_}
+use mathlib.Core.Path.{_≡_}
+use Prim.Native.Nat.{_-_, _+_}
 use native.Mathlib.Omega.{arith}
-use lib.ListN.{length, getD, drop, take}
 use borrow.Author.Needs.{needs}
 use Rattle.rows.proofs.Stops.waiting_at.Statement.{statement}
 use Rattle.rows.proofs.Stops.waiting_at.Tie as tie
-use Rattle.rows.proofs.Stops.waiting_at.Reads as reads
-use Rattle.rows.proofs.Stops.waiting_at.Lts as lts
-use Rattle.rows.proofs.cells.nat_of.Reads as nat-of-reads
 
 nat-of-requires : tie.Need-nat-of-requires
 nat-of-requires c κs = search needs

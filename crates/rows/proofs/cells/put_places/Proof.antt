@@ -2,18 +2,11 @@ use Rattle.rows.proofs.Laws.{take-room}
 use mir.Syntax.{w32}
 use mir.ValLaws.{toZ-pos}
 use lib.Seq.{length-take-le}
-use mathlib.Core.Path.{_≡_, refl, sym, ap, _∙_}
-use mathlib.Core.Bool.{Bool, true, false, cond}
-use mathlib.Core.List.{List, [], _∷_}
-use Prim.Native.Nat.{ℕ, suc, zero, _≤_, _<_, _-_, _+_}
-use native.Mathlib.Omega.{arith}
-use lib.ListN.{length, getD, drop, take}
+use mathlib.Core.Path.{sym, _∙_}
+use Prim.Native.Nat.{_-_}
 use borrow.Author.Needs.{needs}
 use Rattle.rows.proofs.cells.put_places.Statement.{statement}
 use Rattle.rows.proofs.cells.put_places.Tie as tie
-use Rattle.rows.proofs.cells.put_places.Reads as reads
-use Rattle.rows.proofs.cells.put_places.Lts as lts
-use Rattle.rows.proofs.cells.store.Reads as store-reads
 
 cast-t7 : tie.Need-cast-t7
 cast-t7 c = search needs

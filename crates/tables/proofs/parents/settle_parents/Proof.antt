@@ -1,19 +1,9 @@
 -- `tables::parents::settle_parents` meets its contract.
 use Rattle.memo.proofs.Laws.{ready-blank}
-use mathlib.Core.Path.{_≡_, refl, sym, ap, _∙_}
-use mathlib.Core.Bool.{Bool, true, false, cond}
-use mathlib.Core.List.{List, [], _∷_}
-use Prim.Native.Nat.{ℕ, suc, zero, _≤_, _<_, _-_, _+_, _*_}
-use native.Mathlib.Omega.{arith}
-use lib.ListN.{length, getD, drop, take}
-use lib.IntN.{ℤ, pos}
+use Prim.Native.Nat.{_-_}
 use borrow.Author.Needs.{needs}
 use Rattle.tables.proofs.parents.settle_parents.Statement.{statement}
 use Rattle.tables.proofs.parents.settle_parents.Tie as tie
-use Rattle.tables.proofs.parents.settle_parents.Reads as reads
-use Rattle.tables.proofs.parents.settle_parents.Lts as lts
-use Rattle.memo.proofs.blank.Reads as blank-reads
-use Rattle.tables.proofs.parents.settle_with.Reads as settle-with-reads
 
 blank-requires : tie.Need-blank-requires
 blank-requires c κs = search needs

@@ -2,20 +2,12 @@
 use Rattle.tables.proofs.Settling.{Settling, settle-start, settle-turn, settle-ready, settle-end}
 use Rattle.memo.specs.Memo.{Ready}
 use Rattle.ordering.proofs.Laws.{room-row}
-use mathlib.Core.Path.{_≡_, refl, sym, ap, _∙_}
-use mathlib.Core.Bool.{Bool, true, false, cond}
-use mathlib.Core.List.{List, [], _∷_}
-use Prim.Native.Nat.{ℕ, suc, zero, _≤_, _<_, _-_, _+_, _*_}
+use mathlib.Core.Path.{_≡_, refl, _∙_}
+use Prim.Native.Nat.{_≤_, _-_, _+_, _*_}
 use native.Mathlib.Omega.{arith}
-use lib.ListN.{length, getD, drop, take}
-use lib.IntN.{ℤ, pos}
-use borrow.Author.Needs.{needs}
+use lib.ListN.{length}
 use Rattle.tables.proofs.parents.settle_with.Statement.{statement}
 use Rattle.tables.proofs.parents.settle_with.Tie as tie
-use Rattle.tables.proofs.parents.settle_with.Reads as reads
-use Rattle.tables.proofs.parents.settle_with.Lts as lts
-use Rattle.rows.proofs.Stops.settle.Reads as settle-reads
-use Rattle.tables.proofs.parents.waiting_parent.Reads as waiting-parent-reads
 
 abbrev Inv-loop : tie.InvT-loop
 Inv-loop s n t₀ memo₀ r₀ t memo r = ((1 ≤ r) × (r ≤ n + 1)) × ((length memo ≡ length memo₀) × (Settling s n r t₀ t × Ready s t 6 n memo))

@@ -1,19 +1,8 @@
 -- `tables::parents::waiting_parent` meets its contract.
-use mathlib.Core.Path.{_≡_, refl, sym, ap, _∙_}
-use mathlib.Core.Bool.{Bool, true, false, cond}
-use mathlib.Core.List.{List, [], _∷_}
-use Prim.Native.Nat.{ℕ, suc, zero, _≤_, _<_, _-_, _+_, _*_}
-use native.Mathlib.Omega.{arith}
-use lib.ListN.{length, getD, drop, take}
-use lib.IntN.{ℤ, pos}
+use Prim.Native.Nat.{_-_}
 use borrow.Author.Needs.{needs}
 use Rattle.tables.proofs.parents.waiting_parent.Statement.{statement}
 use Rattle.tables.proofs.parents.waiting_parent.Tie as tie
-use Rattle.tables.proofs.parents.waiting_parent.Reads as reads
-use Rattle.tables.proofs.parents.waiting_parent.Lts as lts
-use Rattle.ordering.proofs.part_of.Reads as part-of-reads
-use Rattle.resolve.proofs.find_stop.Reads as find-stop-reads
-use Rattle.rows.proofs.Stops.waiting_at.Reads as waiting-at-reads
 
 waiting-at-requires : tie.Need-waiting-at-requires
 waiting-at-requires c κs = search needs

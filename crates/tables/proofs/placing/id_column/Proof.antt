@@ -1,18 +1,10 @@
 -- `tables::placing::id_column` meets its contract.
 use Rattle.meaning.specs.Tables.{idColumn}
 use borrow.Author.Tests.{eq-eqb, ne-eqb}
-use mathlib.Core.Path.{_≡_, refl, sym, ap, _∙_}
-use mathlib.Core.Bool.{Bool, true, false, cond}
-use mathlib.Core.List.{List, [], _∷_}
-use Prim.Native.Nat.{ℕ, suc, zero, _≤_, _<_, _-_, _+_, _*_}
+use Prim.Native.Nat.{_-_}
 use native.Mathlib.Omega.{arith}
-use lib.ListN.{length, getD, drop, take}
-use lib.IntN.{ℤ, pos}
-use borrow.Author.Needs.{needs}
 use Rattle.tables.proofs.placing.id_column.Statement.{statement}
 use Rattle.tables.proofs.placing.id_column.Tie as tie
-use Rattle.tables.proofs.placing.id_column.Reads as reads
-use Rattle.tables.proofs.placing.id_column.Lts as lts
 
 returns : tie.Need-returns
 unfolding idColumn

@@ -1,21 +1,13 @@
 -- `tables::placing::is_bare` meets its contract.
-use Rattle.tables.proofs.LineRecords.{in-row}
+use Rattle.values.proofs.Readings.{in-row}
 use Rattle.meaning.specs.Lists.{empty}
 use Rattle.meaning.specs.Bytes.{value}
-use mathlib.Core.Path.{_≡_, refl, sym, ap, _∙_}
-use mathlib.Core.Bool.{Bool, true, false, cond}
-use mathlib.Core.List.{List, [], _∷_}
-use Prim.Native.Nat.{ℕ, suc, zero, _≤_, _<_, _-_, _+_, _*_}
-use native.Mathlib.Omega.{arith}
-use lib.ListN.{length, getD, drop, take}
-use lib.IntN.{ℤ, pos}
+use mathlib.Core.Path.{sym, ap, _∙_}
+use mathlib.Core.List.{List}
+use Prim.Native.Nat.{ℕ, _-_}
 use borrow.Author.Needs.{needs}
 use Rattle.tables.proofs.placing.is_bare.Statement.{statement}
 use Rattle.tables.proofs.placing.is_bare.Tie as tie
-use Rattle.tables.proofs.placing.is_bare.Reads as reads
-use Rattle.tables.proofs.placing.is_bare.Lts as lts
-use Rattle.tables.proofs.values.raw.Reads as raw-reads
-use Rattle.text.proofs.is_empty_value.Reads as is-empty-value-reads
 
 raw-requires : tie.Need-raw-requires
 raw-requires c κs = search needs

@@ -1,18 +1,9 @@
 -- `tables::placing::is_noted` meets its contract.
 use Rattle.tables.proofs.Marking.{noted-stop, noted-short, noted-long, noted-none}
-use mathlib.Core.Path.{_≡_, refl, sym, ap, _∙_}
-use mathlib.Core.Bool.{Bool, true, false, cond}
-use mathlib.Core.List.{List, [], _∷_}
-use Prim.Native.Nat.{ℕ, suc, zero, _≤_, _<_, _-_, _+_, _*_}
-use native.Mathlib.Omega.{arith}
-use lib.ListN.{length, getD, drop, take}
-use lib.IntN.{ℤ, pos}
+use Prim.Native.Nat.{_-_}
 use borrow.Author.Needs.{needs}
 use Rattle.tables.proofs.placing.is_noted.Statement.{statement}
 use Rattle.tables.proofs.placing.is_noted.Tie as tie
-use Rattle.tables.proofs.placing.is_noted.Reads as reads
-use Rattle.tables.proofs.placing.is_noted.Lts as lts
-use Rattle.tables.proofs.placing.is_bare.Reads as is-bare-reads
 
 is-bare-requires : tie.Need-is-bare-requires
 is-bare-requires c κs = search needs

@@ -1,18 +1,9 @@
 -- `tables::placing::mark_if` meets its contract.
 use Rattle.tables.proofs.Marking.{told-yes, told-no}
-use mathlib.Core.Path.{_≡_, refl, sym, ap, _∙_}
-use mathlib.Core.Bool.{Bool, true, false, cond}
-use mathlib.Core.List.{List, [], _∷_}
-use Prim.Native.Nat.{ℕ, suc, zero, _≤_, _<_, _-_, _+_, _*_}
-use native.Mathlib.Omega.{arith}
-use lib.ListN.{length, getD, drop, take}
-use lib.IntN.{ℤ, pos}
+use Prim.Native.Nat.{_-_}
 use borrow.Author.Needs.{needs}
 use Rattle.tables.proofs.placing.mark_if.Statement.{statement}
 use Rattle.tables.proofs.placing.mark_if.Tie as tie
-use Rattle.tables.proofs.placing.mark_if.Reads as reads
-use Rattle.tables.proofs.placing.mark_if.Lts as lts
-use Rattle.marks.proofs.mark.Reads as mark-reads
 
 mark-requires : tie.Need-mark-requires
 mark-requires c κs = search needs

@@ -1,25 +1,14 @@
 -- `tables::placing::order_file` meets its contract.
-use Rattle.meaning.specs.Tables.{widthOf}
-use Rattle.meaning.specs.Bytes.{countLf}
 use Rattle.tables.proofs.FirstWalk.{order-room, placed-length, ordered-is}
 use Rattle.tables.proofs.Feeds.{ordered-count}
 use Rattle.tables.proofs.Marking.{marking-is}
-use mathlib.Core.Path.{_≡_, refl, sym, ap, _∙_}
-use mathlib.Core.Bool.{Bool, true, false, cond}
-use mathlib.Core.List.{List, [], _∷_}
-use Prim.Native.Nat.{ℕ, suc, zero, _≤_, _<_, _-_, _+_, _*_}
+use mathlib.Core.Path.{ap, _∙_}
+use Prim.Native.Nat.{_-_}
 use native.Mathlib.Omega.{arith}
-use lib.ListN.{length, getD, drop, take}
-use lib.IntN.{ℤ, pos}
+use lib.ListN.{length}
 use borrow.Author.Needs.{needs}
 use Rattle.tables.proofs.placing.order_file.Statement.{statement}
 use Rattle.tables.proofs.placing.order_file.Tie as tie
-use Rattle.tables.proofs.placing.order_file.Reads as reads
-use Rattle.tables.proofs.placing.order_file.Lts as lts
-use Rattle.repeats.proofs.mark_repeats.Reads as mark-repeats-reads
-use Rattle.rows.proofs.width_of.Reads as width-of-reads
-use Rattle.seeking.proofs.arrange.Reads as arrange-reads
-use Rattle.tables.proofs.placing.place_file.Reads as place-file-reads
 
 place-file-requires : tie.Need-place-file-requires
 place-file-requires c κs = search needs

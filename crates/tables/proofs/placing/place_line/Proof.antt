@@ -1,21 +1,10 @@
 -- `tables::placing::place_line` meets its contract.
 use Rattle.tables.proofs.LineRecords.{located, lies, within}
-use mathlib.Core.Path.{_≡_, refl, sym, ap, _∙_}
-use mathlib.Core.Bool.{Bool, true, false, cond}
-use mathlib.Core.List.{List, [], _∷_}
-use Prim.Native.Nat.{ℕ, suc, zero, _≤_, _<_, _-_, _+_, _*_}
+use Prim.Native.Nat.{_-_}
 use native.Mathlib.Omega.{arith}
-use lib.ListN.{length, getD, drop, take}
-use lib.IntN.{ℤ, pos}
 use borrow.Author.Needs.{needs}
 use Rattle.tables.proofs.placing.place_line.Statement.{statement}
 use Rattle.tables.proofs.placing.place_line.Tie as tie
-use Rattle.tables.proofs.placing.place_line.Reads as reads
-use Rattle.tables.proofs.placing.place_line.Lts as lts
-use Rattle.columns.proofs.locate.Reads as locate-reads
-use Rattle.tables.proofs.placing.is_noted.Reads as is-noted-reads
-use Rattle.tables.proofs.placing.mark_if.Reads as mark-if-reads
-use Rattle.tables.proofs.placing.put_places.Reads as put-places-reads
 
 locate-requires : tie.Need-locate-requires
 locate-requires c κs = search needs

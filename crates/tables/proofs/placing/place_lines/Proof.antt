@@ -6,25 +6,20 @@ use Rattle.meaning.specs.Tables.{widthOf}
 use Rattle.text.proofs.Lines.{line-found, line-none}
 use Rattle.text.proofs.Walk.{line-next}
 use Rattle.tables.specs.Walk.{placing, placedOf}
-use Rattle.tables.specs.Noting.{noted, noteMark, Told, Telling}
+use Rattle.tables.specs.Noting.{noted, noteMark, Telling}
 use Rattle.tables.proofs.Turns.{two-wide, walk-inside, walk-room, walk-count, walk-size, walk-turn, walk-past, walk-end}
 use Rattle.tables.proofs.Written.{placing-wide}
 use Rattle.tables.proofs.Ids.{row-here}
 use Rattle.tables.proofs.Marking.{telling-start, telling-turn}
-use mathlib.Core.Path.{_≡_, refl, sym, ap, _∙_}
-use mathlib.Core.Bool.{Bool, true, false, cond}
-use mathlib.Core.List.{List, [], _∷_}
-use Prim.Native.Nat.{ℕ, suc, zero, _≤_, _<_, _-_, _+_, _*_}
+use mathlib.Core.Path.{_≡_, refl, sym, _∙_}
+use mathlib.Core.List.{List, []}
+use Prim.Native.Nat.{_≤_, _-_}
 use native.Mathlib.Omega.{arith}
 use lib.ListN.{length, getD, drop, take}
-use lib.IntN.{ℤ, pos}
+use lib.IntN.{ℤ}
 use borrow.Author.Needs.{needs}
 use Rattle.tables.proofs.placing.place_lines.Statement.{statement}
 use Rattle.tables.proofs.placing.place_lines.Tie as tie
-use Rattle.tables.proofs.placing.place_lines.Reads as reads
-use Rattle.tables.proofs.placing.place_lines.Lts as lts
-use Rattle.tables.proofs.placing.place_line.Reads as place-line-reads
-use Rattle.text.proofs.next_line.Reads as next-line-reads
 
 abbrev Inv-loop : tie.InvT-loop
 Inv-loop f s at known t₀ m₀ here₀ r₀ t m here r = ((1 ≤ r) × (r ≤ countLf s)) × ((linesFrom s here ≡ drop r (linesOf s)) × ((length t ≡ length t₀) × (((lent : List ℤ) → t₀ ≡ laid (flat (take 1 (placedOf f s))) lent → t ≡ laid (flat (take r (placedOf f s))) lent) × Telling (λ i. noted f (getD (rowsOf f s) (i - 1) [])) (noteMark f) r m₀ m)))

@@ -1,24 +1,12 @@
 -- `tables::placing::put_places` meets its contract.
-use Rattle.meaning.specs.Tables.{widthOf}
 use Rattle.tables.proofs.LineRecords.{places-record}
 use Rattle.tables.proofs.Readings.{put-as}
 use Rattle.tables.proofs.FirstWalk.{seven-wide}
-use mathlib.Core.Path.{_≡_, refl, sym, ap, _∙_}
-use mathlib.Core.Bool.{Bool, true, false, cond}
-use mathlib.Core.List.{List, [], _∷_}
-use Prim.Native.Nat.{ℕ, suc, zero, _≤_, _<_, _-_, _+_, _*_}
+use Prim.Native.Nat.{_-_}
 use native.Mathlib.Omega.{arith}
-use lib.ListN.{length, getD, drop, take}
-use lib.IntN.{ℤ, pos}
 use borrow.Author.Needs.{needs}
 use Rattle.tables.proofs.placing.put_places.Statement.{statement}
 use Rattle.tables.proofs.placing.put_places.Tie as tie
-use Rattle.tables.proofs.placing.put_places.Reads as reads
-use Rattle.tables.proofs.placing.put_places.Lts as lts
-use Rattle.rows.proofs.cells.put_places.Reads as put-places-reads
-use Rattle.rows.proofs.width_of.Reads as width-of-reads
-use Rattle.tables.proofs.placing.id_column.Reads as id-column-reads
-use Rattle.tables.proofs.records.field_place.Reads as field-place-reads
 
 id-column-requires : tie.Need-id-column-requires
 id-column-requires c κs = search needs

@@ -3,24 +3,10 @@ use Rattle.meaning.specs.Tables.{widths, widthOf}
 use Rattle.tables.proofs.LineRecords.{located, lies}
 use Rattle.tables.proofs.Readings.{file-room, file-put, fifth}
 use Rattle.tables.proofs.Feeds.{sought-trips, sought-times}
-use mathlib.Core.Path.{_≡_, refl, sym, ap, _∙_}
-use mathlib.Core.Bool.{Bool, true, false, cond}
-use mathlib.Core.List.{List, [], _∷_}
-use Prim.Native.Nat.{ℕ, suc, zero, _≤_, _<_, _-_, _+_, _*_}
-use native.Mathlib.Omega.{arith}
-use lib.ListN.{length, getD, drop, take}
-use lib.IntN.{ℤ, pos}
+use Prim.Native.Nat.{_-_}
 use borrow.Author.Needs.{needs}
 use Rattle.tables.proofs.records.put_record.Statement.{statement}
 use Rattle.tables.proofs.records.put_record.Tie as tie
-use Rattle.tables.proofs.records.put_record.Reads as reads
-use Rattle.tables.proofs.records.put_record.Lts as lts
-use Rattle.columns.proofs.locate.Reads as locate-reads
-use Rattle.tables.proofs.records.put_route.Reads as put-route-reads
-use Rattle.tables.proofs.records.put_service.Reads as put-service-reads
-use Rattle.tables.proofs.records.put_stop.Reads as put-stop-reads
-use Rattle.tables.proofs.records.put_time.Reads as put-time-reads
-use Rattle.tables.proofs.records.put_trip.Reads as put-trip-reads
 
 locate-requires : tie.Need-locate-requires
 locate-requires c κs = search needs

@@ -1,23 +1,11 @@
 -- `tables::records::put_stop` meets its contract.
 use Rattle.tables.proofs.LineRecords.{stop-record}
 use Rattle.num.proofs.Laws.{kept-is}
-use mathlib.Core.Path.{_≡_, refl, sym, ap, _∙_}
-use mathlib.Core.Bool.{Bool, true, false, cond}
-use mathlib.Core.List.{List, [], _∷_}
-use Prim.Native.Nat.{ℕ, suc, zero, _≤_, _<_, _-_, _+_, _*_}
-use native.Mathlib.Omega.{arith}
-use lib.ListN.{length, getD, drop, take}
-use lib.IntN.{ℤ, pos}
+use mathlib.Core.Path.{_∙_}
+use Prim.Native.Nat.{_-_}
 use borrow.Author.Needs.{needs}
 use Rattle.tables.proofs.records.put_stop.Statement.{statement}
 use Rattle.tables.proofs.records.put_stop.Tie as tie
-use Rattle.tables.proofs.records.put_stop.Reads as reads
-use Rattle.tables.proofs.records.put_stop.Lts as lts
-use Rattle.rows.proofs.Stops.put.Reads as put-reads
-use Rattle.tables.proofs.records.field_place.Reads as field-place-reads
-use Rattle.tables.proofs.values.choice_or_zero.Reads as choice-or-zero-reads
-use Rattle.tables.proofs.values.latitude.Reads as latitude-reads
-use Rattle.tables.proofs.values.longitude.Reads as longitude-reads
 
 field-place-requires : tie.Need-field-place-requires
 field-place-requires c κs = search needs

@@ -2,26 +2,11 @@
 use Rattle.tables.proofs.LineRecords.{time-record}
 use Rattle.tables.proofs.Readings.{put-as, referred}
 use Rattle.num.proofs.Laws.{kept-is}
-use mathlib.Core.Path.{_≡_, refl, sym, ap, _∙_}
-use mathlib.Core.Bool.{Bool, true, false, cond}
-use mathlib.Core.List.{List, [], _∷_}
-use Prim.Native.Nat.{ℕ, suc, zero, _≤_, _<_, _-_, _+_, _*_}
+use Prim.Native.Nat.{_-_}
 use native.Mathlib.Omega.{arith}
-use lib.ListN.{length, getD, drop, take}
-use lib.IntN.{ℤ, pos}
 use borrow.Author.Needs.{needs}
 use Rattle.tables.proofs.records.put_time.Statement.{statement}
 use Rattle.tables.proofs.records.put_time.Tie as tie
-use Rattle.tables.proofs.records.put_time.Reads as reads
-use Rattle.tables.proofs.records.put_time.Lts as lts
-use Rattle.resolve.proofs.find_stop.Reads as find-stop-reads
-use Rattle.resolve.proofs.find_trip.Reads as find-trip-reads
-use Rattle.rows.proofs.StopTimes.put.Reads as put-reads
-use Rattle.tables.proofs.values.choice_or_minus.Reads as choice-or-minus-reads
-use Rattle.tables.proofs.values.choice_or_zero.Reads as choice-or-zero-reads
-use Rattle.tables.proofs.values.clock.Reads as clock-reads
-use Rattle.tables.proofs.values.raw.Reads as raw-reads
-use Rattle.tables.proofs.values.sequence.Reads as sequence-reads
 
 raw-requires : tie.Need-raw-requires
 raw-requires c κs = search needs

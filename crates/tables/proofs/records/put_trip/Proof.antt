@@ -2,25 +2,11 @@
 use Rattle.tables.proofs.LineRecords.{trip-record}
 use Rattle.tables.proofs.Readings.{put-as, referred}
 use Rattle.num.proofs.Laws.{kept-is}
-use mathlib.Core.Path.{_≡_, refl, sym, ap, _∙_}
-use mathlib.Core.Bool.{Bool, true, false, cond}
-use mathlib.Core.List.{List, [], _∷_}
-use Prim.Native.Nat.{ℕ, suc, zero, _≤_, _<_, _-_, _+_, _*_}
+use Prim.Native.Nat.{_-_}
 use native.Mathlib.Omega.{arith}
-use lib.ListN.{length, getD, drop, take}
-use lib.IntN.{ℤ, pos}
 use borrow.Author.Needs.{needs}
 use Rattle.tables.proofs.records.put_trip.Statement.{statement}
 use Rattle.tables.proofs.records.put_trip.Tie as tie
-use Rattle.tables.proofs.records.put_trip.Reads as reads
-use Rattle.tables.proofs.records.put_trip.Lts as lts
-use Rattle.resolve.proofs.find_route.Reads as find-route-reads
-use Rattle.resolve.proofs.find_service.Reads as find-service-reads
-use Rattle.rows.proofs.Trips.put.Reads as put-reads
-use Rattle.tables.proofs.records.field_place.Reads as field-place-reads
-use Rattle.tables.proofs.values.choice_or_minus.Reads as choice-or-minus-reads
-use Rattle.tables.proofs.values.choice_or_zero.Reads as choice-or-zero-reads
-use Rattle.tables.proofs.values.raw.Reads as raw-reads
 
 raw-requires : tie.Need-raw-requires
 raw-requires c κs = search needs

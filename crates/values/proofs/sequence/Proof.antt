@@ -1,12 +1,12 @@
--- `tables::values::sequence` meets its contract.
+-- `values::sequence` meets its contract.
 use Rattle.meaning.specs.Tables.{number}
 use Rattle.meaning.specs.Forms.{sequenceOf}
-use Rattle.tables.proofs.Readings.{through}
+use Rattle.values.proofs.Readings.{through}
 use mathlib.Core.Path.{sym, ap, _∙_}
 use native.Mathlib.Omega.{arith}
 use borrow.Author.Needs.{needs}
-use Rattle.tables.proofs.values.sequence.Statement.{statement}
-use Rattle.tables.proofs.values.sequence.Tie as tie
+use Rattle.values.proofs.sequence.Statement.{statement}
+use Rattle.values.proofs.sequence.Tie as tie
 
 raw-requires : tie.Need-raw-requires
 raw-requires c κs = search needs

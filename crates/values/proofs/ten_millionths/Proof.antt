@@ -1,10 +1,10 @@
--- `tables::values::ten_millionths` meets its contract.
+-- `values::ten_millionths` meets its contract.
 use Rattle.num.proofs.Laws.{kept}
 use Rattle.meaning.specs.Tables.{degrees}
 use mathlib.Core.Path.{sym, ap, _∙_}
 use borrow.Author.Needs.{needs}
-use Rattle.tables.proofs.values.ten_millionths.Statement.{statement}
-use Rattle.tables.proofs.values.ten_millionths.Tie as tie
+use Rattle.values.proofs.ten_millionths.Statement.{statement}
+use Rattle.values.proofs.ten_millionths.Tie as tie
 
 enum-known-d : tie.Need-enum-known-d
 enum-known-d c = search needs

@@ -9,7 +9,7 @@ ghost use Rattle.meaning.specs.Columns.{rowOf};
 ghost use Rattle.meaning.specs.Forms.{latitudeOf, longitudeOf, timeOf, dateOf, sequenceOf, choiceOf, routeTypeOf};
 ghost use Rattle.meaning.specs.Tables.{degrees, day, number, seconds, picked, oneIf, orZero, orMinus, packedDays};
 ghost use Rattle.forms.specs.Bounds.{ChoiceFits};
-ghost use Rattle.tables.specs.Fill.{fieldIn, valueIn, Within, Located};
+ghost use Rattle.values.specs.Located.{fieldIn, valueIn, Within, Located};
 use columns::Cells;
 use meaning::Choice;
 use meaning::Date;

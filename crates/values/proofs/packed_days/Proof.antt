@@ -1,15 +1,15 @@
--- `tables::values::packed_days` meets its contract.
+-- `values::packed_days` meets its contract.
 use Prim.Native.Nat.{_^_}
 use Rattle.meaning.specs.Columns.{rowOf}
 use Rattle.meaning.specs.Tables.{packFrom}
-use Rattle.tables.specs.Fill.{Located}
-use Rattle.tables.proofs.Readings.{pack-turn, bits-turn, bits-few, pack-first, pack-last}
+use Rattle.values.specs.Located.{Located}
+use Rattle.values.proofs.Readings.{pack-turn, bits-turn, bits-few, pack-first, pack-last}
 use mathlib.Core.Path.{_≡_, refl}
 use mathlib.Core.List.{List}
 use Prim.Native.Nat.{ℕ, _≤_, _<_, _-_}
 use native.Mathlib.Omega.{arith}
-use Rattle.tables.proofs.values.packed_days.Statement.{statement}
-use Rattle.tables.proofs.values.packed_days.Tie as tie
+use Rattle.values.proofs.packed_days.Statement.{statement}
+use Rattle.values.proofs.packed_days.Tie as tie
 
 abbrev Inv-loop : tie.InvT-loop
 Inv-loop l q n₀ d₀ n d = (d ≤ 7) × ((n < 2 ^ (7 - d)) × ((ps : List ℕ) → Located l ps (q .start) (q .end) → n ≡ packFrom d (7 - d) (rowOf ps l)))

@@ -1,12 +1,12 @@
--- `tables::values::route_type` meets its contract.
+-- `values::route_type` meets its contract.
 use Rattle.meaning.specs.Tables.{picked}
 use Rattle.meaning.specs.Forms.{routeTypeOf}
-use Rattle.tables.proofs.Readings.{through, picked-one}
+use Rattle.values.proofs.Readings.{through, picked-one}
 use mathlib.Core.Path.{ap, _∙_}
 use native.Mathlib.Omega.{arith}
 use borrow.Author.Needs.{needs}
-use Rattle.tables.proofs.values.route_type.Statement.{statement}
-use Rattle.tables.proofs.values.route_type.Tie as tie
+use Rattle.values.proofs.route_type.Statement.{statement}
+use Rattle.values.proofs.route_type.Tie as tie
 
 raw-requires : tie.Need-raw-requires
 raw-requires c κs = search needs

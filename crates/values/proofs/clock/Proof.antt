@@ -1,13 +1,13 @@
--- `tables::values::clock` meets its contract.
+-- `values::clock` meets its contract.
 use Rattle.num.proofs.Laws.{kept-is}
 use Rattle.meaning.specs.Tables.{seconds}
 use Rattle.meaning.specs.Forms.{timeOf}
-use Rattle.tables.proofs.Readings.{through}
+use Rattle.values.proofs.Readings.{through}
 use mathlib.Core.Path.{sym, ap, _∙_}
 use native.Mathlib.Omega.{arith}
 use borrow.Author.Needs.{needs}
-use Rattle.tables.proofs.values.clock.Statement.{statement}
-use Rattle.tables.proofs.values.clock.Tie as tie
+use Rattle.values.proofs.clock.Statement.{statement}
+use Rattle.values.proofs.clock.Tie as tie
 
 raw-requires : tie.Need-raw-requires
 raw-requires c κs = search needs

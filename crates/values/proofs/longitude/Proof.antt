@@ -1,12 +1,12 @@
--- `tables::values::longitude` meets its contract.
+-- `values::longitude` meets its contract.
 use Rattle.num.proofs.Laws.{kept-is}
 use Rattle.meaning.specs.Tables.{degrees}
 use Rattle.meaning.specs.Forms.{longitudeOf}
-use Rattle.tables.proofs.Readings.{through}
+use Rattle.values.proofs.Readings.{through}
 use mathlib.Core.Path.{ap, _∙_}
 use borrow.Author.Needs.{needs}
-use Rattle.tables.proofs.values.longitude.Statement.{statement}
-use Rattle.tables.proofs.values.longitude.Tie as tie
+use Rattle.values.proofs.longitude.Statement.{statement}
+use Rattle.values.proofs.longitude.Tie as tie
 
 raw-requires : tie.Need-raw-requires
 raw-requires c κs = search needs

@@ -1,12 +1,12 @@
--- `tables::values::date` meets its contract.
+-- `values::date` meets its contract.
 use Rattle.meaning.specs.Tables.{day}
 use Rattle.meaning.specs.Forms.{dateOf}
-use Rattle.tables.proofs.Readings.{through}
+use Rattle.values.proofs.Readings.{through}
 use mathlib.Core.Path.{sym, ap, _∙_}
 use native.Mathlib.Omega.{arith}
 use borrow.Author.Needs.{needs}
-use Rattle.tables.proofs.values.date.Statement.{statement}
-use Rattle.tables.proofs.values.date.Tie as tie
+use Rattle.values.proofs.date.Statement.{statement}
+use Rattle.values.proofs.date.Tie as tie
 
 raw-requires : tie.Need-raw-requires
 raw-requires c κs = search needs

@@ -1,13 +1,13 @@
--- `tables::values::choice_or_zero` meets its contract.
+-- `values::choice_or_zero` meets its contract.
 use Rattle.meaning.specs.Tables.{orZero}
 use Rattle.meaning.specs.Lists.{empty}
 use Rattle.meaning.specs.Forms.{choiceOf}
-use Rattle.tables.proofs.Readings.{through, choice-empty, choice-given}
+use Rattle.values.proofs.Readings.{through, choice-empty, choice-given}
 use mathlib.Core.Path.{sym, _∙_}
 use native.Mathlib.Omega.{arith}
 use borrow.Author.Needs.{needs}
-use Rattle.tables.proofs.values.choice_or_zero.Statement.{statement}
-use Rattle.tables.proofs.values.choice_or_zero.Tie as tie
+use Rattle.values.proofs.choice_or_zero.Statement.{statement}
+use Rattle.values.proofs.choice_or_zero.Tie as tie
 
 raw-requires : tie.Need-raw-requires
 raw-requires c κs = search needs

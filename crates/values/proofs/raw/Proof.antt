@@ -1,10 +1,10 @@
--- `tables::values::raw` meets its contract.
+-- `values::raw` meets its contract.
 use Rattle.meaning.specs.Bytes.{part}
 use mathlib.Core.Path.{refl}
 use native.Mathlib.Omega.{arith}
 use borrow.Author.Needs.{needs}
-use Rattle.tables.proofs.values.raw.Statement.{statement}
-use Rattle.tables.proofs.values.raw.Tie as tie
+use Rattle.values.proofs.raw.Statement.{statement}
+use Rattle.values.proofs.raw.Tie as tie
 
 mul-a : tie.Need-mul-a
 mul-a c = search needs

@@ -1,12 +1,12 @@
--- `tables::values::latitude` meets its contract.
+-- `values::latitude` meets its contract.
 use Rattle.num.proofs.Laws.{kept-is}
 use Rattle.meaning.specs.Tables.{degrees}
 use Rattle.meaning.specs.Forms.{latitudeOf}
-use Rattle.tables.proofs.Readings.{through}
+use Rattle.values.proofs.Readings.{through}
 use mathlib.Core.Path.{ap, _∙_}
 use borrow.Author.Needs.{needs}
-use Rattle.tables.proofs.values.latitude.Statement.{statement}
-use Rattle.tables.proofs.values.latitude.Tie as tie
+use Rattle.values.proofs.latitude.Statement.{statement}
+use Rattle.values.proofs.latitude.Tie as tie
 
 raw-requires : tie.Need-raw-requires
 raw-requires c κs = search needs

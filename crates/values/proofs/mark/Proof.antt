@@ -1,11 +1,11 @@
--- `tables::values::mark` meets its contract.
+-- `values::mark` meets its contract.
 use Rattle.meaning.specs.Tables.{oneIf}
 use Rattle.meaning.specs.Forms.{choiceOf}
-use Rattle.tables.proofs.Readings.{through}
+use Rattle.values.proofs.Readings.{through}
 use mathlib.Core.Path.{ap, _∙_}
 use borrow.Author.Needs.{needs}
-use Rattle.tables.proofs.values.mark.Statement.{statement}
-use Rattle.tables.proofs.values.mark.Tie as tie
+use Rattle.values.proofs.mark.Statement.{statement}
+use Rattle.values.proofs.mark.Tie as tie
 
 raw-requires : tie.Need-raw-requires
 raw-requires c κs = search needs

@@ -1,0 +1,2 @@
+-- Laws of the values of one located line.
+pub mod Readings

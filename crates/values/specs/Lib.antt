@@ -1,0 +1,2 @@
+-- A line whose fields are located.
+pub mod Located
