@@ -52,10 +52,14 @@ fn lend(feed: &Feed, room: usize) -> Lent {
     Lent { tables, list: vec![0; room.min(MOST_FINDINGS) * 3] }
 }
 
-/// One call of the check: the verdict, and the findings that it wrote.
-fn call(feed: &Feed, lent: &mut Lent, after: [i32; 3]) -> Result<(Verdict, Vec<[i32; 3]>), String> {
+/// What one call answers: the verdict, and the findings that it wrote.
+type Handed = (Verdict, Vec<[i32; 3]>);
+
+/// One call of the check.
+fn call(feed: &Feed, lent: &mut Lent, after: [i32; 3]) -> Result<Handed, String> {
     let tables = lent.tables.each_mut().map(|table| &mut table[..]);
-    let answer = tusuchiy::check(feed.slices(), tables, &mut lent.list, after);
+    let answer = tusuchiy::try_check(feed.slices(), tables, &mut lent.list, after);
+    let answer = answer.map_err(|error| format!("can't run the check: {error}"))?;
     let unknown = || format!("the check gave an answer that nobody knows: {answer:?}");
     let verdict = answer.verdict().ok_or_else(unknown)?;
     let written = if let Verdict::Findings { written, .. } = verdict { written } else { 0 };
@@ -70,18 +74,33 @@ pub fn one(feed: &Feed, page: Page) -> Result<Report, String> {
     report(verdict, &list, Some(page))
 }
 
-/// The whole list: from its beginning, each page from the last finding handed out, until none is.
+/// The whole list: from its beginning, each page from the last finding handed out.
 pub fn all(feed: &Feed, room: usize, progress: &Progress) -> Result<Report, String> {
     let mut lent = lend(feed, room);
+    let (verdict, list) = gather([0, 0, 0], room, |after, so_far| {
+        progress.findings(so_far);
+        call(feed, &mut lent, after)
+    })?;
+    whole(verdict, &list)
+}
+
+/// Calls until all findings after a place are there: a page that isn't full is the last one, and so is one that
+/// brings the list up to the total.
+fn gather(
+    start: [i32; 3],
+    room: usize,
+    mut call: impl FnMut([i32; 3], usize) -> Result<Handed, String>,
+) -> Result<Handed, String> {
     let mut list: Vec<[i32; 3]> = Vec::new();
     loop {
-        let after = list.last().copied().unwrap_or([0, 0, 0]);
-        let (verdict, more) = call(feed, &mut lent, after)?;
-        if more.is_empty() {
-            return whole(verdict, &list);
-        }
+        let after = list.last().copied().unwrap_or(start);
+        let (verdict, more) = call(after, list.len())?;
+        let full = !more.is_empty() && more.len() >= room;
         list.extend(more);
-        progress.findings(list.len());
+        let done = matches!(verdict, Verdict::Findings { total, .. } if total == list.len());
+        if done || !full {
+            return Ok((verdict, list));
+        }
     }
 }
 
@@ -139,6 +158,26 @@ mod tests {
         for room in [1, 2, 4, 5, 6, 7, PAGE_ROOM] {
             assert_eq!(all(&feed, room, &progress::start(&feed)), wanted, "room {room}");
         }
+    }
+
+    /// How many calls it takes to gather the feed's six findings.
+    fn calls(start: [i32; 3], room: usize) -> usize {
+        let feed = feed();
+        let mut lent = lend(&feed, room);
+        let mut calls = 0;
+        let gathered = gather(start, room, |after, _| {
+            calls += 1;
+            call(&feed, &mut lent, after)
+        });
+        assert!(gathered.is_ok());
+        calls
+    }
+
+    /// No call is made for findings that can't be there any more.
+    #[test]
+    fn the_check_is_not_called_once_more() {
+        assert_eq!([1, 2, 3, 4, 6, 7].map(|room| calls([0, 0, 0], room)), [6, 3, 2, 2, 1, 1]);
+        assert_eq!([1, 2, 3, 4].map(|room| calls([4, 3, 30], room)), [4, 2, 2, 1]);
     }
 
     #[test]

@@ -23,6 +23,18 @@ fn command() -> Command {
     }
 }
 
+/// The command where the main thread's stack has just 512 KiB; an emulator makes the stack itself.
+fn command_on_a_small_stack() -> Command {
+    if std::env::var_os(RUNNER).is_some() {
+        let mut command = command();
+        command.env("QEMU_STACK_SIZE", (512 << 10).to_string());
+        return command;
+    }
+    let mut command = Command::new("bash");
+    command.args(["-c", "ulimit -s 512 && exec \"$0\" \"$@\"", env!("CARGO_BIN_EXE_tusuchiy")]);
+    command
+}
+
 /// Runs the command with these words, and nothing on its standard input.
 fn run(words: &[&str]) -> Output {
     command().args(words).stdin(Stdio::null()).output().expect("the command runs")
@@ -341,6 +353,14 @@ fn help_is_there() {
 fn version_is_there() {
     let output = run(&["--version"]);
     assert_eq!((status(&output), out(&output)), (0, "tusuchiy 0.1.0\n"));
+}
+
+/// The check has a stack of its own, whatever the main thread's.
+#[test]
+fn a_small_stack_is_enough() {
+    let output = command_on_a_small_stack().args(["check", "--quiet", &example("findings")]).output();
+    let output = output.expect("the command runs");
+    assert_eq!((output.status.code(), out(&output)), (Some(1), "findings: 6\n"));
 }
 
 /// Output that nobody can take is status 3, not a verdict.
