@@ -155,9 +155,10 @@ fn times_given(own: Row) -> Facts {
 
 /// Rules 28 and 29: the nearest earlier line, or timed line, of the same trip.
 fn order(feed: &Feed, line: usize, own: Row, rule: usize) -> Facts {
-    let earlier = lines_of_trip(feed, own.value("trip_id")).into_iter().filter(|(other, _)| *other < line);
+    let mut earlier = lines_of_trip(feed, own.value("trip_id"));
+    earlier.retain(|(other, row)| *other < line && (rule == 28 || timed(*row)));
+    let (nearest, row) = *earlier.last().expect("an earlier line");
     if rule == 28 {
-        let (nearest, row) = earlier.last().expect("an earlier line");
         let sequence = ("stop_sequence", stored(own, "stop_sequence"));
         return vec![
             sequence,
@@ -165,7 +166,6 @@ fn order(feed: &Feed, line: usize, own: Row, rule: usize) -> Facts {
             ("earlier_stop_sequence", stored(row, "stop_sequence")),
         ];
     }
-    let (nearest, row) = earlier.filter(|(_, row)| timed(*row)).last().expect("an earlier timed line");
     vec![
         ("arrival_time", time(own, "arrival_time")),
         ("earlier_line", count(nearest)),

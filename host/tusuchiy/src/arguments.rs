@@ -233,10 +233,10 @@ mod tests {
     fn the_table_is_true() {
         for flag in manual::all_flags() {
             let value = match (flag.value, flag.choices) {
-                (Some(_), []) if flag.long == "after" => "=1,2,3",
-                (Some(_), []) => "=1",
-                (Some(_), choices) => &format!("={}", choices[0]),
-                (None, _) => "",
+                (Some(_), []) if flag.long == "after" => "=1,2,3".to_string(),
+                (Some(_), []) => "=1".to_string(),
+                (Some(_), choices) => format!("={}", choices[0]),
+                (None, _) => String::new(),
             };
             let read = parsed(&format!("check f --{}{value}", flag.long));
             assert!(read.is_ok(), "--{}: {read:?}", flag.long);

@@ -39,18 +39,19 @@ fn read_file(path: &Path, follow_links: bool) -> Result<Option<Vec<u8>>, String>
     if !about.is_file() {
         return Err("it isn't a regular file".to_string());
     }
-    open(path, follow_links).map(Some).map_err(|error| error.to_string())
+    let read = open(path, follow_links).and_then(|(file, length)| limited(file, length));
+    read.map(Some).map_err(|error| error.to_string())
 }
 
-/// Opens and reads a regular file. What stands there may have changed since it was looked at.
-fn open(path: &Path, follow_links: bool) -> io::Result<Vec<u8>> {
+/// Opens a regular file and tells its length. What stands there may have changed since it was looked at.
+pub fn open(path: &Path, follow_links: bool) -> io::Result<(File, u64)> {
     let flags = if follow_links { O_NONBLOCK } else { O_NONBLOCK | O_NOFOLLOW };
     let file: File = OpenOptions::new().read(true).custom_flags(flags).open(path)?;
     let about = file.metadata()?;
     if !about.is_file() {
-        return Err(io::Error::new(ErrorKind::Other, "it isn't a regular file"));
+        return Err(io::Error::other("it isn't a regular file"));
     }
-    limited(file, about.len())
+    Ok((file, about.len()))
 }
 
 /// Reads to the end, but at most one byte past what rule 1 allows: the check refuses such a file whatever follows.

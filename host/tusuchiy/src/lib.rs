@@ -94,7 +94,7 @@ pub fn try_check(files: [&[u8]; 5], tables: [&mut [i32]; 5], list: &mut [i32], a
     thread::scope(|scope| {
         let call = move || archive::check(files, tables, list, after);
         let thread = thread::Builder::new().stack_size(THREAD_STACK).spawn_scoped(scope, call)?;
-        thread.join().map_err(|_| io::Error::new(io::ErrorKind::Other, "the check's thread died"))
+        thread.join().map_err(|_| io::Error::other("the check's thread died"))
     })
 }
 

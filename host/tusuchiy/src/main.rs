@@ -36,7 +36,8 @@ fn main() -> ExitCode {
         complain(&format!("this should not have happened{place}"));
     }));
     let words: Vec<_> = std::env::args_os().skip(1).collect();
-    ExitCode::from(arguments::parse(&words).and_then(run).unwrap_or_else(|message| complain(&message)))
+    let asked = arguments::parse(&words).map_err(|message| format!("{message} (see tusuchiy --help)"));
+    ExitCode::from(asked.and_then(run).unwrap_or_else(|message| complain(&message)))
 }
 
 /// Says why the command couldn't run, in one line or in a line for each file, and gives its status.

@@ -142,47 +142,46 @@ fn roff(text: &str) -> String {
 pub fn man() -> String {
     let mut page = format!(".TH TUSUCHIY 1 \"\" \"tusuchiy {}\"\n", env!("CARGO_PKG_VERSION"));
     page += &format!(".SH NAME\ntusuchiy \\- {}\n.SH SYNOPSIS\n", roff(TITLE));
-    for verb in VERBS {
-        page += &format!(".B tusuchiy {}\n[\\fIoption\\fR]... \\fI{}\\fR\n.br\n", verb.name, roff(verb.operand));
-    }
+    page.extend(
+        VERBS.iter().map(|verb| {
+            format!(".B tusuchiy {}\n[\\fIoption\\fR]... \\fI{}\\fR\n.br\n", verb.name, roff(verb.operand))
+        }),
+    );
     page += ".SH DESCRIPTION\nThe check is proved: a feed is accepted exactly when no rule is broken.\n";
     page += &format!("{}\n", roff(MANY));
     let item = |flag: &Flag| format!(".TP\n.B {}\n{}\n", roff(&flag.typed()), roff(flag.help));
-    for verb in VERBS {
-        page += &format!(".SH \"{} {}\"\n{}\n", verb.name.to_uppercase(), roff(verb.operand), roff(verb.help));
-        verb.flags.iter().for_each(|flag| page += &item(flag));
-    }
+    page.extend(VERBS.iter().map(|verb| {
+        let heading = format!("\"{} {}\"", verb.name.to_uppercase(), roff(verb.operand));
+        let items: String = verb.flags.iter().map(item).collect();
+        format!(".SH {heading}\n{}\n{items}", roff(verb.help))
+    }));
     page += ".SH OPTIONS\n";
-    FLAGS.iter().for_each(|flag| page += &item(flag));
+    page.extend(FLAGS.iter().map(item));
     page += ".SH \"EXIT STATUS\"\n";
-    STATUSES.iter().for_each(|(status, words)| page += &format!(".TP\n.B {status}\n{}\n", roff(words)));
+    page.extend(STATUSES.iter().map(|(status, words)| format!(".TP\n.B {status}\n{}\n", roff(words))));
     page + ".SH ENVIRONMENT\n.TP\n.B NO_COLOR\nIf set and not empty, no colours unless they are asked for.\n"
 }
 
 /// What bash completes.
 pub fn complete_bash() -> String {
     let words = |flags: &[Flag]| flags.iter().map(|flag| format!("--{}", flag.long)).collect::<Vec<_>>().join(" ");
-    let names: Vec<&str> = VERBS.iter().map(|verb| verb.name).collect();
-    let mut script = "_tusuchiy() {\n    local word=${COMP_WORDS[COMP_CWORD]} before=${COMP_WORDS[COMP_CWORD-1]}\n    case $before in\n".to_string();
-    for flag in all_flags().filter(|flag| !flag.choices.is_empty()) {
-        script += &format!(
-            "        --{}) COMPREPLY=($(compgen -W '{}' -- \"$word\")); return ;;\n",
-            flag.long,
-            flag.choices.join(" ")
-        );
-    }
-    script += "    esac\n    case ${COMP_WORDS[1]} in\n";
-    for verb in VERBS.iter().filter(|verb| !verb.flags.is_empty()) {
+    let reply = |words: &str| format!("COMPREPLY=($(compgen -W '{words}' -- \"$word\"))");
+    let values = all_flags().filter(|flag| !flag.choices.is_empty());
+    let values = values.map(|flag| format!("        --{}) {}; return ;;\n", flag.long, reply(&flag.choices.join(" "))));
+    let verbs = VERBS.iter().map(|verb| {
         let all = format!("{} {}", words(verb.flags), words(FLAGS));
-        script +=
-            &format!("        {}) [[ $word == -* ]] && COMPREPLY=($(compgen -W '{all}' -- \"$word\")) ;;\n", verb.name);
-    }
-    script += &format!(
-        "        *) [[ $COMP_CWORD == 1 ]] && COMPREPLY=($(compgen -W '{} {}' -- \"$word\")) ;;\n",
-        names.join(" "),
-        words(FLAGS)
-    );
-    script + "    esac\n}\ncomplete -o default -F _tusuchiy tusuchiy\n"
+        format!("        {}) [[ $word == -* ]] && {} ;;\n", verb.name, reply(all.trim_start()))
+    });
+    let names: Vec<&str> = VERBS.iter().map(|verb| verb.name).collect();
+    let first = reply(&format!("{} {}", names.join(" "), words(FLAGS)));
+    [
+        "_tusuchiy() {\n    local word=${COMP_WORDS[COMP_CWORD]} before=${COMP_WORDS[COMP_CWORD-1]}\n".to_string(),
+        format!("    case $before in\n{}    esac\n", values.collect::<String>()),
+        format!("    [[ $COMP_CWORD == 1 ]] && {first} && return\n"),
+        format!("    case ${{COMP_WORDS[1]}} in\n{}    esac\n", verbs.collect::<String>()),
+        "}\ncomplete -o default -F _tusuchiy tusuchiy\n".to_string(),
+    ]
+    .concat()
 }
 
 /// Words between single quotes; none of the table's has such a mark alone.

@@ -10,7 +10,7 @@ use std::io::{self, BufWriter, ErrorKind, Write};
 use std::panic::{self, AssertUnwindSafe};
 use std::path::Path;
 use std::sync::atomic::{AtomicU8, AtomicUsize, Ordering};
-use std::sync::{Condvar, Mutex};
+use std::sync::{Condvar, Mutex, MutexGuard, PoisonError};
 use std::thread;
 use std::time::Instant;
 
@@ -31,7 +31,7 @@ pub fn run(check: &Check) -> u8 {
     let jobs = check.jobs.unwrap_or(processors).min(check.feeds.len());
     let desk = Desk {
         check,
-        style: style::of_output(check.color),
+        style: style::of_output(check.color, check.form == Form::Quiet),
         next: AtomicUsize::new(0),
         worst: AtomicU8::new(0),
         turn: Mutex::new(0),
@@ -54,15 +54,18 @@ impl Desk<'_> {
             let number = self.next.fetch_add(1, Ordering::Relaxed);
             let Some(path) = self.check.feeds.get(number) else { return };
             let checked = guarded(|| self.checked(path));
-            let mut turn = self.turn.lock().unwrap_or_else(|broken| broken.into_inner());
-            while *turn != number {
-                turn = self.moved.wait(turn).unwrap_or_else(|broken| broken.into_inner());
-            }
+            let mut turn = self.turn(number);
             let status = guarded(|| checked.and_then(|(feed, report, since)| self.print(&feed, &report, since)));
             self.worst.fetch_max(status.unwrap_or_else(|message| crate::complain(&message)), Ordering::Relaxed);
             *turn += 1;
             self.moved.notify_all();
         }
+    }
+
+    /// Waits until it is a feed's turn to be printed, and keeps it.
+    fn turn(&self, number: usize) -> MutexGuard<'_, usize> {
+        let turn = self.turn.lock().unwrap_or_else(PoisonError::into_inner);
+        self.moved.wait_while(turn, |turn| *turn != number).unwrap_or_else(PoisonError::into_inner)
     }
 
     /// Reads and checks a feed.

@@ -138,9 +138,11 @@ fn gather(
         let after = list.last().map_or(start, |last| [last.file, last.line, last.rule].map(|number| number as i32));
         let (verdict, more) = call(after, list.len())?;
         let full = !more.is_empty() && more.len() >= room;
-        list.try_reserve(more.len()).map_err(no_memory)?;
+        let total = if let Verdict::Findings { total, .. } = verdict { total } else { 0 };
+        // Room for the whole list at once takes less than a list that grows.
+        list.try_reserve_exact(total.saturating_sub(list.len()).max(more.len())).map_err(no_memory)?;
         list.extend(more);
-        let done = matches!(verdict, Verdict::Findings { total, .. } if total == list.len());
+        let done = list.len() == total;
         if done || !full {
             return Ok((verdict, list));
         }

@@ -16,12 +16,12 @@ pub enum When {
 #[derive(Clone, Copy)]
 pub struct Style(bool);
 
-/// Colours go to a terminal that can show them, unless NO_COLOR is set.
-pub fn of_output(when: When) -> Style {
+/// Colours go to a terminal that can show them, unless NO_COLOR is set or few words are wanted.
+pub fn of_output(when: When, quiet: bool) -> Style {
     let able = || {
         let dumb = env::var_os("TERM").map_or(true, |term| term == "dumb");
         let no_color = env::var_os("NO_COLOR").is_some_and(|set| !set.is_empty());
-        io::stdout().is_terminal() && !dumb && !no_color
+        io::stdout().is_terminal() && !dumb && !no_color && !quiet
     };
     Style(match when {
         When::Always => true,

@@ -123,32 +123,42 @@ fn write_page(
     page: &Page,
     style: Style,
 ) -> io::Result<()> {
-    for finding in list {
-        let Finding { file, line, rule } = *finding;
-        writeln!(out, "{}: rule {rule}: {}", place(feed, file, line, style), facts.about(finding).words)?;
-        write_line(out, feed, file, line)?;
-    }
+    let words = |finding: &Finding| format!("rule {}: {}", finding.rule, facts.about(finding).words);
+    write_findings(out, feed, list.iter(), style, words)?;
     let [file, line, rule] = page.after;
     writeln!(out, "page after {file},{line},{rule}: {} of {total} findings", list.len())
 }
 
 /// The findings of each rule under a heading.
 fn write_rules(out: &mut dyn Write, feed: &Feed, facts: &Facts, list: &[Finding], layout: &Layout) -> io::Result<()> {
-    for (rule, count) in totals(list) {
+    let totals = totals(list);
+    for (&rule, &count) in &totals {
         let heading = format!("rule {rule}: {} ({count})", meaning(rule));
         writeln!(out, "\n{}", layout.style.heading(&heading))?;
         let shown = if layout.all { count } else { count.min(FEW) };
-        for finding in list.iter().filter(|finding| finding.rule == rule).take(shown) {
-            let Finding { file, line, .. } = *finding;
-            writeln!(out, "{}: {}", place(feed, file, line, layout.style), facts.about(finding).words)?;
-            write_line(out, feed, file, line)?;
-        }
+        let findings = list.iter().filter(|finding| finding.rule == rule).take(shown);
+        write_findings(out, feed, findings, layout.style, |finding| facts.about(finding).words)?;
         if shown < count {
             writeln!(out, "and {} more, which --all shows", count - shown)?;
         }
     }
     writeln!(out)?;
-    write_hint(out, list.iter().map(|finding| finding.rule).min().unwrap_or_default())
+    write_hint(out, totals.keys().next().copied().unwrap_or_default())
+}
+
+/// The place of each finding with words about it, and its line.
+fn write_findings<'a>(
+    out: &mut dyn Write,
+    feed: &Feed,
+    findings: impl Iterator<Item = &'a Finding>,
+    style: Style,
+    words: impl Fn(&Finding) -> String,
+) -> io::Result<()> {
+    for finding in findings {
+        writeln!(out, "{}: {}", place(feed, finding.file, finding.line, style), words(finding))?;
+        write_line(out, feed, finding.file, finding.line)?;
+    }
+    Ok(())
 }
 
 /// How many findings each rule has.

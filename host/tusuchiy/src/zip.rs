@@ -1,7 +1,7 @@
 //! Reads a feed from a zip file, in memory: the directory is walked here, the data is unpacked by flate2.
 
 use crate::feed::{Feed, Place, Unread, MOST_BYTES, NAMES};
-use crate::folder::limited;
+use crate::folder::{limited, open};
 use crate::safe;
 use flate2::bufread::DeflateDecoder;
 use flate2::Crc;
@@ -41,6 +41,9 @@ struct Member {
 /// The members of one folder that are files of a feed.
 type Found = [Option<Member>; 5];
 
+/// The folders that have any; the top is the empty name.
+type Folders = BTreeMap<Vec<u8>, Found>;
+
 /// Where the directory stands and how many members it has.
 struct Directory {
     place: u64,
@@ -52,8 +55,8 @@ struct Directory {
 pub fn read(path: &Path) -> Result<Feed, String> {
     let shown = |name: &str| safe::text([path.as_os_str().as_encoded_bytes(), name.as_bytes()].concat().as_slice());
     let cannot = |name: &str, error: io::Error| format!("can't read {}: {error}", shown(name));
-    let mut file = File::open(path).map_err(|error| cannot("", error))?;
-    let (folders, names) = walk(&mut file).map_err(|error| cannot("", error))?;
+    let (mut file, length) = open(path, true).map_err(|error| cannot("", error))?;
+    let (folders, names) = walk(&mut file, length).map_err(|error| cannot("", error))?;
     let (folder, members) = choose(folders).map_err(|error| cannot("", error))?;
     let (mut files, mut wrong): ([Option<Vec<u8>>; 5], Vec<String>) = Default::default();
     for (place, member) in members.iter().enumerate() {
@@ -93,8 +96,7 @@ fn exactly(from: &mut impl Read, length: usize) -> io::Result<Vec<u8>> {
 }
 
 /// Finds the record at the end, and with it the directory.
-fn directory(file: &mut File) -> io::Result<Directory> {
-    let length = file.metadata()?.len();
+fn directory(file: &mut File, length: u64) -> io::Result<Directory> {
     let start = length.saturating_sub((END + COMMENT) as u64);
     let tail = at(file, start, (length - start) as usize)?;
     // The last one whose comment reaches just to the end of the file.
@@ -145,11 +147,11 @@ fn within(found: Directory, end: u64) -> io::Result<Directory> {
 }
 
 /// Walks the directory: the files of a feed in each folder, and all names.
-fn walk(file: &mut File) -> io::Result<(BTreeMap<Vec<u8>, Found>, Vec<Vec<u8>>)> {
-    let Directory { place, length, count } = directory(file)?;
+fn walk(file: &mut File, length: u64) -> io::Result<(Folders, Vec<Vec<u8>>)> {
+    let Directory { place, length, count } = directory(file, length)?;
     file.seek(SeekFrom::Start(place))?;
     let mut records = BufReader::new(file).take(length);
-    let (mut folders, mut names): (BTreeMap<Vec<u8>, Found>, Vec<Vec<u8>>) = Default::default();
+    let (mut folders, mut names) = (Folders::new(), Vec::new());
     for _ in 0..count {
         let member = member(&mut records)?;
         names.try_reserve(1)?;
@@ -214,7 +216,7 @@ fn large_numbers(extra: &[u8]) -> impl Iterator<Item = u64> + '_ {
 }
 
 /// The folder that has the feed: the top, or the only one with any of the five files.
-fn choose(mut folders: BTreeMap<Vec<u8>, Found>) -> io::Result<(Vec<u8>, Found)> {
+fn choose(mut folders: Folders) -> io::Result<(Vec<u8>, Found)> {
     if let Some(top) = folders.remove(&b""[..]) {
         return Ok((Vec::new(), top));
     }

@@ -13,7 +13,7 @@ use std::os::unix::fs::symlink;
 use std::process::Output;
 
 /// How many runs each test makes, and how many feeds a run has.
-const RUNS: u64 = 40;
+const RUNS: u64 = 30;
 const FEEDS: usize = 12;
 
 /// What holds of every run, whatever it was given.
@@ -89,7 +89,8 @@ fn random_zip_files() {
         let folder = Folder::empty("fuzz-zips");
         let feeds: Vec<String> = (0..FEEDS)
             .map(|place| {
-                let mut members = feed(*random.pick(&["", "", "a/", "b/"]), &example_files("findings"));
+                let folder_in_it: &&str = random.pick(&["", "", "a/", "b/"]);
+                let mut members = feed(folder_in_it, &example_files("findings"));
                 members.push(member("note", &bytes(&mut random, 100)));
                 members.iter_mut().for_each(|member| {
                     (member.packed, member.large) = (random.once_in(2), random.once_in(4));
@@ -110,44 +111,46 @@ fn random_zip_files() {
     }
 }
 
+/// Words that mean something, or nearly.
+const WORDS: &[&str] = &[
+    "check",
+    "check",
+    "explain",
+    "help",
+    "--json",
+    "--quiet",
+    "-q",
+    "--all",
+    "-aqL",
+    "--after",
+    "--after=0,0,0",
+    "1,2,3",
+    "--room",
+    "--room=1",
+    "3",
+    "20",
+    "--jobs=2",
+    "--color",
+    "--color=always",
+    "never",
+    "--follow-links",
+    "--help",
+    "-V",
+    "--",
+    "-",
+    "",
+    "--generate=man",
+    "--generate",
+    "complete-zsh",
+    "--=",
+    "-=",
+    "--json=",
+    "é",
+    "/dev/null",
+];
+
 /// A word of the command line: one that means something, one that nearly does, or any bytes but NUL.
 fn word(random: &mut Random, feed: &str) -> OsString {
-    const WORDS: &[&str] = &[
-        "check",
-        "check",
-        "explain",
-        "help",
-        "--json",
-        "--quiet",
-        "-q",
-        "--all",
-        "-aqL",
-        "--after",
-        "--after=0,0,0",
-        "1,2,3",
-        "--room",
-        "--room=1",
-        "3",
-        "20",
-        "--jobs=2",
-        "--color",
-        "--color=always",
-        "never",
-        "--follow-links",
-        "--help",
-        "-V",
-        "--",
-        "-",
-        "",
-        "--generate=man",
-        "--generate",
-        "complete-zsh",
-        "--=",
-        "-=",
-        "--json=",
-        "é",
-        "/dev/null",
-    ];
     match random.below(4) {
         0 => feed.into(),
         1 => {

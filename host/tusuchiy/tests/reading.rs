@@ -66,7 +66,7 @@ fn files_without_permission() {
     use std::os::unix::fs::PermissionsExt;
     let folder = Folder::new("permission");
     for file in ["stops.txt", "trips.txt"] {
-        fs::set_permissions(folder.0.join(file), fs::Permissions::from_mode(0)).expect("permissions");
+        fs::set_permissions(folder.0.join(file), fs::Permissions::from_mode(0o000)).expect("permissions");
     }
     if File::open(folder.0.join("stops.txt")).is_err() {
         assert_cannot(&["check", folder.path()], &["stops.txt: Permission denied", "trips.txt: Permission denied"]);

@@ -149,51 +149,53 @@ fn words_of_times(lines: &str) -> Vec<String> {
     found.iter().map(|found| format!("{}: {}", found.get("rule").number(), found.get("words").text())).collect()
 }
 
-/// The words of each rule about times, found by hand.
+/// Lines of stop_times.txt and the words about them, found by hand.
+const ABOUT_TIMES: [(&str, &[&str]); 8] = [
+    ("T,08:00:00,08:00:00,A,1,\n", &["30: trip_id \"T\" has one line in stop_times.txt, line 2"]),
+    ("", &["30: trip_id \"T\" has no line in stop_times.txt"]),
+    (
+        "T,8:00:00,8:00:00,A,1,\nT,7:59:59,8:05:00,B,1,\n",
+        &[
+            "28: stop_sequence 1 isn't above 1 on line 2",
+            "29: arrival_time 07:59:59 is before departure_time 08:00:00 on line 2",
+        ],
+    ),
+    (
+        "T,8:00:00,,A,1,\nT,9:00:00,9:00:00,B,2,\n",
+        &[
+            "31: its first line in stop_times.txt, line 2, lacks departure_time",
+            "26: arrival_time is 08:00:00 and departure_time is empty",
+        ],
+    ),
+    (
+        "T,8:00:00,8:00:00,A,1,\nT,,8:01:00,B,2,1\nT,9:00:00,9:00:00,B,3,\n",
+        &["26: departure_time is 08:01:00 and arrival_time is empty; timepoint is 1 and arrival_time is empty"],
+    ),
+    (
+        "T,8:00:00,8:00:00,A,1,\nT,,,B,2,1\nT,9:00:00,8:59:00,B,3,\n",
+        &[
+            "26: timepoint is 1 and arrival_time and departure_time are empty",
+            "27: departure_time 08:59:00 is before arrival_time 09:00:00",
+        ],
+    ),
+    (
+        "T,8:00:00,8:00:00,S,1,\nX,8:00:00,8:00:00,C,1,\nT,9:00:00,9:00:00,B,3,\n",
+        &[
+            "23: stop_id \"S\" on line 4 of stops.txt has location_type 1",
+            "21: trip_id \"X\" stands on no line of trips.txt; stop_id \"C\" stands on no line of stops.txt",
+        ],
+    ),
+    (
+        "T,,,A,1,\nT,9:00:00,9:00:00,B,2,\nT,,,A,3,\n",
+        &["31: its first line in stop_times.txt, line 2, lacks arrival_time and departure_time; \
+           its last line in stop_times.txt, line 4, lacks arrival_time and departure_time"],
+    ),
+];
+
+/// The words of each rule about times.
 #[test]
 fn words_about_times() {
-    let cases: [(&str, &[&str]); 8] = [
-        ("T,08:00:00,08:00:00,A,1,\n", &["30: trip_id \"T\" has one line in stop_times.txt, line 2"]),
-        ("", &["30: trip_id \"T\" has no line in stop_times.txt"]),
-        (
-            "T,8:00:00,8:00:00,A,1,\nT,7:59:59,8:05:00,B,1,\n",
-            &[
-                "28: stop_sequence 1 isn't above 1 on line 2",
-                "29: arrival_time 07:59:59 is before departure_time 08:00:00 on line 2",
-            ],
-        ),
-        (
-            "T,8:00:00,,A,1,\nT,9:00:00,9:00:00,B,2,\n",
-            &[
-                "31: its first line in stop_times.txt, line 2, lacks departure_time",
-                "26: arrival_time is 08:00:00 and departure_time is empty",
-            ],
-        ),
-        (
-            "T,8:00:00,8:00:00,A,1,\nT,,8:01:00,B,2,1\nT,9:00:00,9:00:00,B,3,\n",
-            &["26: departure_time is 08:01:00 and arrival_time is empty; timepoint is 1 and arrival_time is empty"],
-        ),
-        (
-            "T,8:00:00,8:00:00,A,1,\nT,,,B,2,1\nT,9:00:00,8:59:00,B,3,\n",
-            &[
-                "26: timepoint is 1 and arrival_time and departure_time are empty",
-                "27: departure_time 08:59:00 is before arrival_time 09:00:00",
-            ],
-        ),
-        (
-            "T,8:00:00,8:00:00,S,1,\nX,8:00:00,8:00:00,C,1,\nT,9:00:00,9:00:00,B,3,\n",
-            &[
-                "23: stop_id \"S\" on line 4 of stops.txt has location_type 1",
-                "21: trip_id \"X\" stands on no line of trips.txt; stop_id \"C\" stands on no line of stops.txt",
-            ],
-        ),
-        (
-            "T,,,A,1,\nT,9:00:00,9:00:00,B,2,\nT,,,A,3,\n",
-            &["31: its first line in stop_times.txt, line 2, lacks arrival_time and departure_time; \
-               its last line in stop_times.txt, line 4, lacks arrival_time and departure_time"],
-        ),
-    ];
-    for (lines, wanted) in cases {
+    for (lines, wanted) in ABOUT_TIMES {
         assert_eq!(words_of_times(lines), wanted, "{lines}");
     }
 }
