@@ -79,6 +79,14 @@ pub const STATUSES: [(u8, &str); 4] = [
     (3, "the command couldn't run"),
 ];
 
+/// What people type most.
+const EXAMPLES: [(&str, &str); 4] = [
+    ("tusuchiy check feed.zip", "the verdict and the first findings of each rule"),
+    ("tusuchiy check --quiet feed && publish feed", "go on only with an accepted feed"),
+    ("tusuchiy check --json *.zip | jq .verdict", "many feeds, for a program"),
+    ("tusuchiy explain 21", "what rule 21 means"),
+];
+
 const TITLE: &str = "checks the five files of GTFS feeds";
 const MANY: &str = "With several feeds there is one verdict a line, and the exit status is the highest of theirs.";
 
@@ -107,7 +115,9 @@ pub fn help() -> String {
     FLAGS.iter().for_each(|flag| page += &entry(&format!("  tusuchiy {}", flag.typed()), flag.help));
     page += "\nExit status:\n";
     STATUSES.iter().for_each(|(status, words)| page += &format!("  {status}  {words}\n"));
-    page + MANY + "\n"
+    page += &format!("{MANY}\n\nExamples:\n");
+    EXAMPLES.iter().for_each(|(line, words)| page += &format!("  {line}\n      {words}\n"));
+    page
 }
 
 /// Two columns; what is too wide for the first one puts the second on lines of its own.
@@ -159,6 +169,8 @@ pub fn man() -> String {
     page.extend(FLAGS.iter().map(item));
     page += ".SH \"EXIT STATUS\"\n";
     page.extend(STATUSES.iter().map(|(status, words)| format!(".TP\n.B {status}\n{}\n", roff(words))));
+    page += ".SH EXAMPLES\n";
+    page.extend(EXAMPLES.iter().map(|(line, words)| format!(".TP\n.B {}\n{}\n", roff(line), roff(words))));
     page + ".SH ENVIRONMENT\n.TP\n.B NO_COLOR\nIf set and not empty, no colours unless they are asked for.\n"
 }
 
@@ -203,7 +215,7 @@ pub fn complete_fish() -> String {
     };
     for verb in VERBS {
         let (name, help) = (verb.name, quoted(verb.help));
-        script += &format!("complete -c tusuchiy -n __fish_use_subcommand -a {name} -d {help}\n");
+        script += &format!("complete -c tusuchiy -f -n __fish_use_subcommand -a {name} -d {help}\n");
         let only = format!(" -n {}", quoted(&format!("__fish_seen_subcommand_from {name}")));
         verb.flags.iter().for_each(|flag| script += &line(flag, &only));
     }
@@ -225,7 +237,7 @@ pub fn complete_zsh() -> String {
             flag.short.map_or(String::new(), |short| format!(" {}", quoted(&format!("-{short}[{help}]{value}"))));
         format!(" \\\n        {long}{short}")
     };
-    let mut script = "#compdef tusuchiy\n_tusuchiy() {\n    local -a flags\n    case $words[2] in\n".to_string();
+    let mut script = "#compdef tusuchiy\n_tusuchiy() {\n    case $words[2] in\n".to_string();
     for verb in VERBS.iter().filter(|verb| !verb.flags.is_empty()) {
         let specs: String = verb.flags.iter().chain(FLAGS).map(spec).collect();
         script += &format!("    {}) _arguments{specs} \\\n        '1:command:' '*:feed:_files' ;;\n", verb.name);

@@ -67,11 +67,8 @@ fn zeros(length: usize) -> Result<Vec<i32>, TryReserveError> {
     Ok(numbers)
 }
 
-/// What one call answers: the verdict, and the findings that it wrote.
-type Handed = (Verdict, Vec<Finding>);
-
-/// One call of the check.
-fn call(feed: &Feed, lent: &mut Lent, after: [i32; 3]) -> Result<Handed, String> {
+/// One call of the check, which adds to the list what it hands out; the verdict.
+fn call(feed: &Feed, lent: &mut Lent, after: [i32; 3], list: &mut Vec<Finding>) -> Result<Verdict, String> {
     let tables = lent.tables.each_mut().map(|table| &mut table[..]);
     let answer = tusuchiy::try_check(feed.slices(), tables, &mut lent.list, after);
     let answer = answer.map_err(|error| format!("can't run the check: {error}"))?;
@@ -79,12 +76,11 @@ fn call(feed: &Feed, lent: &mut Lent, after: [i32; 3]) -> Result<Handed, String>
     let verdict = answer.verdict().ok_or_else(unknown)?;
     let written = if let Verdict::Findings { written, .. } = verdict { written } else { 0 };
     let numbers = lent.list.get(..written * 3).ok_or_else(unknown)?;
-    let mut list = Vec::new();
     list.try_reserve_exact(written).map_err(no_memory)?;
     for numbers in numbers.chunks_exact(3) {
         list.push(finding(numbers).ok_or_else(unknown)?);
     }
-    Ok((verdict, list))
+    Ok(verdict)
 }
 
 /// A finding from its three numbers, if its file is one of the five.
@@ -108,13 +104,14 @@ fn check_by(feed: &Feed, page: Option<Page>, room: usize, progress: &Progress) -
     let asked = page.and_then(|page| page.room);
     let mut lent = lend(feed, asked.unwrap_or(room)).map_err(no_memory)?;
     let start = page.map_or([0, 0, 0], |page| page.after);
-    let (verdict, list) = match asked {
-        Some(_) => call(feed, &mut lent, start)?,
-        None => gather(start, room, |after, so_far| {
-            progress.findings(so_far);
-            call(feed, &mut lent, after)
-        })?,
-    };
+    let mut list = Vec::new();
+    let mut verdict = call(feed, &mut lent, start, &mut list)?;
+    if let (None, Some(more)) = (asked, more(verdict, list.len(), room)) {
+        progress.findings(list.len());
+        lent.list = zeros(more * 3).map_err(no_memory)?;
+        let last = list.last().map_or(start, |last| [last.file, last.line, last.rule].map(|number| number as i32));
+        verdict = call(feed, &mut lent, last, &mut list)?;
+    }
     let outcome = match verdict {
         Verdict::Accepted => Outcome::Accepted,
         Verdict::Refused { number, file, line } => Outcome::Refused { number, file, line },
@@ -126,27 +123,11 @@ fn check_by(feed: &Feed, page: Option<Page>, room: usize, progress: &Progress) -
     Ok(Report { outcome, page, tables: lent.tables })
 }
 
-/// Calls until all findings after a place are there: a page that isn't full is the last one, and so is one that
-/// brings the list up to the total.
-fn gather(
-    start: [i32; 3],
-    room: usize,
-    mut call: impl FnMut([i32; 3], usize) -> Result<Handed, String>,
-) -> Result<Handed, String> {
-    let mut list: Vec<Finding> = Vec::new();
-    loop {
-        let after = list.last().map_or(start, |last| [last.file, last.line, last.rule].map(|number| number as i32));
-        let (verdict, more) = call(after, list.len())?;
-        let full = !more.is_empty() && more.len() >= room;
-        let total = if let Verdict::Findings { total, .. } = verdict { total } else { 0 };
-        // Room for the whole list at once takes less than a list that grows.
-        list.try_reserve_exact(total.saturating_sub(list.len()).max(more.len())).map_err(no_memory)?;
-        list.extend(more);
-        let done = list.len() == total;
-        if done || !full {
-            return Ok((verdict, list));
-        }
-    }
+/// How many findings there may be behind a page with this room, if there may be any: a page that isn't full is the
+/// last one, and so is one that brings the list up to the total.
+fn more(verdict: Verdict, handed: usize, room: usize) -> Option<usize> {
+    let Verdict::Findings { total, .. } = verdict else { return None };
+    (handed > 0 && handed >= room && total > handed).then(|| total - handed)
 }
 
 #[cfg(test)]
@@ -183,24 +164,15 @@ mod tests {
         }
     }
 
-    /// How many calls it takes to gather the feed's six findings.
-    fn calls(start: [i32; 3], room: usize) -> usize {
-        let feed = feed();
-        let mut lent = lend(&feed, room).expect("memory");
-        let mut calls = 0;
-        let gathered = gather(start, room, |after, _| {
-            calls += 1;
-            call(&feed, &mut lent, after)
-        });
-        assert!(gathered.is_ok());
-        calls
-    }
-
-    /// No call is made for findings that can't be there any more.
+    /// No call is made for findings that can't be there any more, and one for all that can.
     #[test]
     fn the_check_is_not_called_once_more() {
-        assert_eq!([1, 2, 3, 4, 6, 7].map(|room| calls([0, 0, 0], room)), [6, 3, 2, 2, 1, 1]);
-        assert_eq!([1, 2, 3, 4].map(|room| calls([4, 3, 30], room)), [4, 2, 2, 1]);
+        let findings = |total| Verdict::Findings { written: 6, total };
+        assert_eq!([6, 7, 8].map(|room| more(findings(6), 6, room)), [None; 3]);
+        assert_eq!([6, 7].map(|room| more(findings(9), 6, room)), [Some(3), None]);
+        assert_eq!(more(findings(6), 0, 0), None);
+        let refused = Verdict::Refused { number: 4, file: 1, line: 0 };
+        assert_eq!([Verdict::Accepted, refused].map(|verdict| more(verdict, 0, 6)), [None; 2]);
     }
 
     #[test]

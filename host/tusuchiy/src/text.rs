@@ -9,6 +9,7 @@ use crate::safe;
 use crate::style::Style;
 use std::collections::BTreeMap;
 use std::io::{self, Write};
+use std::os::unix::ffi::OsStrExt;
 use std::time::Duration;
 
 /// How many findings of a rule are shown unless all are asked for.
@@ -57,7 +58,7 @@ pub fn verdict(report: &Report, style: Style) -> String {
 
 /// The verdict of one of many feeds: one line, with the place and the words of a refusal.
 pub fn verdict_line(feed: &Feed, report: &Report, style: Style) -> String {
-    let path = safe::text(std::os::unix::ffi::OsStrExt::as_bytes(feed.place.path.as_os_str()));
+    let path = safe::text(feed.place.path.as_os_str().as_bytes());
     let more = match report.outcome {
         Outcome::Refused { number, file, line } => {
             let place = if line == 0 { String::new() } else { format!(":{line}") };
