@@ -179,6 +179,9 @@ fn check(found: Found) -> Result<Check, String> {
         (false, false) => Form::Text,
     };
     let paged = found.after.is_some() || found.room.is_some();
+    if found.words.len() > 1 && form != Form::Json && (paged || given("all")) {
+        return Err("--all, --after and --room take one feed, or many with --json".to_string());
+    }
     Ok(Check {
         form,
         all: given("all"),
@@ -226,6 +229,7 @@ mod tests {
         assert_eq!(parsed("check --room 983040 -- f"), checks(Form::Text, Some(page)));
         let page = Page { after: [5, 3, 29], room: None };
         assert_eq!(parsed("check --after 5,3,29 f"), checks(Form::Text, Some(page)));
+        assert!(parsed("check f g --all --room 3 --json").is_ok());
     }
 
     /// Whatever stands in the table of options is read, and with a value where it has one.
@@ -269,6 +273,9 @@ mod tests {
             "check f --after 1,2,3,4",
             "check f --after 1,2,x",
             "check f --json --quiet",
+            "check f g --all",
+            "check f g --room 3",
+            "check f g --after 1,2,3 -q",
             "check f --json --json",
             "check f --json=1",
             "check f --room 1 --room 2",

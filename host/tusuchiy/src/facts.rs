@@ -239,7 +239,7 @@ impl<'a> Facts<'a> {
                 }
                 before
             };
-            (2..=lines).map(look).collect()
+            memory::list((2..=lines).map(look), lines)
         });
         before[line - 2].map(|line| line as usize)
     }
@@ -274,7 +274,8 @@ impl<'a> Facts<'a> {
     /// The lines of stop_times.txt that belong to the trip on a line of trips.txt.
     fn calls(&self, line: usize) -> Calls {
         let calls = self.calls.get_or_init(|| {
-            let mut calls = vec![Calls::default(); self.feed.line_count(4)];
+            let trips = self.feed.line_count(4);
+            let mut calls = memory::list((0..trips).map(|_| Calls::default()), trips);
             for line in 2..=self.feed.line_count(5) {
                 let trip = self.named(5, line, 0).map_or(0, |trip| trip - 1);
                 let Calls { count, first, .. } = calls[trip];

@@ -1,5 +1,6 @@
 //! A feed as it was read: the bytes of its five files, and where their lines are.
 
+use crate::memory;
 use crate::safe;
 use std::collections::BTreeSet;
 use std::os::unix::ffi::OsStrExt;
@@ -71,8 +72,12 @@ impl Feed {
     /// A feed of these bytes.
     pub fn new(place: Place, files: [Option<Vec<u8>>; 5], unread: Unread) -> Self {
         let bytes = files.each_ref().map(|file| file.as_deref().unwrap_or(&[]));
-        let ends = bytes.map(|file| line_ends(file).take(MOST_LINES).map(|place| place as u32).collect());
         let counts = bytes.map(|file| line_ends(file).count());
+        let ends = [0, 1, 2, 3, 4].map(|file: usize| {
+            // A file with more lines is refused, and no line of it is named.
+            let kept = counts[file].min(MOST_LINES);
+            memory::list(line_ends(bytes[file]).take(kept).map(|place| place as u32), kept)
+        });
         Feed { place, unread, files, ends, counts }
     }
 

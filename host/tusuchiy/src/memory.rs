@@ -19,6 +19,14 @@ pub fn none() -> ! {
     std::process::exit(i32::from(crate::COULD_NOT_RUN))
 }
 
+/// A list of this length, made in one piece however long.
+pub fn list<Element>(elements: impl Iterator<Item = Element>, length: usize) -> Vec<Element> {
+    let mut list = Vec::new();
+    list.try_reserve_exact(length).unwrap_or_else(|_| none());
+    list.extend(elements);
+    list
+}
+
 /// Ends the command where a small piece wasn't there.
 fn kept(piece: *mut u8, size: usize) -> *mut u8 {
     if piece.is_null() && size < LARGE {

@@ -1,7 +1,7 @@
 //! Reads a feed from a zip file, in memory: the directory is walked here, the data is unpacked by flate2.
 
 use crate::feed::{Feed, Place, Unread, MOST_BYTES, NAMES};
-use crate::folder::{limited, open};
+use crate::folder::{cannot, limited, open};
 use crate::safe;
 use flate2::bufread::DeflateDecoder;
 use flate2::Crc;
@@ -53,16 +53,18 @@ struct Directory {
 
 /// Reads the five files from a zip file, or says in a line for each what is in the way.
 pub fn read(path: &Path) -> Result<Feed, String> {
-    let shown = |name: &str| safe::text([path.as_os_str().as_encoded_bytes(), name.as_bytes()].concat().as_slice());
-    let cannot = |name: &str, error: io::Error| format!("can't read {}: {error}", shown(name));
-    let (mut file, length) = open(path, true).map_err(|error| cannot("", error))?;
-    let (folders, names) = walk(&mut file, length).map_err(|error| cannot("", error))?;
-    let (folder, members) = choose(folders).map_err(|error| cannot("", error))?;
+    let found = open(path, true).and_then(|(mut file, length)| {
+        let (folders, names) = walk(&mut file, length)?;
+        let (folder, members) = choose(folders)?;
+        Ok((file, names, folder, members))
+    });
+    let (mut file, names, folder, members) = found.map_err(|error| cannot(path, &error.to_string()))?;
+    let place = Place { path: path.to_path_buf(), folder };
     let (mut files, mut wrong): ([Option<Vec<u8>>; 5], Vec<String>) = Default::default();
-    for (place, member) in members.iter().enumerate() {
+    for (number, member) in members.iter().enumerate() {
         match member.as_ref().map(|member| unpack(&mut file, member)).transpose() {
-            Ok(bytes) => files[place] = bytes,
-            Err(error) => wrong.push(cannot(&format!("/{}", NAMES[place]), error)),
+            Ok(bytes) => files[number] = bytes,
+            Err(error) => wrong.push(format!("can't read {}: {error}", place.of(NAMES[number]))),
         }
     }
     if !wrong.is_empty() {
@@ -70,8 +72,8 @@ pub fn read(path: &Path) -> Result<Feed, String> {
     }
     let mut unread = Unread::default();
     let others = names.iter().filter(|name| !name.ends_with(b"/"));
-    others.filter_map(|name| name.strip_prefix(&folder[..])).for_each(|name| unread.add(name));
-    Ok(Feed::new(Place { path: path.to_path_buf(), folder }, files, unread))
+    others.filter_map(|name| name.strip_prefix(&place.folder[..])).for_each(|name| unread.add(name));
+    Ok(Feed::new(place, files, unread))
 }
 
 fn bad(words: impl Into<String>) -> io::Error {
@@ -91,8 +93,10 @@ fn at(file: &mut File, place: u64, length: usize) -> io::Result<Vec<u8>> {
 
 fn exactly(from: &mut impl Read, length: usize) -> io::Result<Vec<u8>> {
     let mut bytes = vec![0; length];
-    from.read_exact(&mut bytes)?;
-    Ok(bytes)
+    match from.read_exact(&mut bytes) {
+        Err(error) if error.kind() == ErrorKind::UnexpectedEof => Err(bad("it is damaged: it ends too early")),
+        read => read.map(|()| bytes),
+    }
 }
 
 /// Finds the record at the end, and with it the directory.

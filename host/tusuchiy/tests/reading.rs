@@ -223,14 +223,14 @@ fn missing_members_are_refused() {
     assert_eq!(document(&[&zip]).get("refusal").get("about").get("missing").list().len(), 5);
 }
 
-/// A few bytes that unpack to 200 MiB: refusal 1, with the memory of any other feed, and nothing on disk.
+/// A megabyte that unpacks to a thousand: refusal 1, with the memory of any other feed, and nothing on disk.
 #[test]
 fn a_bomb_is_refusal_1() {
     let own = own();
     let mut members = feed("", &example_files("feed"));
-    members[4].bytes = vec![0; 200 << 20];
+    (members[4].bytes, members[4].times) = (vec![0; 1 << 20], 1000);
     let (_folder, zip) = zipped("bomb", &members);
-    assert!(fs::metadata(&zip).expect("a file").len() < 1 << 20);
+    assert!(fs::metadata(&zip).expect("a file").len() < 2 << 20);
     let temporary = Folder::empty("bomb-temporary");
     // An emulator has files of its own.
     let no_files = if std::env::var_os(RUNNER).is_some() { "" } else { "-f 0" };

@@ -19,12 +19,14 @@ pub struct Member {
     pub large: bool,
     /// What is added to the checksum.
     pub wrong: u32,
+    /// How often the bytes stand in it, one after the other.
+    pub times: usize,
 }
 
 /// A member with these bytes, deflated.
 pub fn member(name: &str, bytes: &[u8]) -> Member {
     let (name, local_name, bytes) = (name.into(), name.into(), bytes.to_vec());
-    Member { name, local_name, bytes, packed: true, flags: 0, mode: 0o100_644, large: false, wrong: 0 }
+    Member { name, local_name, bytes, packed: true, flags: 0, mode: 0o100_644, large: false, wrong: 0, times: 1 }
 }
 
 /// The five files of a feed in a folder.
@@ -38,19 +40,24 @@ fn low_first(out: &mut Vec<u8>, numbers: &[(u64, usize)]) {
     }
 }
 
+/// Bytes so many times over, packed but once: each time ends between two bytes, and an empty last block follows.
+fn deflated(bytes: &[u8], times: usize) -> Vec<u8> {
+    let mut encoder = DeflateEncoder::new(Vec::new(), Compression::best());
+    encoder.write_all(bytes).and_then(|()| encoder.flush()).expect("memory");
+    [encoder.get_ref().repeat(times), vec![3, 0]].concat()
+}
+
 /// The numbers of a member that stand in both of its records, and the data.
 fn common(member: &Member) -> (Vec<u8>, Vec<u8>) {
     let mut checksum = Crc::new();
     checksum.update(&member.bytes);
-    let mut encoder = DeflateEncoder::new(Vec::new(), Compression::best());
-    encoder.write_all(&member.bytes).expect("memory");
-    let packed = if member.packed { encoder.finish().expect("memory") } else { member.bytes.clone() };
+    let packed = if member.packed { deflated(&member.bytes, member.times) } else { member.bytes.clone() };
     let checksum = checksum.sum().wrapping_add(member.wrong);
     let method = if member.packed { 8 } else { 0 };
     let short = |size: usize| if member.large { 0xFFFF_FFFF } else { size as u64 };
     let mut numbers = Vec::new();
     low_first(&mut numbers, &[(45, 2), (member.flags.into(), 2), (method, 2), (0, 4), (checksum.into(), 4)]);
-    low_first(&mut numbers, &[(short(packed.len()), 4), (short(member.bytes.len()), 4)]);
+    low_first(&mut numbers, &[(short(packed.len()), 4), (short(member.bytes.len() * member.times), 4)]);
     (numbers, packed)
 }
 
