@@ -438,12 +438,19 @@ fn a_full_disk_is_no_verdict() {
 #[test]
 fn a_closed_pipe_is_no_failure() {
     let folder = many_findings("closed");
-    for words in [&["check", "--all", folder.path()][..], &["check", "--json", folder.path()]] {
+    let cases = [
+        (&["check", "--all", folder.path()][..], 1),
+        (&["check", "--json", folder.path()], 1),
+        (&["check", folder.path()], 1),
+        (&["--help"], 0),
+        (&["explain", "13"], 0),
+    ];
+    for (words, verdict) in cases {
         let mut child = command();
         let mut child =
             child.args(words).stdout(Stdio::piped()).stderr(Stdio::piped()).spawn().expect("the command runs");
         drop(child.stdout.take());
         let output = child.wait_with_output().expect("the command ends");
-        assert_eq!((status(&output), said(&output)), (1, ""), "{words:?}");
+        assert_eq!((status(&output), said(&output)), (verdict, ""), "{words:?}");
     }
 }

@@ -9,7 +9,7 @@ use model::columns::COLUMNS;
 use model::facts::{of_finding, of_refusal, Fact, Facts};
 use model::forms::Form;
 use model::Answer;
-use std::collections::BTreeSet;
+use std::collections::{BTreeMap, BTreeSet};
 
 /// How many seeds the command and the model are compared on, and how many feeds one run checks.
 const SEEDS: u64 = 384;
@@ -49,14 +49,18 @@ fn members(facts: &Facts) -> Json {
     Json::Members(facts.iter().map(|(name, fact)| (name.to_string(), in_json(fact))).collect())
 }
 
-/// Fails where the document of a feed differs from the model's answer and facts; gives the rules that were seen.
-fn compare(name: &str, files: &[Vec<u8>; 5], report: &Json) -> BTreeSet<i64> {
+/// Names of members.
+type Names = BTreeSet<String>;
+
+/// Fails where the document of a feed differs from the model's answer and facts; gives the rules that were seen, each
+/// with the names of what it is about.
+fn compare(name: &str, files: &[Vec<u8>; 5], report: &Json) -> Vec<(i64, Names)> {
     let mut tables = cases::large::tables(files, 0);
     let mut list = vec![0; 30_000];
     match model::check(files, &mut tables, &mut list, [0, 0, 0]) {
         Answer::Accepted => {
             assert_eq!(report.get("verdict").text(), "accepted", "{name}");
-            BTreeSet::new()
+            Vec::new()
         }
         Answer::Refused { number, file, line } => {
             let refusal = report.get("refusal");
@@ -70,7 +74,7 @@ fn compare(name: &str, files: &[Vec<u8>; 5], report: &Json) -> BTreeSet<i64> {
             }
             assert_eq!(refusal.get("about"), &members(&facts), "{name}, refusal {number}");
             assert!(!refusal.get("words").text().is_empty(), "{name}");
-            BTreeSet::from([number as i64])
+            vec![(number as i64, names(refusal.get("about")))]
         }
         Answer::Findings { written, .. } => {
             let room: Vec<usize> = tables.iter().map(Vec::len).collect();
@@ -84,7 +88,7 @@ fn compare(name: &str, files: &[Vec<u8>; 5], report: &Json) -> BTreeSet<i64> {
                 assert_eq!(found.get("about"), &members(&of_finding(&feed, finding)), "{name}, {finding:?}");
                 assert!(!found.get("words").text().is_empty(), "{name}");
             }
-            found.iter().map(|found| found.get("rule").number()).collect()
+            found.iter().map(|found| (found.get("rule").number(), names(found.get("about")))).collect()
         }
     }
 }
@@ -93,7 +97,7 @@ fn compare(name: &str, files: &[Vec<u8>; 5], report: &Json) -> BTreeSet<i64> {
 #[test]
 fn the_facts_are_the_models() {
     let folder = Folder::empty("facts");
-    let mut seen = BTreeSet::new();
+    let mut seen: BTreeMap<i64, Names> = BTreeMap::new();
     for first in (0..SEEDS).step_by(AT_A_TIME as usize) {
         let cases: Vec<_> = (first..first + AT_A_TIME).map(generate::case).collect();
         let feeds: Vec<String> =
@@ -105,11 +109,35 @@ fn the_facts_are_the_models() {
         assert_eq!(documents.len(), cases.len());
         for ((case, feed), report) in cases.iter().zip(&feeds).zip(&documents) {
             assert_eq!(report.get("feed").text(), feed);
-            seen.extend(compare(&case.name, &case.files, report));
+            for (number, names) in compare(&case.name, &case.files, report) {
+                seen.entry(number).or_default().extend(names);
+            }
         }
     }
     let all: BTreeSet<i64> = (1..=13).filter(|number| *number != 3).chain(20..=31).collect();
-    assert_eq!(seen, all);
+    assert_eq!(seen.keys().copied().collect::<BTreeSet<_>>(), all);
+    for (number, names) in seen {
+        assert_eq!(documented(number), names, "docs/JSON.md on {number}");
+    }
+}
+
+/// The members of `about` that docs/JSON.md has for a refusal or a rule: names between back marks, but no values.
+fn documented(number: i64) -> Names {
+    let page = include_str!("../../../docs/JSON.md");
+    let row = page.lines().find(|line| line.starts_with(&format!("| {number} | "))).expect("a row");
+    let is_name = |word: &&str| word.chars().all(|char| char.is_ascii_lowercase() || char == '_');
+    row.split('`').skip(1).step_by(2).filter(is_name).map(str::to_string).collect()
+}
+
+/// The names of all members of a value, those of members too.
+fn names(value: &Json) -> Names {
+    match value {
+        Json::Members(members) => {
+            members.iter().flat_map(|(name, value)| names(value).into_iter().chain([name.clone()])).collect()
+        }
+        Json::List(list) => list.iter().flat_map(names).collect(),
+        _ => Names::new(),
+    }
 }
 
 /// The accepted example with one file in another shape.
