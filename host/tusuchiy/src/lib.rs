@@ -91,9 +91,13 @@ mod archive {
 /// One check: files, tables, the list of findings and the place after which findings are handed out.
 /// It runs in a thread with a stack of its own size, whatever the caller's; an error says that there is no such thread.
 pub fn try_check(files: [&[u8]; 5], tables: [&mut [i32]; 5], list: &mut [i32], after: [i32; 3]) -> io::Result<Answer> {
+    on_stack(THREAD_STACK, move || archive::check(files, tables, list, after))
+}
+
+/// Makes a call in a thread with so much stack.
+fn on_stack(size: usize, call: impl FnOnce() -> Answer + Send) -> io::Result<Answer> {
     thread::scope(|scope| {
-        let call = move || archive::check(files, tables, list, after);
-        let thread = thread::Builder::new().stack_size(THREAD_STACK).spawn_scoped(scope, call)?;
+        let thread = thread::Builder::new().stack_size(size).spawn_scoped(scope, call)?;
         thread.join().map_err(|_| io::Error::other("the check's thread died"))
     })
 }
@@ -105,4 +109,34 @@ pub fn try_check(files: [&[u8]; 5], tables: [&mut [i32]; 5], list: &mut [i32], a
 /// Where the system gives no thread.
 pub fn check(files: [&[u8]; 5], tables: [&mut [i32]; 5], list: &mut [i32], after: [i32; 3]) -> Answer {
     try_check(files, tables, list, after).expect("a thread for the check")
+}
+
+#[cfg(test)]
+mod tests {
+    use super::*;
+
+    /// The feed of document 01 on no more stack than the header asks for.
+    #[test]
+    fn the_stack_that_is_promised_is_enough() {
+        let files: [&[u8]; 5] = [
+            include_bytes!("../../../examples/findings/stops.txt"),
+            include_bytes!("../../../examples/findings/routes.txt"),
+            include_bytes!("../../../examples/findings/calendar.txt"),
+            include_bytes!("../../../examples/findings/trips.txt"),
+            include_bytes!("../../../examples/findings/stop_times.txt"),
+        ];
+        let mut tables = WIDTHS.map(|width| vec![0; width * 10]);
+        let tables = tables.each_mut().map(|table| &mut table[..]);
+        let answer = on_stack(STACK, move || archive::check(files, tables, &mut [0; 30], [0, 0, 0]));
+        assert_eq!(answer.expect("a thread").verdict(), Some(Verdict::Findings { written: 6, total: 6 }));
+    }
+
+    /// The README and the header have the same figure.
+    #[test]
+    fn the_stack_has_one_figure() {
+        let figure = format!("at most {} MiB of stack", STACK >> 20);
+        for page in [include_str!("../../../README.md"), include_str!("../../../include/tusuchiy.h")] {
+            assert!(page.contains(&figure), "{figure}");
+        }
+    }
 }

@@ -119,6 +119,7 @@ const FEED: usize = 160;
 /// Five files much longer than rule 1 allows, of nothing or of line ends, take no more memory than those that it allows.
 #[test]
 fn memory_has_a_bound() {
+    assert!(include_str!("../../../README.md").contains(&format!("at most {FEED} MiB for each feed")));
     let own = own();
     let folder = Folder::empty("huge");
     for name in NAMES {
