@@ -1,7 +1,7 @@
 //! What a finding is about, from the tables that the check filled and from the files.
 
 use crate::columns::IDS;
-use crate::feed::{Feed, NAMES};
+use crate::feed::Feed;
 use crate::fields::{split, value};
 use crate::memory;
 use crate::paging::Finding;
@@ -18,6 +18,22 @@ pub struct About {
     pub words: String,
     pub members: Members,
 }
+
+/// A number of a record: its file, and its place in the record as the tables of document 01 have it.
+type Cell = (usize, usize);
+
+const LOCATION_TYPE: Cell = (1, 4);
+const PARENT: Cell = (1, 5);
+const START_DATE: Cell = (3, 3);
+const END_DATE: Cell = (3, 4);
+const ROUTE: Cell = (4, 2);
+const SERVICE: Cell = (4, 3);
+const TRIP: Cell = (5, 0);
+const STOP: Cell = (5, 1);
+const SEQUENCE: Cell = (5, 2);
+const ARRIVAL: Cell = (5, 3);
+const DEPARTURE: Cell = (5, 4);
+const TIMEPOINT: Cell = (5, 7);
 
 /// The lines of stop_times.txt that a trip has: how many, the first and the last.
 #[derive(Clone, Copy, Default)]
@@ -68,13 +84,13 @@ impl<'a> Facts<'a> {
     }
 
     /// A number of the record of a line.
-    fn number(&self, file: usize, line: usize, place: usize) -> i32 {
+    fn number(&self, (file, place): Cell, line: usize) -> i32 {
         self.tables[file - 1][(line - 1) * WIDTHS[file - 1] + place]
     }
 
     /// The record number that stands in a record, as the line that it names; none for 0.
-    fn named(&self, file: usize, line: usize, place: usize) -> Option<usize> {
-        let record = usize::try_from(self.number(file, line, place)).ok().filter(|&record| record > 0);
+    fn named(&self, cell: Cell, line: usize) -> Option<usize> {
+        let record = usize::try_from(self.number(cell, line)).ok().filter(|&record| record > 0);
         record.map(|record| record + 1)
     }
 
@@ -94,7 +110,7 @@ impl<'a> Facts<'a> {
             let lines = self.feed.line_count(file);
             firsts.try_reserve(lines).unwrap_or_else(|_| memory::none());
             for line in 2..=lines {
-                let [start, end] = [0, 1].map(|place| self.number(file, line, place) as usize);
+                let [start, end] = [0, 1].map(|place| self.number((file, place), line) as usize);
                 firsts.entry(value(&self.feed.slices()[file - 1][start..end])).or_insert(line as u32);
             }
             firsts
@@ -114,14 +130,14 @@ impl<'a> Facts<'a> {
 
     /// Every reference of the line that leads nowhere.
     fn references(&self, file: usize, line: usize) -> About {
-        let referring: &[(&str, usize, usize)] = match file {
-            1 => &[("parent_station", 5, 1)],
-            4 => &[("route_id", 2, 2), ("service_id", 3, 3)],
-            _ => &[("trip_id", 0, 4), ("stop_id", 1, 1)],
+        let referring: &[(&str, Cell, &str)] = match file {
+            1 => &[("parent_station", PARENT, "stops.txt")],
+            4 => &[("route_id", ROUTE, "routes.txt"), ("service_id", SERVICE, "calendar.txt")],
+            _ => &[("trip_id", TRIP, "trips.txt"), ("stop_id", STOP, "stops.txt")],
         };
         let (mut words, mut list) = (Vec::new(), Vec::new());
-        for &(column, _, searched) in referring.iter().filter(|(_, place, _)| self.number(file, line, *place) == 0) {
-            let (id, searched) = (self.value(file, line, column), NAMES[searched - 1]);
+        for &(column, _, searched) in referring.iter().filter(|(_, cell, _)| self.number(*cell, line) == 0) {
+            let id = self.value(file, line, column);
             words.push(format!("{column} {} stands on no line of {searched}", shown(&id)));
             let searched = ("searched", Value::text(searched));
             list.push(Value::Members(vec![("column", Value::text(column)), shown_value(&id), searched]));
@@ -130,10 +146,10 @@ impl<'a> Facts<'a> {
     }
 
     fn parent(&self, line: usize) -> About {
-        let kind = self.number(1, line, 4);
+        let kind = self.number(LOCATION_TYPE, line);
         let id = self.value(1, line, "parent_station");
-        let parent = self.named(1, line, 5);
-        let parent_kind = parent.map(|parent| self.number(1, parent, 4));
+        let parent = self.named(PARENT, line);
+        let parent_kind = parent.map(|parent| self.number(LOCATION_TYPE, parent));
         let mut clauses = Vec::new();
         if kind == 1 && !id.is_empty() {
             clauses.push(("station_with_parent", format!("a station has the parent_station {}", shown(&id))));
@@ -158,8 +174,8 @@ impl<'a> Facts<'a> {
 
     fn no_platform(&self, line: usize) -> About {
         let id = self.value(5, line, "stop_id");
-        let stop = self.named(5, line, 1).unwrap_or(1);
-        let kind = self.number(1, stop, 4);
+        let stop = self.named(STOP, line).unwrap_or(1);
+        let kind = self.number(LOCATION_TYPE, stop);
         About {
             words: format!("stop_id {} on line {stop} of stops.txt has location_type {kind}", shown(&id)),
             members: vec![
@@ -171,7 +187,7 @@ impl<'a> Facts<'a> {
     }
 
     fn dates(&self, line: usize) -> About {
-        let [start, end] = [3, 4].map(|place| format!("{:08}", self.number(3, line, place)));
+        let [start, end] = [START_DATE, END_DATE].map(|cell| format!("{:08}", self.number(cell, line)));
         About {
             words: format!("end_date {end} is before start_date {start}"),
             members: vec![("start_date", Value::text(start)), ("end_date", Value::text(end))],
@@ -180,8 +196,8 @@ impl<'a> Facts<'a> {
 
     /// The two times of a line; none where one is empty.
     fn times(&self, line: usize) -> [Option<String>; 2] {
-        [3, 4].map(|place| {
-            let seconds = self.number(5, line, place);
+        [ARRIVAL, DEPARTURE].map(|cell| {
+            let seconds = self.number(cell, line);
             let [hours, minutes] = [seconds / 3600, seconds / 60 % 60];
             (seconds >= 0).then(|| format!("{hours:02}:{minutes:02}:{:02}", seconds % 60))
         })
@@ -189,7 +205,7 @@ impl<'a> Facts<'a> {
 
     fn times_given(&self, line: usize) -> About {
         let times = self.times(line);
-        let exact = self.number(5, line, 7) == 1;
+        let exact = self.number(TIMEPOINT, line) == 1;
         let (mut clauses, mut words) = (Vec::new(), Vec::new());
         match &times {
             [Some(time), None] => {
@@ -211,7 +227,7 @@ impl<'a> Facts<'a> {
             ("clauses", Value::texts(clauses)),
             ("arrival_time", arrival),
             ("departure_time", departure),
-            ("timepoint", Value::Number(self.number(5, line, 7).into())),
+            ("timepoint", Value::Number(self.number(TIMEPOINT, line).into())),
         ];
         About { words: words.join("; "), members }
     }
@@ -246,7 +262,7 @@ impl<'a> Facts<'a> {
 
     fn sequence(&self, line: usize) -> About {
         let [earlier, _] = self.before(line);
-        let [own, other] = [line, earlier].map(|line| self.number(5, line, 2));
+        let [own, other] = [line, earlier].map(|line| self.number(SEQUENCE, line));
         About {
             words: format!("stop_sequence {own} isn't above {other} on line {earlier}"),
             members: vec![
@@ -277,7 +293,7 @@ impl<'a> Facts<'a> {
             let trips = self.feed.line_count(4);
             let mut calls = memory::list((0..trips).map(|_| Calls::default()), trips);
             for line in 2..=self.feed.line_count(5) {
-                let trip = self.named(5, line, 0).map_or(0, |trip| trip - 1);
+                let trip = self.named(TRIP, line).map_or(0, |trip| trip - 1);
                 let Calls { count, first, .. } = calls[trip];
                 calls[trip] = Calls { count: count + 1, first: if count == 0 { line } else { first }, last: line };
             }
