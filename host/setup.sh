@@ -38,13 +38,6 @@ tools_arm() {
     export CARGO_TARGET_X86_64_UNKNOWN_LINUX_GNU_RUNNER=qemu-x86_64
 }
 
-# The crates that the command takes from Debian, where .cargo/config.toml looks for them.
-tools_crates() {
-    local registry=/usr/share/cargo/registry
-    compgen -G "$registry/flate2-*" >/dev/null && compgen -G "$registry/lexopt-*" >/dev/null && return
-    install librust-flate2-dev librust-lexopt-dev
-}
-
 # host_tools: everything that cargo needs, on either processor.
 host_tools() {
     case $(uname -m) in
@@ -52,7 +45,6 @@ host_tools() {
         aarch64 | arm64) tools_arm ;;
         *) fail "this machine is neither x86-64 nor Arm" ;;
     esac
-    tools_crates
     export CARGO_BUILD_TARGET=x86_64-unknown-linux-gnu
 }
 
