@@ -58,7 +58,7 @@ typedef struct {
  * the contents, and no call fails otherwise.
  *
  * The call keeps nothing: it allocates no memory, opens no file, holds no state between calls, so several threads may
- * call it at a time on memory of their own. Give a thread that calls it as much stack as a main thread has (8 MiB). */
+ * call it at a time on memory of their own. A call uses at most 4 MiB of stack. */
 tusuchiy_answer tusuchiy_check(
     const uint8_t *stops, size_t stops_len,
     const uint8_t *routes, size_t routes_len,

@@ -2,6 +2,7 @@
 #![forbid(unsafe_code)]
 
 pub mod columns;
+pub mod facts;
 pub mod fields;
 pub mod forms;
 pub mod page;

@@ -1,32 +1,36 @@
 //! The command line: what is asked for, or one line that says what is wrong with it.
 
-use crate::paging::{Page, PAGE_ROOM};
+use crate::manual::{COLORS, GENERATED};
+use crate::paging::{Page, MOST_FINDINGS};
 use crate::safe;
+use crate::style::When;
+use lexopt::{Arg, Error, Parser};
 use std::ffi::{OsStr, OsString};
 use std::os::unix::ffi::OsStrExt;
 use std::path::PathBuf;
 
-pub const HELP: &str = "\
-tusuchiy: checks the five files of a GTFS feed
-
-  tusuchiy check FEED      FEED is a folder with stops.txt, routes.txt, calendar.txt, trips.txt, stop_times.txt
-      --json               the report as one JSON document (docs/JSON.md)
-      --after FILE,LINE,RULE
-                           one page: the findings after this place (0,0,0 is the beginning)
-      --room N             one page: at most N findings
-      --quiet              the verdict alone
-  tusuchiy explain RULE    what a refusal (1 to 13) or a rule (20 to 31) means, and how to mend it
-  tusuchiy --version       the command's version
-
-Exit status: 0 accepted, 1 findings, 2 refused, 3 the command couldn't run.
-";
+/// The most feeds that may be checked at a time.
+const MOST_JOBS: usize = 256;
 
 /// How a report is printed.
-#[derive(Clone, Copy, Debug, PartialEq, Eq)]
+#[derive(Clone, Copy, Debug, Default, PartialEq, Eq)]
 pub enum Form {
+    #[default]
     Text,
     Json,
     Quiet,
+}
+
+/// What `check` is asked for.
+#[derive(Debug, Default, PartialEq, Eq)]
+pub struct Check {
+    pub feeds: Vec<PathBuf>,
+    pub form: Form,
+    pub all: bool,
+    pub page: Option<Page>,
+    pub follow_links: bool,
+    pub jobs: Option<usize>,
+    pub color: When,
 }
 
 /// What the command line asks for.
@@ -34,22 +38,69 @@ pub enum Form {
 pub enum Command {
     Help,
     Version,
+    Generate(usize),
     Explain(usize),
-    Check { feed: PathBuf, form: Form, page: Option<Page> },
+    Check(Check),
+}
+
+/// What was found so far on the command line.
+#[derive(Default)]
+struct Found {
+    words: Vec<OsString>,
+    /// The options of `check` that were there.
+    given: Vec<&'static str>,
+    after: Option<[i32; 3]>,
+    room: Option<usize>,
+    jobs: Option<usize>,
+    color: usize,
 }
 
 /// Reads the words after the command's own name.
 pub fn parse(words: &[OsString]) -> Result<Command, String> {
-    let Some((first, rest)) = words.split_first() else {
-        return Err("say what to do: check FEED, explain RULE, or --help".to_string());
-    };
-    match first.to_str() {
-        Some("--help" | "-h" | "help") if rest.is_empty() => Ok(Command::Help),
-        Some("--version") if rest.is_empty() => Ok(Command::Version),
-        Some("explain") => explain(rest),
-        Some("check") => check(rest),
-        _ => Err(format!("unknown command {}; there are check, explain and --help", shown(first))),
+    let mut parser = Parser::from_args(words.to_vec());
+    let mut found = Found::default();
+    while let Some(word) = parser.next().map_err(said)? {
+        let name = match word {
+            Arg::Short('h') | Arg::Long("help") => return Ok(Command::Help),
+            Arg::Short('V') | Arg::Long("version") => return Ok(Command::Version),
+            Arg::Long("generate") => {
+                let kind = parser.value().map_err(said)?;
+                return one_of("--generate", GENERATED, &kind).map(Command::Generate);
+            }
+            Arg::Short('a') | Arg::Long("all") => "all",
+            Arg::Short('q') | Arg::Long("quiet") => "quiet",
+            Arg::Short('L') | Arg::Long("follow-links") => "follow-links",
+            Arg::Long("json") => "json",
+            Arg::Long("after") => "after",
+            Arg::Long("room") => "room",
+            Arg::Long("jobs") => "jobs",
+            Arg::Long("color") => "color",
+            Arg::Long(other) => return Err(format!("unknown option {}", shown(format!("--{other}").as_ref()))),
+            Arg::Short(other) => return Err(format!("unknown option {}", shown(format!("-{other}").as_ref()))),
+            Arg::Value(word) => {
+                found.words.push(word);
+                continue;
+            }
+        };
+        option(&mut found, name, &mut parser)?;
     }
+    finish(found)
+}
+
+/// Reads one option of `check`, with its value where it has one; none may stand twice.
+fn option(found: &mut Found, name: &'static str, parser: &mut Parser) -> Result<(), String> {
+    if found.given.contains(&name) {
+        return Err(format!("--{name} stands twice"));
+    }
+    found.given.push(name);
+    match name {
+        "after" => found.after = Some(after(&parser.value().map_err(said)?)?),
+        "room" => found.room = Some(number("--room", &parser.value().map_err(said)?, 0, MOST_FINDINGS)?),
+        "jobs" => found.jobs = Some(number("--jobs", &parser.value().map_err(said)?, 1, MOST_JOBS)?),
+        "color" => found.color = one_of("--color", COLORS, &parser.value().map_err(said)?)?,
+        _ => {}
+    }
+    Ok(())
 }
 
 /// A word of the command line, safe to print.
@@ -57,59 +108,14 @@ fn shown(word: &OsStr) -> String {
     format!("'{}'", safe::text(word.as_bytes()))
 }
 
-fn explain(rest: &[OsString]) -> Result<Command, String> {
-    let [word] = rest else {
-        return Err("explain takes one number: 1 to 13 or 20 to 31".to_string());
-    };
-    let number = word.to_str().and_then(|word| word.parse().ok());
-    number.map(Command::Explain).ok_or_else(|| format!("explain takes a number, and {} is none", shown(word)))
-}
-
-/// What was found so far of the words after `check`.
-#[derive(Default)]
-struct Found {
-    feed: Option<PathBuf>,
-    json: bool,
-    quiet: bool,
-    after: Option<[i32; 3]>,
-    room: Option<usize>,
-}
-
-fn check(rest: &[OsString]) -> Result<Command, String> {
-    let mut found = Found::default();
-    let mut words = rest.iter();
-    let mut only_paths = false;
-    while let Some(word) = words.next() {
-        match word.to_str() {
-            Some("--") if !only_paths => only_paths = true,
-            Some(option) if !only_paths && option.starts_with("--") => {
-                read_option(&mut found, option, &mut words)?;
-            }
-            _ if found.feed.is_some() => return Err(format!("check takes one feed; {} is too much", shown(word))),
-            _ => found.feed = Some(PathBuf::from(word)),
+/// What the parser has to say, in one line.
+fn said(error: Error) -> String {
+    match error {
+        Error::MissingValue { option: Some(option) } => format!("{} needs a value", safe::text(option.as_bytes())),
+        Error::UnexpectedValue { option, value } => {
+            format!("{} takes no value, and not {}", safe::text(option.as_bytes()), shown(&value))
         }
-    }
-    finish(found)
-}
-
-/// Reads one option, with its value where it has one; none may stand twice.
-fn read_option<'a>(
-    found: &mut Found,
-    option: &str,
-    words: &mut impl Iterator<Item = &'a OsString>,
-) -> Result<(), String> {
-    let mut value = || words.next().ok_or_else(|| format!("{option} needs a value"));
-    let before = match option {
-        "--json" => std::mem::replace(&mut found.json, true),
-        "--quiet" => std::mem::replace(&mut found.quiet, true),
-        "--after" => found.after.replace(after(value()?)?).is_some(),
-        "--room" => found.room.replace(room(value()?)?).is_some(),
-        _ => return Err(format!("unknown option {}", shown(OsStr::new(option)))),
-    };
-    if before {
-        Err(format!("{option} stands twice"))
-    } else {
-        Ok(())
+        other => safe::text(other.to_string().as_bytes()),
     }
 }
 
@@ -122,49 +128,131 @@ fn after(word: &OsStr) -> Result<[i32; 3], String> {
     numbers.ok_or_else(|| format!("--after takes three numbers, as 5,120,28, and not {}", shown(word)))
 }
 
-fn room(word: &OsStr) -> Result<usize, String> {
-    let room = word.to_str().and_then(|word| word.parse::<u32>().ok());
-    room.map(|room| room as usize).ok_or_else(|| format!("--room takes a number, and not {}", shown(word)))
+/// A number within its bounds.
+fn number(option: &str, word: &OsStr, least: usize, most: usize) -> Result<usize, String> {
+    let number = word.to_str().and_then(|word| word.parse().ok());
+    let within = number.filter(|number| (least..=most).contains(number));
+    within.ok_or_else(|| format!("{option} takes a number from {least} to {most}, and not {}", shown(word)))
 }
 
-/// Puts together what was found; --after or --room ask for one page.
-fn finish(found: Found) -> Result<Command, String> {
-    let feed = found.feed.ok_or("check needs the folder of a feed")?;
-    let form = match (found.json, found.quiet) {
+/// The place of a word among the only ones that there are.
+fn one_of(option: &str, choices: &[&str], word: &OsStr) -> Result<usize, String> {
+    let place = choices.iter().position(|choice| OsStr::new(choice) == word);
+    place.ok_or_else(|| format!("{option} takes {}, and not {}", choices.join(", "), shown(word)))
+}
+
+/// Puts together what was found.
+fn finish(mut found: Found) -> Result<Command, String> {
+    if found.words.is_empty() {
+        return Err("say what to do: check FEED, explain RULE, or --help".to_string());
+    }
+    let verb = found.words.remove(0);
+    match verb.to_str() {
+        Some("check") => check(found).map(Command::Check),
+        Some(verb) if ["explain", "help"].contains(&verb) && !found.given.is_empty() => {
+            Err(format!("{verb} takes no --{}", found.given[0]))
+        }
+        Some("explain") => explain(&found.words),
+        Some("help") => Ok(Command::Help),
+        _ => Err(format!("unknown command {}; there are check, explain and --help", shown(&verb))),
+    }
+}
+
+fn explain(words: &[OsString]) -> Result<Command, String> {
+    let [word] = words else {
+        return Err("explain takes one number: 1 to 13 or 20 to 31".to_string());
+    };
+    let number = word.to_str().and_then(|word| word.parse().ok());
+    number.map(Command::Explain).ok_or_else(|| format!("explain takes a number, and {} is none", shown(word)))
+}
+
+/// What `check` is asked for; --after or --room ask for a page.
+fn check(found: Found) -> Result<Check, String> {
+    if found.words.is_empty() {
+        return Err("check needs a feed: a folder or a zip file".to_string());
+    }
+    let given = |name| found.given.contains(&name);
+    let form = match (given("json"), given("quiet")) {
         (true, true) => return Err("--json and --quiet don't go together".to_string()),
         (true, false) => Form::Json,
         (false, true) => Form::Quiet,
         (false, false) => Form::Text,
     };
-    let page = (found.after.is_some() || found.room.is_some())
-        .then(|| Page { after: found.after.unwrap_or([0, 0, 0]), room: found.room.unwrap_or(PAGE_ROOM) });
-    Ok(Command::Check { feed, form, page })
+    let paged = found.after.is_some() || found.room.is_some();
+    if found.words.len() > 1 && form != Form::Json && (paged || given("all")) {
+        return Err("--all, --after and --room take one feed, or many with --json".to_string());
+    }
+    Ok(Check {
+        form,
+        all: given("all"),
+        page: paged.then(|| Page { after: found.after.unwrap_or([0, 0, 0]), room: found.room }),
+        follow_links: given("follow-links"),
+        jobs: found.jobs,
+        color: [When::Auto, When::Always, When::Never][found.color],
+        feeds: found.words.into_iter().map(PathBuf::from).collect(),
+    })
 }
 
 #[cfg(test)]
 mod tests {
     use super::*;
+    use crate::manual;
 
     fn parsed(line: &str) -> Result<Command, String> {
         parse(&line.split(' ').filter(|word| !word.is_empty()).map(OsString::from).collect::<Vec<_>>())
     }
 
     fn checks(form: Form, page: Option<Page>) -> Result<Command, String> {
-        Ok(Command::Check { feed: PathBuf::from("f"), form, page })
+        Ok(Command::Check(Check { feeds: vec![PathBuf::from("f")], form, page, ..Check::default() }))
     }
 
     #[test]
     fn good_words() {
-        assert_eq!(parsed("--help"), Ok(Command::Help));
-        assert_eq!(parsed("--version"), Ok(Command::Version));
+        for line in ["--help", "-h", "help", "check --help", "check f -h", "explain --help", "-hV", "check f --help x"]
+        {
+            assert_eq!(parsed(line), Ok(Command::Help), "{line}");
+        }
+        for line in ["--version", "-V", "check -V"] {
+            assert_eq!(parsed(line), Ok(Command::Version), "{line}");
+        }
         assert_eq!(parsed("explain 31"), Ok(Command::Explain(31)));
         assert_eq!(parsed("check f"), checks(Form::Text, None));
         assert_eq!(parsed("check --json f"), checks(Form::Json, None));
-        assert_eq!(parsed("check f --quiet"), checks(Form::Quiet, None));
-        let page = Page { after: [-1, 2, 3], room: 0 };
-        assert_eq!(parsed("check --after -1,2,3 f --room 0"), checks(Form::Text, Some(page)));
-        let page = Page { after: [0, 0, 0], room: 7 };
-        assert_eq!(parsed("check --room 7 -- f"), checks(Form::Text, Some(page)));
+        for line in ["check f --quiet", "check -q f", "--quiet check f", "check -q -- f"] {
+            assert_eq!(parsed(line), checks(Form::Quiet, None), "{line}");
+        }
+        let page = Page { after: [-1, 2, 3], room: Some(0) };
+        for line in ["check --after -1,2,3 f --room 0", "check --after=-1,2,3 --room=0 f"] {
+            assert_eq!(parsed(line), checks(Form::Text, Some(page)), "{line}");
+        }
+        let page = Page { after: [0, 0, 0], room: Some(MOST_FINDINGS) };
+        assert_eq!(parsed("check --room 983040 -- f"), checks(Form::Text, Some(page)));
+        let page = Page { after: [5, 3, 29], room: None };
+        assert_eq!(parsed("check --after 5,3,29 f"), checks(Form::Text, Some(page)));
+        assert!(parsed("check f g --all --room 3 --json").is_ok());
+    }
+
+    /// Whatever stands in the table of options is read, and with a value where it has one.
+    #[test]
+    fn the_table_is_true() {
+        for flag in manual::all_flags() {
+            let value = match (flag.value, flag.choices) {
+                (Some(_), []) if flag.long == "after" => "=1,2,3".to_string(),
+                (Some(_), []) => "=1".to_string(),
+                (Some(_), choices) => format!("={}", choices[0]),
+                (None, _) => String::new(),
+            };
+            let read = parsed(&format!("check f --{}{value}", flag.long));
+            assert!(read.is_ok(), "--{}: {read:?}", flag.long);
+            let other = if flag.value.is_some() { "" } else { "=1" };
+            let wrong = parsed(&format!("check --{}{other}", flag.long));
+            assert!(wrong.is_err() || matches!(wrong, Ok(Command::Help | Command::Version)), "--{}", flag.long);
+            if let Some(short) = flag.short {
+                assert_eq!(parsed(&format!("check f -{short}")), read);
+            }
+        }
+        assert!(manual::help().contains(&format!("0 to {MOST_FINDINGS}")));
+        assert!(manual::help().contains(&format!("1 to {MOST_JOBS}")));
     }
 
     #[test]
@@ -173,25 +261,44 @@ mod tests {
             "",
             "chek f",
             "check",
-            "check f g",
             "check f --fast",
             "check f --room",
             "check f --room -1",
             "check f --room x",
+            "check f --room 983041",
+            "check f --room=",
+            "check f --jobs 0",
+            "check f --color blue",
             "check f --after 1,2",
             "check f --after 1,2,3,4",
             "check f --after 1,2,x",
             "check f --json --quiet",
+            "check f g --all",
+            "check f g --room 3",
+            "check f g --after 1,2,3 -q",
             "check f --json --json",
+            "check f --json=1",
             "check f --room 1 --room 2",
+            "check f -x",
+            "check f --jso",
             "explain",
             "explain x",
             "explain 1 2",
-            "--help me",
-            "--version 2",
+            "explain 1 --json",
+            "--generate tea",
         ];
         for line in bad {
             assert!(parsed(line).is_err(), "{line}");
         }
+    }
+
+    #[test]
+    fn an_option_that_is_not_utf8() {
+        let odd = OsStr::from_bytes(b"--\xFF").to_os_string();
+        let words = [OsString::from("check"), OsString::from("f"), odd];
+        assert_eq!(parse(&words), Err("unknown option '--\u{FFFD}'".to_string()));
+        let path = OsStr::from_bytes(b"\xFF").to_os_string();
+        let Ok(Command::Check(check)) = parse(&["check".into(), "--".into(), path.clone()]) else { panic!("no check") };
+        assert_eq!(check.feeds, [PathBuf::from(path)]);
     }
 }

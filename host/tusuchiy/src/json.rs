@@ -1,11 +1,15 @@
-//! The report as one JSON document; docs/JSON.md explains it.
+//! The report as one JSON document on one line; docs/JSON.md explains it.
 
 use crate::explain::meaning;
+use crate::facts::{About, Facts};
 use crate::feed::{Feed, NAMES};
-use crate::paging::{Finding, Page, Report};
+use crate::paging::{Finding, Outcome, Page, Report};
+use crate::refusals;
 use crate::safe;
 use crate::text::totals;
+use crate::value::Value;
 use std::io::{self, Write};
+use std::os::unix::ffi::OsStrExt;
 
 /// The version of the document's form.
 const VERSION: usize = 1;
@@ -13,68 +17,76 @@ const VERSION: usize = 1;
 /// Writes the document; every member stands in every document, in this order.
 pub fn write(out: &mut dyn Write, feed: &Feed, report: &Report) -> io::Result<()> {
     let none: &[Finding] = &[];
-    let (verdict, list, total, page) = match report {
-        Report::Accepted { page } => ("accepted", none, 0, page),
-        Report::Findings { list, total, page } => ("findings", &list[..], *total, page),
-        Report::Refused { page, .. } => ("refused", none, 0, page),
+    let (verdict, list, total) = match &report.outcome {
+        Outcome::Accepted => ("accepted", none, 0),
+        Outcome::Findings { list, total } => ("findings", &list[..], *total),
+        Outcome::Refused { .. } => ("refused", none, 0),
     };
-    writeln!(out, "{{\n  \"version\": {VERSION},\n  \"verdict\": \"{verdict}\",")?;
-    writeln!(out, "  \"refusal\": {},", refusal(feed, report))?;
-    writeln!(out, "  \"total\": {total},\n  \"written\": {},", list.len())?;
-    writeln!(out, "  \"page\": {},", page.as_ref().map_or("null".to_string(), shown_page))?;
-    let findings = list.iter().map(|found| finding(feed, found));
-    write_list(out, "findings", findings)?;
-    writeln!(out, ",")?;
-    match page {
-        Some(_) => write!(out, "  \"totals\": null")?,
-        None => write_list(out, "totals", totals(list).into_iter().map(counted))?,
+    write!(out, "{{\"version\": {VERSION}, \"verdict\": \"{verdict}\", \"refusal\": {}, ", refusal(feed, report))?;
+    write!(out, "\"total\": {total}, \"written\": {}, ", list.len())?;
+    write!(out, "\"page\": {}, \"findings\": [", report.page.as_ref().map_or(Value::Null, page))?;
+    let facts = Facts::new(feed, &report.tables);
+    for (place, finding) in list.iter().enumerate() {
+        let comma = if place == 0 { "" } else { ", " };
+        write!(out, "{comma}{}", found(feed, &facts, finding))?;
     }
-    writeln!(out, "\n}}")
+    let counts = if report.page.is_some() { Value::Null } else { counts(list) };
+    write!(out, "], \"totals\": {counts}, \"feed\": {}, ", Value::text(feed.place.path.as_os_str().as_bytes()))?;
+    let folder = if feed.place.folder.is_empty() { Value::Null } else { Value::text(&feed.place.folder) };
+    writeln!(out, "\"folder\": {folder}, \"records\": {}, \"unread\": {}}}", records(feed, report), unread(feed))
 }
 
-/// A member that is a list, one element to a line.
-fn write_list(out: &mut dyn Write, name: &str, elements: impl Iterator<Item = String>) -> io::Result<()> {
-    write!(out, "  \"{name}\": [")?;
-    let mut before = "\n";
-    for element in elements {
-        write!(out, "{before}    {element}")?;
-        before = ",\n";
-    }
-    let end = if before == "\n" { "]" } else { "\n  ]" };
-    write!(out, "{end}")
-}
-
-fn refusal(feed: &Feed, report: &Report) -> String {
-    match *report {
-        Report::Refused { number, file, line, .. } => place(feed, file, line, "number", number),
-        _ => "null".to_string(),
+fn refusal(feed: &Feed, report: &Report) -> Value {
+    match report.outcome {
+        Outcome::Refused { number, file, line } => {
+            place(feed, file, line, ("number", number), refusals::about(feed, number, file, line))
+        }
+        _ => Value::Null,
     }
 }
 
-fn finding(feed: &Feed, finding: &Finding) -> String {
-    place(feed, finding.file, finding.line, "rule", finding.rule)
+fn found(feed: &Feed, facts: &Facts, finding: &Finding) -> Value {
+    place(feed, finding.file, finding.line, ("rule", finding.rule), facts.about(finding))
 }
 
 /// A place in the feed with the rule broken there; `text` is null where there is no line.
-fn place(feed: &Feed, file: usize, line: usize, word: &str, number: usize) -> String {
-    let (text, cut) = match feed.line(file, line).map(safe::beginning) {
-        Some((shown, cut)) => (safe::json(shown), cut),
-        None => ("null".to_string(), false),
+fn place(feed: &Feed, file: usize, line: usize, (word, number): (&'static str, usize), about: About) -> Value {
+    let shown = feed.line(file, line).map(|text| safe::beginning(text, safe::SHOWN_LINE));
+    Value::Members(vec![
+        ("file", Value::size(file)),
+        ("name", Value::text(NAMES[file - 1])),
+        ("line", Value::size(line)),
+        (word, Value::size(number)),
+        ("meaning", Value::text(meaning(number))),
+        ("text", shown.map_or(Value::Null, |(text, _)| Value::text(text))),
+        ("cut", Value::Bool(shown.is_some_and(|(_, cut)| cut))),
+        ("words", Value::text(about.words)),
+        ("about", Value::Members(about.members)),
+    ])
+}
+
+fn page(page: &Page) -> Value {
+    let after = page.after.map(|number| Value::Number(number.into())).to_vec();
+    Value::Members(vec![("after", Value::List(after)), ("room", Value::maybe(page.room))])
+}
+
+fn counts(list: &[Finding]) -> Value {
+    let counted = |(rule, count): (usize, usize)| {
+        let meaning = ("meaning", Value::text(meaning(rule)));
+        Value::Members(vec![("rule", Value::size(rule)), ("count", Value::size(count)), meaning])
     };
-    let name = NAMES[file - 1];
-    let meaning = safe::json(meaning(number).as_bytes());
-    format!(
-        "{{\"file\": {file}, \"name\": \"{name}\", \"line\": {line}, \"{word}\": {number}, \
-         \"meaning\": {meaning}, \"text\": {text}, \"cut\": {cut}}}"
-    )
+    Value::List(totals(list).into_iter().map(counted).collect())
 }
 
-fn shown_page(page: &Page) -> String {
-    let [file, line, rule] = page.after;
-    format!("{{\"after\": [{file}, {line}, {rule}], \"room\": {}}}", page.room)
+/// How many records each file has; null for a feed that was refused.
+fn records(feed: &Feed, report: &Report) -> Value {
+    match report.outcome {
+        Outcome::Refused { .. } => Value::Null,
+        _ => Value::List((1..=5).map(|file| Value::size(feed.line_count(file) - 1)).collect()),
+    }
 }
 
-fn counted((rule, count): (usize, usize)) -> String {
-    let meaning = safe::json(meaning(rule).as_bytes());
-    format!("{{\"rule\": {rule}, \"count\": {count}, \"meaning\": {meaning}}}")
+fn unread(feed: &Feed) -> Value {
+    let names = Value::texts(&feed.unread.names);
+    Value::Members(vec![("count", Value::size(feed.unread.count)), ("names", names)])
 }

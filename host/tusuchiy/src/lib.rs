@@ -1,6 +1,15 @@
 //! The proved check, called from Rust: one safe function over the function that the archive exports.
 #![deny(unsafe_code)]
 
+use std::io;
+use std::thread;
+
+/// How much stack a call of the archive's function uses at most, in bytes; include/tusuchiy.h has the same figure.
+pub const STACK: usize = 4 << 20;
+
+/// How much the thread has that makes the call: four times as much, of which only what is used takes memory.
+const THREAD_STACK: usize = 4 * STACK;
+
 /// How many numbers a record of each file has, stops first: a table needs its width times its file's LF count.
 pub const WIDTHS: [usize; 5] = [6, 3, 5, 7, 8];
 
@@ -62,7 +71,7 @@ mod archive {
         ) -> Answer;
     }
 
-    /// One check: files, tables, the list of findings and the place after which findings are handed out.
+    /// One call on the stack that the caller has.
     pub fn check(files: [&[u8]; 5], tables: [&mut [i32]; 5], list: &mut [i32], after: [i32; 3]) -> Answer {
         let [f1, f2, f3, f4, f5] = files;
         let [t1, t2, t3, t4, t5] = tables;
@@ -79,4 +88,55 @@ mod archive {
     }
 }
 
-pub use archive::check;
+/// One check: files, tables, the list of findings and the place after which findings are handed out.
+/// It runs in a thread with a stack of its own size, whatever the caller's; an error says that there is no such thread.
+pub fn try_check(files: [&[u8]; 5], tables: [&mut [i32]; 5], list: &mut [i32], after: [i32; 3]) -> io::Result<Answer> {
+    on_stack(THREAD_STACK, move || archive::check(files, tables, list, after))
+}
+
+/// Makes a call in a thread with so much stack.
+fn on_stack(size: usize, call: impl FnOnce() -> Answer + Send) -> io::Result<Answer> {
+    thread::scope(|scope| {
+        let thread = thread::Builder::new().stack_size(size).spawn_scoped(scope, call)?;
+        thread.join().map_err(|_| io::Error::other("the check's thread died"))
+    })
+}
+
+/// The same for those who can't go on without a thread.
+///
+/// # Panics
+///
+/// Where the system gives no thread.
+pub fn check(files: [&[u8]; 5], tables: [&mut [i32]; 5], list: &mut [i32], after: [i32; 3]) -> Answer {
+    try_check(files, tables, list, after).expect("a thread for the check")
+}
+
+#[cfg(test)]
+mod tests {
+    use super::*;
+
+    /// The feed of document 01 on no more stack than the header asks for.
+    #[test]
+    fn the_stack_that_is_promised_is_enough() {
+        let files: [&[u8]; 5] = [
+            include_bytes!("../../../examples/findings/stops.txt"),
+            include_bytes!("../../../examples/findings/routes.txt"),
+            include_bytes!("../../../examples/findings/calendar.txt"),
+            include_bytes!("../../../examples/findings/trips.txt"),
+            include_bytes!("../../../examples/findings/stop_times.txt"),
+        ];
+        let mut tables = WIDTHS.map(|width| vec![0; width * 10]);
+        let tables = tables.each_mut().map(|table| &mut table[..]);
+        let answer = on_stack(STACK, move || archive::check(files, tables, &mut [0; 30], [0, 0, 0]));
+        assert_eq!(answer.expect("a thread").verdict(), Some(Verdict::Findings { written: 6, total: 6 }));
+    }
+
+    /// The README and the header have the same figure.
+    #[test]
+    fn the_stack_has_one_figure() {
+        let figure = format!("at most {} MiB of stack", STACK >> 20);
+        for page in [include_str!("../../../README.md"), include_str!("../../../include/tusuchiy.h")] {
+            assert!(page.contains(&figure), "{figure}");
+        }
+    }
+}

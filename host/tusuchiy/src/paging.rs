@@ -1,27 +1,25 @@
 //! Lends memory to the check and gathers what it hands out, page by page.
 
-use crate::feed::Feed;
+use crate::feed::{Feed, MOST_LINES};
 use crate::progress::Progress;
+use std::collections::TryReserveError;
 use tusuchiy::{Verdict, WIDTHS};
 
 /// How many findings one call may hand out when all are wanted.
-pub const PAGE_ROOM: usize = 65_536;
+const PAGE_ROOM: usize = 65_536;
 
-/// More findings than any feed can have: five files of 65,535 records, at most six rules on a line.
-const MOST_FINDINGS: usize = 5 * 65_536 * 6;
+/// More findings than any feed can have: on a line of files 1 to 5 at most 3, 2, 2, 3 and 5 rules are broken.
+pub const MOST_FINDINGS: usize = (3 + 2 + 2 + 3 + 5) * MOST_LINES;
 
-/// More lines than rule 2 allows: a file with more is refused before its table is measured.
-const MOST_LINES: usize = 1 << 20;
-
-/// One page: the findings after a place, as many as there is room for.
+/// One page: the findings after a place, as many as there is room for, or all of them.
 #[derive(Clone, Copy, Debug, PartialEq, Eq)]
 pub struct Page {
     pub after: [i32; 3],
-    pub room: usize,
+    pub room: Option<usize>,
 }
 
 /// A page without room tells the verdict and the total.
-pub const VERDICT_ONLY: Page = Page { after: [0, 0, 0], room: 0 };
+pub const VERDICT_ONLY: Page = Page { after: [0, 0, 0], room: Some(0) };
 
 /// A finding: file, line, rule.
 #[derive(Clone, Copy, Debug, PartialEq, Eq)]
@@ -31,12 +29,19 @@ pub struct Finding {
     pub rule: usize,
 }
 
-/// What is to be printed; `page` is there where just one page was asked for.
+/// What the check answered.
 #[derive(Debug, PartialEq, Eq)]
-pub enum Report {
-    Accepted { page: Option<Page> },
-    Findings { list: Vec<Finding>, total: usize, page: Option<Page> },
-    Refused { number: usize, file: usize, line: usize, page: Option<Page> },
+pub enum Outcome {
+    Accepted,
+    Findings { list: Vec<Finding>, total: usize },
+    Refused { number: usize, file: usize, line: usize },
+}
+
+/// What is to be printed; `page` is there where one was asked for. A refusal leaves the tables all zero.
+pub struct Report {
+    pub outcome: Outcome,
+    pub page: Option<Page>,
+    pub tables: [Vec<i32>; 5],
 }
 
 /// Memory lent to the check.
@@ -46,104 +51,132 @@ struct Lent {
 }
 
 /// As much as the feed's lines ask for, and a list with this room.
-fn lend(feed: &Feed, room: usize) -> Lent {
-    let length = |file: usize| WIDTHS[file] * feed.line_count(file + 1).min(MOST_LINES);
-    let tables = [0, 1, 2, 3, 4].map(|file| vec![0; length(file)]);
-    Lent { tables, list: vec![0; room.min(MOST_FINDINGS) * 3] }
+fn lend(feed: &Feed, room: usize) -> Result<Lent, TryReserveError> {
+    let mut tables: [Vec<i32>; 5] = Default::default();
+    for file in 0..5 {
+        // A file with more lines is refused before its table is measured.
+        tables[file] = zeros(WIDTHS[file] * feed.line_count(file + 1).min(MOST_LINES))?;
+    }
+    Ok(Lent { tables, list: zeros(room * 3)? })
 }
 
-/// One call of the check: the verdict, and the findings that it wrote.
-fn call(feed: &Feed, lent: &mut Lent, after: [i32; 3]) -> Result<(Verdict, Vec<[i32; 3]>), String> {
+fn zeros(length: usize) -> Result<Vec<i32>, TryReserveError> {
+    let mut numbers = Vec::new();
+    numbers.try_reserve_exact(length)?;
+    numbers.resize(length, 0);
+    Ok(numbers)
+}
+
+/// One call of the check, which adds to the list what it hands out; the verdict.
+fn call(feed: &Feed, lent: &mut Lent, after: [i32; 3], list: &mut Vec<Finding>) -> Result<Verdict, String> {
     let tables = lent.tables.each_mut().map(|table| &mut table[..]);
-    let answer = tusuchiy::check(feed.slices(), tables, &mut lent.list, after);
+    let answer = tusuchiy::try_check(feed.slices(), tables, &mut lent.list, after);
+    let answer = answer.map_err(|error| format!("can't run the check: {error}"))?;
     let unknown = || format!("the check gave an answer that nobody knows: {answer:?}");
     let verdict = answer.verdict().ok_or_else(unknown)?;
     let written = if let Verdict::Findings { written, .. } = verdict { written } else { 0 };
     let numbers = lent.list.get(..written * 3).ok_or_else(unknown)?;
-    let list = numbers.chunks_exact(3).map(|found| [found[0], found[1], found[2]]).collect();
-    Ok((verdict, list))
-}
-
-/// One page as the check hands it out.
-pub fn one(feed: &Feed, page: Page) -> Result<Report, String> {
-    let (verdict, list) = call(feed, &mut lend(feed, page.room), page.after)?;
-    report(verdict, &list, Some(page))
-}
-
-/// The whole list: from its beginning, each page from the last finding handed out, until none is.
-pub fn all(feed: &Feed, room: usize, progress: &Progress) -> Result<Report, String> {
-    let mut lent = lend(feed, room);
-    let mut list: Vec<[i32; 3]> = Vec::new();
-    loop {
-        let after = list.last().copied().unwrap_or([0, 0, 0]);
-        let (verdict, more) = call(feed, &mut lent, after)?;
-        if more.is_empty() {
-            return whole(verdict, &list);
-        }
-        list.extend(more);
-        progress.findings(list.len());
+    list.try_reserve_exact(written).map_err(no_memory)?;
+    for numbers in numbers.chunks_exact(3) {
+        list.push(finding(numbers).ok_or_else(unknown)?);
     }
-}
-
-/// The report of a whole list, which must be as long as the check says.
-fn whole(verdict: Verdict, list: &[[i32; 3]]) -> Result<Report, String> {
-    match verdict {
-        Verdict::Findings { total, .. } if total != list.len() => {
-            Err(format!("the check handed out {} findings and counts {total}", list.len()))
-        }
-        _ => report(verdict, list, None),
-    }
-}
-
-fn report(verdict: Verdict, list: &[[i32; 3]], page: Option<Page>) -> Result<Report, String> {
-    Ok(match verdict {
-        Verdict::Accepted => Report::Accepted { page },
-        Verdict::Refused { number, file, line } => Report::Refused { number, file, line, page },
-        Verdict::Findings { total, .. } => {
-            let list = list.iter().map(finding).collect::<Option<Vec<_>>>();
-            let list = list.ok_or("the check handed out a finding in no file")?;
-            Report::Findings { list, total, page }
-        }
-    })
+    Ok(verdict)
 }
 
 /// A finding from its three numbers, if its file is one of the five.
-fn finding(numbers: &[i32; 3]) -> Option<Finding> {
-    let [file, line, rule] = numbers.map(|number| usize::try_from(number).ok());
-    let file = file.filter(|file| (1..=5).contains(file))?;
-    Some(Finding { file, line: line?, rule: rule? })
+fn finding(numbers: &[i32]) -> Option<Finding> {
+    let number = |place: usize| usize::try_from(numbers[place]).ok();
+    let file = number(0).filter(|file| (1..=5).contains(file))?;
+    Some(Finding { file, line: number(1)?, rule: number(2)? })
+}
+
+fn no_memory(error: TryReserveError) -> String {
+    error.to_string()
+}
+
+/// Checks a feed: one page as the check hands it out, or all findings.
+pub fn check(feed: &Feed, page: Option<Page>, progress: &Progress) -> Result<Report, String> {
+    check_by(feed, page, PAGE_ROOM, progress)
+}
+
+/// The same with pages of this room where no other is asked for.
+fn check_by(feed: &Feed, page: Option<Page>, room: usize, progress: &Progress) -> Result<Report, String> {
+    let asked = page.and_then(|page| page.room);
+    let mut lent = lend(feed, asked.unwrap_or(room)).map_err(no_memory)?;
+    let start = page.map_or([0, 0, 0], |page| page.after);
+    let mut list = Vec::new();
+    let mut verdict = call(feed, &mut lent, start, &mut list)?;
+    if let (None, Some(more)) = (asked, more(verdict, list.len(), room)) {
+        progress.findings(list.len());
+        lent.list = zeros(more * 3).map_err(no_memory)?;
+        let last = list.last().map_or(start, |last| [last.file, last.line, last.rule].map(|number| number as i32));
+        verdict = call(feed, &mut lent, last, &mut list)?;
+    }
+    let outcome = match verdict {
+        Verdict::Accepted => Outcome::Accepted,
+        Verdict::Refused { number, file, line } => Outcome::Refused { number, file, line },
+        Verdict::Findings { total, .. } if page.is_none() && total != list.len() => {
+            return Err(format!("the check handed out {} findings and counts {total}", list.len()));
+        }
+        Verdict::Findings { total, .. } => Outcome::Findings { list, total },
+    };
+    Ok(Report { outcome, page, tables: lent.tables })
+}
+
+/// How many findings there may be behind a page with this room, if there may be any: a page that isn't full is the
+/// last one, and so is one that brings the list up to the total.
+fn more(verdict: Verdict, handed: usize, room: usize) -> Option<usize> {
+    let Verdict::Findings { total, .. } = verdict else { return None };
+    (handed > 0 && handed >= room && total > handed).then(|| total - handed)
 }
 
 #[cfg(test)]
 mod tests {
     use super::*;
+    use crate::feed::{Place, Unread};
     use crate::progress;
 
     /// The feed of document 01.
     fn feed() -> Feed {
-        Feed::new([
+        let files = [
             include_bytes!("../../../examples/findings/stops.txt").to_vec(),
             include_bytes!("../../../examples/findings/routes.txt").to_vec(),
             include_bytes!("../../../examples/findings/calendar.txt").to_vec(),
             include_bytes!("../../../examples/findings/trips.txt").to_vec(),
             include_bytes!("../../../examples/findings/stop_times.txt").to_vec(),
-        ])
+        ];
+        Feed::new(Place::default(), files.map(Some), Unread::default())
+    }
+
+    fn all(page: Option<Page>, room: usize) -> Result<Outcome, String> {
+        check_by(&feed(), page, room, &progress::silent()).map(|report| report.outcome)
     }
 
     #[test]
     fn pages_of_any_room_give_the_whole_list() {
-        let feed = feed();
         let findings = [(4, 2, 31), (4, 3, 21), (4, 3, 30), (5, 3, 29), (5, 4, 21), (5, 4, 28)];
-        let list = findings.map(|(file, line, rule)| Finding { file, line, rule }).to_vec();
-        let wanted = Ok(Report::Findings { list, total: 6, page: None });
+        let list = findings.map(|(file, line, rule)| Finding { file, line, rule });
         for room in [1, 2, 4, 5, 6, 7, PAGE_ROOM] {
-            assert_eq!(all(&feed, room, &progress::start(&feed)), wanted, "room {room}");
+            let whole = Outcome::Findings { list: list.to_vec(), total: 6 };
+            assert_eq!(all(None, room), Ok(whole), "room {room}");
+            let rest = Outcome::Findings { list: list[3..].to_vec(), total: 6 };
+            assert_eq!(all(Some(Page { after: [4, 3, 30], room: None }), room), Ok(rest), "room {room}");
         }
+    }
+
+    /// No call is made for findings that can't be there any more, and one for all that can.
+    #[test]
+    fn the_check_is_not_called_once_more() {
+        let findings = |total| Verdict::Findings { written: 6, total };
+        assert_eq!([6, 7, 8].map(|room| more(findings(6), 6, room)), [None; 3]);
+        assert_eq!([6, 7].map(|room| more(findings(9), 6, room)), [Some(3), None]);
+        assert_eq!(more(findings(6), 0, 0), None);
+        let refused = Verdict::Refused { number: 4, file: 1, line: 0 };
+        assert_eq!([Verdict::Accepted, refused].map(|verdict| more(verdict, 0, 6)), [None; 2]);
     }
 
     #[test]
     fn a_list_shorter_than_the_total_is_an_error() {
-        let feed = feed();
-        assert!(all(&feed, 0, &progress::start(&feed)).is_err());
+        assert!(all(None, 0).is_err());
     }
 }

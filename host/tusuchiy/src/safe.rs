@@ -1,17 +1,18 @@
 //! Text from a feed made safe to print: no control byte and no broken UTF-8 gets through.
 
-/// The longest piece of a line that is shown, in bytes.
-const SHOWN: usize = 400;
+/// The longest piece of a line that is shown, in bytes, and of a value among words.
+pub const SHOWN_LINE: usize = 400;
+pub const SHOWN_VALUE: usize = 80;
 
-/// The beginning of a line, cut between characters, and whether anything was cut off.
-pub fn beginning(line: &[u8]) -> (&[u8], bool) {
-    if line.len() <= SHOWN {
-        return (line, false);
+/// The beginning of a text, cut between characters, and whether anything was cut off.
+pub fn beginning(text: &[u8], most: usize) -> (&[u8], bool) {
+    if text.len() <= most {
+        return (text, false);
     }
     // A byte of the form 10xxxxxx goes on with a character that began before it, at most three bytes back.
-    let goes_on = |place: &usize| line[*place] & 0xC0 == 0x80;
-    let end = (SHOWN - 3..=SHOWN).rev().find(|place| !goes_on(place)).unwrap_or(SHOWN);
-    (&line[..end], true)
+    let goes_on = |place: &usize| text[*place] & 0xC0 == 0x80;
+    let end = (most - 3..=most).rev().find(|place| !goes_on(place)).unwrap_or(most);
+    (&text[..end], true)
 }
 
 /// Text for a terminal: what it could obey or hide is written as an escape, and so is a backslash.
@@ -43,11 +44,14 @@ fn push(out: &mut String, char: char) {
     }
 }
 
-/// Characters that change the order of what is shown, or can't be seen.
+/// Characters that change the order of what is shown or that nobody sees: those that Unicode lets a display ignore,
+/// blanks other than the space, and marks around annotations.
 fn is_hidden(char: char) -> bool {
     matches!(char as u32,
-        0xAD | 0x61C | 0x180E | 0x200B..=0x200F | 0x2028..=0x202E | 0x2060..=0x206F | 0xFE00..=0xFE0F | 0xFEFF
-        | 0xFFF0..=0xFFFB | 0xE0000..=0xE0FFF)
+        0xA0 | 0xAD | 0x34F | 0x61C | 0x115F..=0x1160 | 0x1680 | 0x17B4..=0x17B5 | 0x180B..=0x180F | 0x2000..=0x200F
+        | 0x2028..=0x202F | 0x205F..=0x206F | 0x2800 | 0x3000 | 0x3164 | 0xFE00..=0xFE0F | 0xFEFF | 0xFFA0
+        | 0xFFF0..=0xFFFB | 0x13441..=0x13442 | 0x16FE4 | 0x1BCA0..=0x1BCA3 | 0x1D159 | 0x1D173..=0x1D17A
+        | 0xE0000..=0xE0FFF)
 }
 
 /// A JSON string in plain ASCII; bytes that aren't UTF-8 become U+FFFD.
@@ -82,6 +86,22 @@ mod tests {
         assert_eq!(text(b"\\x00"), "\\\\x00");
     }
 
+    /// Blanks of every block, and their neighbours: letters and marks that are seen stay.
+    #[test]
+    fn blanks_that_nobody_sees_are_escaped() {
+        let blank = [
+            0xA0, 0x34F, 0x115F, 0x1160, 0x17B4, 0x17B5, 0x180B, 0x2000, 0x200A, 0x202F, 0x205F, 0x2800, 0x3000,
+            0x3164, 0xFFA0, 0x1680, 0x1BCA0, 0x1D173, 0x1D17A, 0xE0100,
+        ];
+        for code in blank {
+            let char = char::from_u32(code).expect("a character");
+            assert_eq!(text(char.to_string().as_bytes()), format!("\\u{{{code:04X}}}"));
+        }
+        for char in ["é", "ß", "Ж", "中", "ᄀ", "ꥠ", "⠁", "😀", "、"] {
+            assert_eq!(text(char.as_bytes()), char);
+        }
+    }
+
     #[test]
     fn json_strings_are_ascii() {
         assert_eq!(json(b"a\"\\\n\x7f"), r#""a\"\\\u000a\u007f""#);
@@ -91,10 +111,10 @@ mod tests {
 
     #[test]
     fn long_lines_are_cut_between_characters() {
-        assert_eq!(beginning(&[b'x'; 400]), (&[b'x'; 400][..], false));
-        assert_eq!(beginning(&[b'x'; 401]), (&[b'x'; 400][..], true));
+        assert_eq!(beginning(&[b'x'; 400], 400), (&[b'x'; 400][..], false));
+        assert_eq!(beginning(&[b'x'; 401], 400), (&[b'x'; 400][..], true));
         let line = [&[b'x'; 399][..], "ää".as_bytes()].concat();
-        assert_eq!(beginning(&line), (&[b'x'; 399][..], true));
-        assert_eq!(beginning(&[0x80; 500]).0.len(), 400);
+        assert_eq!(beginning(&line, 400), (&[b'x'; 399][..], true));
+        assert_eq!(beginning(&[0x80; 500], 400).0.len(), 400);
     }
 }

@@ -1,66 +1,163 @@
-//! The report as text: the verdict, then each finding with its line, then totals by rule.
+//! The report as text: the verdict, then the findings of each rule with their lines, the first few or all.
 
 use crate::explain::meaning;
+use crate::facts::{About, Facts};
 use crate::feed::{Feed, NAMES};
-use crate::paging::{Finding, Page, Report};
+use crate::paging::{Finding, Outcome, Page, Report};
+use crate::refusals;
 use crate::safe;
+use crate::style::Style;
 use std::collections::BTreeMap;
 use std::io::{self, Write};
+use std::os::unix::ffi::OsStrExt;
+use std::time::Duration;
+
+/// How many findings of a rule are shown unless all are asked for.
+const FEW: usize = 5;
+
+/// How a report is printed.
+pub struct Layout {
+    pub style: Style,
+    pub all: bool,
+    /// How long the check took.
+    pub time: Duration,
+}
 
 /// Writes the whole report.
-pub fn write(out: &mut dyn Write, feed: &Feed, report: &Report) -> io::Result<()> {
-    write_verdict(out, report)?;
-    match report {
-        Report::Accepted { .. } => Ok(()),
-        Report::Refused { number, file, line, .. } => {
-            let word = if *line == 0 { String::new() } else { format!(":{line}") };
-            writeln!(out, "{}{word}: refusal {number}: {}", NAMES[file - 1], meaning(*number))?;
-            write_line(out, feed, *file, *line)
+pub fn write(out: &mut dyn Write, feed: &Feed, report: &Report, layout: &Layout) -> io::Result<()> {
+    let style = layout.style;
+    writeln!(out, "{}", verdict(report, style))?;
+    if !feed.place.folder.is_empty() {
+        writeln!(out, "in the folder {} of the zip file", safe::text(&feed.place.folder))?;
+    }
+    match &report.outcome {
+        Outcome::Accepted => write_read(out, feed, layout),
+        Outcome::Refused { number, file, line } => {
+            writeln!(out, "{}", refused(feed, *number, *file, *line, style))?;
+            write_line(out, feed, *file, *line)?;
+            write_hint(out, *number)
         }
-        Report::Findings { list, total, page } => {
-            for finding in list {
-                write_finding(out, feed, finding)?;
-            }
-            match page {
-                Some(page) => write_page(out, page, list.len(), *total),
-                None => write_totals(out, list),
+        Outcome::Findings { list, total } => {
+            let facts = Facts::new(feed, &report.tables);
+            match &report.page {
+                Some(page) => write_page(out, feed, &facts, list, *total, page, style),
+                None => write_rules(out, feed, &facts, list, layout),
             }
         }
     }
 }
 
-/// The verdict, one line.
-pub fn write_verdict(out: &mut dyn Write, report: &Report) -> io::Result<()> {
-    match report {
-        Report::Accepted { .. } => writeln!(out, "accepted"),
-        Report::Findings { total, .. } => writeln!(out, "findings: {total}"),
-        Report::Refused { .. } => writeln!(out, "refused"),
+/// The verdict in a word or two.
+pub fn verdict(report: &Report, style: Style) -> String {
+    match &report.outcome {
+        Outcome::Accepted => style.good("accepted"),
+        Outcome::Findings { total, .. } => style.bad(&format!("findings: {total}")),
+        Outcome::Refused { .. } => style.bad("refused"),
     }
 }
 
-fn write_finding(out: &mut dyn Write, feed: &Feed, finding: &Finding) -> io::Result<()> {
-    let Finding { file, line, rule } = *finding;
-    writeln!(out, "{}:{line}: rule {rule}: {}", NAMES[file - 1], meaning(rule))?;
-    write_line(out, feed, file, line)
+/// The verdict of one of many feeds: one line, with the place and the words of a refusal.
+pub fn verdict_line(feed: &Feed, report: &Report, style: Style) -> String {
+    let path = safe::text(feed.place.path.as_os_str().as_bytes());
+    let more = match report.outcome {
+        Outcome::Refused { number, file, line } => {
+            let place = if line == 0 { String::new() } else { format!(":{line}") };
+            let About { words, .. } = refusals::about(feed, number, file, line);
+            format!(
+                ": {}{place}: refusal {number}: {}",
+                NAMES[file - 1],
+                if words.is_empty() { meaning(number) } else { &words }
+            )
+        }
+        _ => String::new(),
+    };
+    format!("{}: {}{more}", style.path(&path), verdict(report, style))
+}
+
+/// What was read of an accepted feed, what wasn't, and the time that it took.
+fn write_read(out: &mut dyn Write, feed: &Feed, layout: &Layout) -> io::Result<()> {
+    let records = |file: usize| feed.line_count(file) - 1;
+    let read: Vec<String> = (1..=5).map(|file| format!("{} {}", NAMES[file - 1], records(file))).collect();
+    writeln!(out, "records read: {}", read.join(", "))?;
+    if feed.unread.count > 0 {
+        let names: Vec<String> = feed.unread.names.iter().map(|name| safe::text(name)).collect();
+        let more = feed.unread.count - names.len();
+        let more = if more == 0 { String::new() } else { format!(" and {more} more") };
+        writeln!(out, "files not read: {}{more}", names.join(", "))?;
+    }
+    writeln!(out, "time: {:.3} s", layout.time.as_secs_f64())
+}
+
+/// Place, number, meaning and words of a refusal.
+fn refused(feed: &Feed, number: usize, file: usize, line: usize, style: Style) -> String {
+    let place = place(feed, file, line, style);
+    let About { words, .. } = refusals::about(feed, number, file, line);
+    let words = if words.is_empty() { words } else { format!(": {words}") };
+    format!("{place}: refusal {number}: {}{words}", meaning(number))
+}
+
+/// The path of a file and the line, as editors take it.
+fn place(feed: &Feed, file: usize, line: usize, style: Style) -> String {
+    let line = if line == 0 { String::new() } else { format!(":{line}") };
+    style.path(&format!("{}{line}", feed.place.of(NAMES[file - 1])))
 }
 
 /// The text of a line, if there is one.
 fn write_line(out: &mut dyn Write, feed: &Feed, file: usize, line: usize) -> io::Result<()> {
     let Some(bytes) = feed.line(file, line) else { return Ok(()) };
-    let (shown, cut) = safe::beginning(bytes);
+    let (shown, cut) = safe::beginning(bytes, safe::SHOWN_LINE);
     let more = if cut { format!(" ... ({} bytes)", bytes.len()) } else { String::new() };
     writeln!(out, "    {}{more}", safe::text(shown))
 }
 
-fn write_page(out: &mut dyn Write, page: &Page, written: usize, total: usize) -> io::Result<()> {
-    let [file, line, rule] = page.after;
-    writeln!(out, "page after {file},{line},{rule}: {written} of {total} findings")
+fn write_hint(out: &mut dyn Write, number: usize) -> io::Result<()> {
+    writeln!(out, "`tusuchiy explain {number}` says more")
 }
 
-fn write_totals(out: &mut dyn Write, list: &[Finding]) -> io::Result<()> {
-    writeln!(out, "totals:")?;
-    for (rule, count) in totals(list) {
-        writeln!(out, "{count:8}  rule {rule}: {}", meaning(rule))?;
+/// One page, in the order in which the check hands findings out.
+fn write_page(
+    out: &mut dyn Write,
+    feed: &Feed,
+    facts: &Facts,
+    list: &[Finding],
+    total: usize,
+    page: &Page,
+    style: Style,
+) -> io::Result<()> {
+    let words = |finding: &Finding| format!("rule {}: {}", finding.rule, facts.about(finding).words);
+    write_findings(out, feed, list.iter(), style, words)?;
+    let [file, line, rule] = page.after;
+    writeln!(out, "page after {file},{line},{rule}: {} of {total} findings", list.len())
+}
+
+/// The findings of each rule under a heading.
+fn write_rules(out: &mut dyn Write, feed: &Feed, facts: &Facts, list: &[Finding], layout: &Layout) -> io::Result<()> {
+    let totals = totals(list);
+    for (&rule, &count) in &totals {
+        let heading = format!("rule {rule}: {} ({count})", meaning(rule));
+        writeln!(out, "\n{}", layout.style.heading(&heading))?;
+        let shown = if layout.all { count } else { count.min(FEW) };
+        let findings = list.iter().filter(|finding| finding.rule == rule).take(shown);
+        write_findings(out, feed, findings, layout.style, |finding| facts.about(finding).words)?;
+        if shown < count {
+            writeln!(out, "and {} more, which --all shows", count - shown)?;
+        }
+    }
+    writeln!(out)?;
+    write_hint(out, totals.keys().next().copied().unwrap_or_default())
+}
+
+/// The place of each finding with words about it, and its line.
+fn write_findings<'a>(
+    out: &mut dyn Write,
+    feed: &Feed,
+    findings: impl Iterator<Item = &'a Finding>,
+    style: Style,
+    words: impl Fn(&Finding) -> String,
+) -> io::Result<()> {
+    for finding in findings {
+        writeln!(out, "{}: {}", place(feed, finding.file, finding.line, style), words(finding))?;
+        write_line(out, feed, finding.file, finding.line)?;
     }
     Ok(())
 }

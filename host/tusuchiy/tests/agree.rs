@@ -6,14 +6,6 @@ use tusuchiy::{Answer, Verdict};
 /// How many seeds the archive and the model are compared on.
 const SEEDS: u64 = 8000;
 
-/// Runs on a stack as large as a main thread's; a test's own has only 2 MiB.
-fn on_a_main_stack(test: impl FnOnce() + Send + 'static) {
-    let thread = std::thread::Builder::new().stack_size(8 << 20).spawn(test).expect("a thread");
-    if let Err(panic) = thread.join() {
-        std::panic::resume_unwind(panic);
-    }
-}
-
 /// The seven numbers that an answer must have.
 fn numbers(answer: model::Answer) -> Answer {
     let zero = Answer { verdict: 0, number: 0, file: 0, line: 0, column: 0, written: 0, total: 0 };
@@ -74,46 +66,46 @@ fn compare(case: &Case, wanted: &Outcome) {
 
 #[test]
 fn on_every_vector() {
-    on_a_main_stack(|| {
-        for (case, wanted) in vectors::base() {
-            compare(&case, &wanted);
-        }
-    });
+    for (case, wanted) in vectors::base() {
+        compare(&case, &wanted);
+    }
+}
+
+/// A caller's thread may be small: the call has a stack of its own.
+#[test]
+fn from_a_thread_with_a_small_stack() {
+    let small = std::thread::Builder::new().stack_size(256 << 10);
+    let call = || by_archive(&case_of_lines(21)).answer;
+    assert_eq!(small.spawn(call).expect("a thread").join().expect("an answer"), model::Answer::Accepted);
 }
 
 #[test]
 fn on_every_edge_case() {
-    on_a_main_stack(|| {
-        for case in edges::cases() {
-            compare(&case, &by_model(&case));
-        }
-    });
+    for case in edges::cases() {
+        compare(&case, &by_model(&case));
+    }
 }
 
 #[test]
 fn on_generated_feeds() {
-    on_a_main_stack(|| {
-        for seed in 0..SEEDS {
-            let case = generate::case(seed);
-            compare(&case, &by_model(&case));
-        }
-    });
+    for seed in 0..SEEDS {
+        let case = generate::case(seed);
+        compare(&case, &by_model(&case));
+    }
 }
 
 /// Pages of one and of two findings, each from the last one handed out, join to the whole list.
 #[test]
 fn pages_join() {
-    on_a_main_stack(|| {
-        let faulty = |seed: &u64| generate::kind(*seed) == generate::Kind::Faulty;
-        for seed in (0..400).filter(faulty) {
-            let case = Case { list: vec![0; 30_000], start: [0, 0, 0], ..generate::case(seed) };
-            let whole = by_model(&case);
-            let model::Answer::Findings { total, .. } = whole.answer else { continue };
-            for room in [1, 2] {
-                assert_eq!(joined(&case, room, total), whole.list[..total * 3], "{}", case.name);
-            }
+    let faulty = |seed: &u64| generate::kind(*seed) == generate::Kind::Faulty;
+    for seed in (0..400).filter(faulty) {
+        let case = Case { list: vec![0; 30_000], start: [0, 0, 0], ..generate::case(seed) };
+        let whole = by_model(&case);
+        let model::Answer::Findings { total, .. } = whole.answer else { continue };
+        for room in [1, 2] {
+            assert_eq!(joined(&case, room, total), whole.list[..total * 3], "{}", case.name);
         }
-    });
+    }
 }
 
 /// All pages of a feed with this room, one after the other.
@@ -141,19 +133,17 @@ fn case_of_lines(lines: usize) -> Case {
 
 #[test]
 fn rule_2_at_its_edge_and_over_it() {
-    on_a_main_stack(|| {
-        let at = case_of_lines(65_536);
-        let wanted = by_model(&at);
-        assert_eq!(wanted.answer, model::Answer::Accepted);
-        compare(&at, &wanted);
-        let over = case_of_lines(65_537);
-        let wanted = Outcome {
-            answer: model::Answer::Refused { number: 2, file: 5, line: 0 },
-            tables: over.tables.clone(),
-            list: over.list.clone(),
-        };
-        compare(&over, &wanted);
-    });
+    let at = case_of_lines(65_536);
+    let wanted = by_model(&at);
+    assert_eq!(wanted.answer, model::Answer::Accepted);
+    compare(&at, &wanted);
+    let over = case_of_lines(65_537);
+    let wanted = Outcome {
+        answer: model::Answer::Refused { number: 2, file: 5, line: 0 },
+        tables: over.tables.clone(),
+        list: over.list.clone(),
+    };
+    compare(&over, &wanted);
 }
 
 /// A small feed whose file is filled up to this many bytes by an unread column of its last line.
@@ -180,43 +170,39 @@ fn case_of_bytes(file: usize, bytes: usize) -> Case {
 
 #[test]
 fn rule_1_at_its_edge_and_over_it() {
-    on_a_main_stack(|| {
-        for file in [0, 4] {
-            let at = case_of_bytes(file, 16_777_216);
-            assert_eq!(at.files[file].len(), 16_777_216);
-            let wanted = by_model(&at);
-            assert_eq!(wanted.answer, model::Answer::Accepted);
-            compare(&at, &wanted);
-            let over = case_of_bytes(file, 16_777_217);
-            assert_eq!(over.files[file].len(), 16_777_217);
-            let wanted = Outcome {
-                answer: model::Answer::Refused { number: 1, file: file + 1, line: 0 },
-                tables: over.tables.clone(),
-                list: over.list.clone(),
-            };
-            compare(&over, &wanted);
-        }
-    });
+    for file in [0, 4] {
+        let at = case_of_bytes(file, 16_777_216);
+        assert_eq!(at.files[file].len(), 16_777_216);
+        let wanted = by_model(&at);
+        assert_eq!(wanted.answer, model::Answer::Accepted);
+        compare(&at, &wanted);
+        let over = case_of_bytes(file, 16_777_217);
+        assert_eq!(over.files[file].len(), 16_777_217);
+        let wanted = Outcome {
+            answer: model::Answer::Refused { number: 1, file: file + 1, line: 0 },
+            tables: over.tables.clone(),
+            list: over.list.clone(),
+        };
+        compare(&over, &wanted);
+    }
 }
 
 /// Rule 1 speaks before rule 2 whatever the files, and rule 2 before 3 and 4.
 #[test]
 fn the_limits_speak_in_their_order() {
-    on_a_main_stack(|| {
-        let mut case = Case { list: vec![1; 7], ..Case::default() };
-        case.files[0] = vec![b'\n'; 65_537];
-        case.files[4] = vec![b'x'; 16_777_217];
-        let refused = |case: &Case, number, file| {
-            let answer = model::Answer::Refused { number, file, line: 0 };
-            let wanted = Outcome { answer, tables: case.tables.clone(), list: case.list.clone() };
-            compare(case, &wanted);
-        };
-        refused(&case, 1, 5);
-        case.files[4].pop();
-        refused(&case, 2, 1);
-        case.files[0].pop();
-        refused(&case, 3, 1);
-        case.tables[0] = vec![9; 65_536 * 6];
-        refused(&case, 4, 2);
-    });
+    let mut case = Case { list: vec![1; 7], ..Case::default() };
+    case.files[0] = vec![b'\n'; 65_537];
+    case.files[4] = vec![b'x'; 16_777_217];
+    let refused = |case: &Case, number, file| {
+        let answer = model::Answer::Refused { number, file, line: 0 };
+        let wanted = Outcome { answer, tables: case.tables.clone(), list: case.list.clone() };
+        compare(case, &wanted);
+    };
+    refused(&case, 1, 5);
+    case.files[4].pop();
+    refused(&case, 2, 1);
+    case.files[0].pop();
+    refused(&case, 3, 1);
+    case.tables[0] = vec![9; 65_536 * 6];
+    refused(&case, 4, 2);
 }

@@ -1,133 +1,93 @@
 //! The command as people run it: exit statuses, text, JSON and messages, on good and bad input.
 
-mod json;
+mod common;
 
-use json::Json;
+use common::json::Json;
+use common::{
+    assert_cannot, command, command_after, document, example, json, out, program, run, said, status, Folder, RUNNER,
+};
+use std::ffi::OsStr;
 use std::fs;
-use std::path::{Path, PathBuf};
-use std::process::{Command, Output, Stdio};
-
-/// On Arm the command is an x86-64 program and runs under the same runner as this test.
-const RUNNER: &str = "CARGO_TARGET_X86_64_UNKNOWN_LINUX_GNU_RUNNER";
-
-fn command() -> Command {
-    let program = env!("CARGO_BIN_EXE_tusuchiy");
-    match std::env::var(RUNNER) {
-        Ok(runner) => {
-            let mut words = runner.split_ascii_whitespace();
-            let mut command = Command::new(words.next().expect("a runner"));
-            command.args(words).arg(program);
-            command
-        }
-        Err(_) => Command::new(program),
-    }
-}
-
-/// Runs the command with these words, and nothing on its standard input.
-fn run(words: &[&str]) -> Output {
-    command().args(words).stdin(Stdio::null()).output().expect("the command runs")
-}
-
-fn out(output: &Output) -> &str {
-    std::str::from_utf8(&output.stdout).expect("UTF-8 on standard output")
-}
-
-fn status(output: &Output) -> i32 {
-    output.status.code().expect("an exit status")
-}
-
-fn example(name: &str) -> String {
-    format!("{}/../../examples/{name}", env!("CARGO_MANIFEST_DIR"))
-}
-
-/// Could not run: status 3, nothing on standard output, one line on standard error that has these words.
-fn assert_cannot(words: &[&str], message: &str) {
-    let output = run(words);
-    let said = String::from_utf8(output.stderr.clone()).expect("UTF-8 on standard error");
-    assert_eq!(status(&output), 3, "{words:?}: {said}");
-    assert_eq!(out(&output), "", "{words:?}");
-    assert_eq!(said.matches('\n').count(), 1, "{words:?}: {said}");
-    assert!(said.starts_with("tusuchiy: ") && said.ends_with('\n'), "{words:?}: {said}");
-    assert!(said.contains(message), "{words:?}: {said}");
-    assert!(!said.trim_end().chars().any(char::is_control), "{words:?}: {said:?}");
-}
-
-/// A feed in a folder of its own, gone when the test is over.
-struct Feed(PathBuf);
-
-impl Feed {
-    /// A copy of the accepted example.
-    fn new(name: &str) -> Self {
-        let folder = std::env::temp_dir().join(format!("tusuchiy-{}-{name}", std::process::id()));
-        let _ = fs::remove_dir_all(&folder);
-        fs::create_dir_all(&folder).expect("a folder");
-        for name in ["stops", "routes", "calendar", "trips", "stop_times"] {
-            let file = format!("{name}.txt");
-            fs::copy(Path::new(&example("feed")).join(&file), folder.join(&file)).expect("a copy");
-        }
-        Feed(folder)
-    }
-
-    fn path(&self) -> &str {
-        self.0.to_str().expect("a path of plain letters")
-    }
-
-    fn put(&self, file: &str, bytes: &[u8]) {
-        fs::write(self.0.join(file), bytes).expect("a file");
-    }
-
-    fn take(&self, file: &str) {
-        fs::remove_file(self.0.join(file)).expect("a file taken away");
-    }
-}
-
-impl Drop for Feed {
-    fn drop(&mut self) {
-        let _ = fs::remove_dir_all(&self.0);
-    }
-}
+use std::os::unix::ffi::OsStrExt;
+use std::process::{Command, Stdio};
 
 #[test]
 fn the_accepted_example() {
     let output = run(&["check", &example("feed")]);
-    assert_eq!((status(&output), out(&output)), (0, "accepted\n"));
-    assert!(output.stderr.is_empty());
+    assert_eq!((status(&output), said(&output)), (0, ""));
+    let lines: Vec<&str> = out(&output).lines().collect();
+    let records = "records read: stops.txt 5, routes.txt 1, calendar.txt 2, trips.txt 2, stop_times.txt 6";
+    assert_eq!(lines[..2], ["accepted", records]);
+    let time = lines[2].strip_prefix("time: ").and_then(|rest| rest.strip_suffix(" s")).expect("the time");
+    assert!(time.parse::<f64>().is_ok_and(|time| time >= 0.0), "{time}");
+    assert_eq!(lines.len(), 3);
 }
 
-/// The feed of document 01 with its six findings; lines and order by hand.
+#[test]
+fn files_that_are_not_read_are_named() {
+    let folder = Folder::new("unread-files");
+    folder.put("shapes.txt", b"");
+    folder.put("agency\n.txt", b"");
+    let output = run(&["check", folder.path()]);
+    assert_eq!(out(&output).lines().nth(2), Some("files not read: agency\\x0A.txt, shapes.txt"));
+    (0..30).for_each(|number| folder.put(&format!("{number:02}"), b""));
+    let output = run(&["check", folder.path()]);
+    assert!(out(&output).contains("files not read: 00, 01, 02,"), "{}", out(&output));
+    assert!(out(&output).contains(", 19 and 12 more\n"), "{}", out(&output));
+    let report = document(&[folder.path()]);
+    assert_eq!(report.get("unread").get("count").number(), 32);
+    assert_eq!(report.get("unread").get("names").list().len(), 20);
+}
+
+/// The feed of document 01 with its six findings; lines, order and words by hand.
 #[test]
 fn the_example_with_findings() {
-    let output = run(&["check", &example("findings")]);
-    assert_eq!(status(&output), 1);
-    let lines: Vec<&str> = out(&output).lines().collect();
-    assert_eq!(lines[0], "findings: 6");
-    let places = [
-        ("trips.txt:2: rule 31: ", "R,W,T"),
-        ("trips.txt:3: rule 21: ", "R,X,U"),
-        ("trips.txt:3: rule 30: ", "R,X,U"),
-        ("stop_times.txt:3: rule 29: ", "T,07:59:59,08:05:00,B,2"),
-        ("stop_times.txt:4: rule 21: ", "T,,,C,2"),
-        ("stop_times.txt:4: rule 28: ", "T,,,C,2"),
-    ];
-    for (place, (start, text)) in places.iter().enumerate() {
-        assert!(lines[1 + 2 * place].starts_with(start), "{}", lines[1 + 2 * place]);
-        assert_eq!(lines[2 + 2 * place], format!("    {text}"));
-    }
-    assert_eq!(lines[13], "totals:");
-    let totals: Vec<Vec<&str>> = lines[14..].iter().map(|line| line.split_whitespace().take(3).collect()).collect();
-    let wanted =
-        [["2", "rule", "21:"], ["1", "rule", "28:"], ["1", "rule", "29:"], ["1", "rule", "30:"], ["1", "rule", "31:"]];
-    assert_eq!(totals, wanted);
+    let feed = example("findings");
+    let output = run(&["check", &feed]);
+    assert_eq!((status(&output), said(&output)), (1, ""));
+    let wanted = "\
+findings: 6
+
+rule 21: a reference names no line (2)
+FEED/trips.txt:3: service_id \"X\" stands on no line of calendar.txt
+    R,X,U
+FEED/stop_times.txt:4: stop_id \"C\" stands on no line of stops.txt
+    T,,,C,2
+
+rule 28: the stop_sequence doesn't rise within the trip (1)
+FEED/stop_times.txt:4: stop_sequence 2 isn't above 2 on line 3
+    T,,,C,2
+
+rule 29: the trip arrives before it left the timed line before (1)
+FEED/stop_times.txt:3: arrival_time 07:59:59 is before departure_time 08:00:00 on line 2
+    T,07:59:59,08:05:00,B,2
+
+rule 30: the trip has fewer than two lines in stop_times.txt (1)
+FEED/trips.txt:3: trip_id \"U\" has no line in stop_times.txt
+    R,X,U
+
+rule 31: the trip's first or last line in stop_times.txt lacks a time (1)
+FEED/trips.txt:2: its last line in stop_times.txt, line 4, lacks arrival_time and departure_time
+    R,W,T
+
+`tusuchiy explain 21` says more
+";
+    assert_eq!(out(&output), wanted.replace("FEED", &feed));
 }
 
 #[test]
 fn the_refused_example() {
-    let output = run(&["check", &example("refused")]);
-    assert_eq!(status(&output), 2);
-    let lines: Vec<&str> = out(&output).lines().collect();
-    assert_eq!(lines[0], "refused");
-    assert!(lines[1].starts_with("stop_times.txt:4: refusal 13: "), "{}", lines[1]);
-    assert_eq!(lines[2..], ["    B7-out-1,8:25:00,8:5:00,HILL,3,1"]);
+    let feed = example("refused");
+    let output = run(&["check", &feed]);
+    assert_eq!((status(&output), said(&output)), (2, ""));
+    let wanted = "\
+refused
+FEED/stop_times.txt:4: refusal 13: a value doesn't have the form that its column asks for: departure_time is \"8:5:00\", \
+wanted: a time as 8:05:00 or 08:05:00, hours 0 to 99, minutes and seconds 00 to 59
+    B7-out-1,8:25:00,8:5:00,HILL,3,1
+`tusuchiy explain 13` says more
+";
+    assert_eq!(out(&output), wanted.replace("FEED", &feed));
 }
 
 #[test]
@@ -149,10 +109,15 @@ fn places(report: &Json) -> Vec<[i64; 3]> {
 
 #[test]
 fn json_of_findings() {
-    let output = run(&["check", &example("findings"), "--json"]);
+    let feed = example("findings");
+    let output = run(&["check", &feed, "--json"]);
     assert_eq!(status(&output), 1);
+    assert_eq!(out(&output).matches('\n').count(), 1, "one document, one line");
     let report = json::read(out(&output));
-    let members = ["version", "verdict", "refusal", "total", "written", "page", "findings", "totals"];
+    let members = [
+        "version", "verdict", "refusal", "total", "written", "page", "findings", "totals", "feed", "folder", "records",
+        "unread",
+    ];
     assert_eq!(report.names(), members);
     assert_eq!(report.get("version").number(), 1);
     assert_eq!(report.get("verdict").text(), "findings");
@@ -160,12 +125,15 @@ fn json_of_findings() {
     assert_eq!((report.get("refusal"), report.get("page")), (&Json::Null, &Json::Null));
     assert_eq!(places(&report), [[4, 2, 31], [4, 3, 21], [4, 3, 30], [5, 3, 29], [5, 4, 21], [5, 4, 28]]);
     let first = &report.get("findings").list()[0];
-    assert_eq!(first.names(), ["file", "name", "line", "rule", "meaning", "text", "cut"]);
+    assert_eq!(first.names(), ["file", "name", "line", "rule", "meaning", "text", "cut", "words", "about"]);
     assert_eq!((first.get("name").text(), first.get("text").text()), ("trips.txt", "R,W,T"));
     assert_eq!(first.get("cut"), &Json::Bool(false));
     let totals: Vec<[i64; 2]> =
         report.get("totals").list().iter().map(|sum| ["rule", "count"].map(|name| sum.get(name).number())).collect();
     assert_eq!(totals, [[21, 2], [28, 1], [29, 1], [30, 1], [31, 1]]);
+    assert_eq!((report.get("feed").text(), report.get("folder")), (&feed[..], &Json::Null));
+    let records: Vec<i64> = report.get("records").list().iter().map(Json::number).collect();
+    assert_eq!(records, [2, 1, 1, 2, 3]);
 }
 
 #[test]
@@ -180,9 +148,10 @@ fn json_of_an_accepted_and_of_a_refused_feed() {
     let report = json::read(out(&output));
     assert_eq!((status(&output), report.get("verdict").text()), (2, "refused"));
     let refusal = report.get("refusal");
-    assert_eq!(refusal.names(), ["file", "name", "line", "number", "meaning", "text", "cut"]);
+    assert_eq!(refusal.names(), ["file", "name", "line", "number", "meaning", "text", "cut", "words", "about"]);
     assert_eq!(["number", "file", "line"].map(|name| refusal.get(name).number()), [13, 5, 4]);
     assert_eq!(refusal.get("text").text(), "B7-out-1,8:25:00,8:5:00,HILL,3,1");
+    assert_eq!(report.get("records"), &Json::Null);
 }
 
 #[test]
@@ -198,87 +167,152 @@ fn one_page() {
     assert_eq!((report.get("total").number(), report.get("written").number()), (6, 2));
     assert_eq!(report.get("totals"), &Json::Null);
     assert_eq!(report.get("page").get("room").number(), 2);
-    let report = page(&["--after", "4,3,21", "--room", "2"]);
+    let report = page(&["--after=4,3,21", "--room=2"]);
     assert_eq!(places(&report), [[4, 3, 30], [5, 3, 29]]);
-    assert_eq!(places(&page(&["--after", "5,3,2147483647"])), [[5, 4, 21], [5, 4, 28]]);
+    let report = page(&["--after", "5,3,2147483647"]);
+    assert_eq!(places(&report), [[5, 4, 21], [5, 4, 28]]);
+    assert_eq!(report.get("page").get("room"), &Json::Null);
     assert!(places(&page(&["--after", "5,4,28"])).is_empty());
     assert!(places(&page(&["--room", "0"])).is_empty());
-    assert_eq!(places(&page(&["--after", "-1,99,99", "--room", "4000000000"])).len(), 6);
+    assert_eq!(places(&page(&["--after", "-1,99,99", "--room", "983040"])).len(), 6);
     let output = run(&["check", &feed, "--after", "4,3,30", "--room", "1"]);
-    assert!(out(&output).starts_with("findings: 6\nstop_times.txt:3: rule 29: "), "{}", out(&output));
+    let wanted = format!("findings: 6\n{feed}/stop_times.txt:3: rule 29: arrival_time 07:59:59 is before ");
+    assert!(out(&output).starts_with(&wanted), "{}", out(&output));
     assert!(out(&output).ends_with("\npage after 4,3,30: 1 of 6 findings\n"), "{}", out(&output));
+}
+
+/// More findings than one call hands out: 65,535 routes without a name, all but the first with an id that was there.
+#[test]
+fn after_alone_goes_to_the_end() {
+    let folder = Folder::new("after");
+    folder.put("routes.txt", format!("route_id,route_type\n{}", "B7,3\n".repeat(65_535)).as_bytes());
+    let output = run(&["check", "--after", "2,3,20", folder.path()]);
+    assert_eq!(status(&output), 1);
+    assert_eq!(out(&output).lines().next(), Some("findings: 131069"));
+    assert_eq!(out(&output).lines().last(), Some("page after 2,3,20: 131067 of 131069 findings"));
 }
 
 /// The example in docs/JSON.md is what the command prints.
 #[test]
 fn the_documented_example_is_true() {
     let page = include_str!("../../../docs/JSON.md");
-    let example_text = page.split("```json\n").nth(1).and_then(|rest| rest.split("```").next()).expect("an example");
-    let output = run(&["check", "--json", "--room", "2", &example("findings")]);
-    assert_eq!(out(&output), example_text);
+    let text = page.split("```json\n").nth(1).and_then(|rest| rest.split("```").next()).expect("an example");
+    let mut report = run(&["check", "--json", "--room", "2", &example("findings")]);
+    report.stdout = out(&report).replace(&example("findings"), "examples/findings").into();
+    assert_eq!(json::read(out(&report)), json::read(text));
 }
 
 #[test]
 fn whole_files_are_refused_without_a_line() {
-    let feed = Feed::new("whole");
-    feed.put("trips.txt", b"");
-    let output = run(&["check", feed.path()]);
+    let folder = Folder::new("whole");
+    folder.put("trips.txt", b"");
+    let output = run(&["check", folder.path()]);
     assert_eq!(status(&output), 2);
-    assert!(out(&output).starts_with("refused\ntrips.txt: refusal 4: "), "{}", out(&output));
-    assert_eq!(out(&output).lines().count(), 2);
-    let output = run(&["check", "--json", feed.path()]);
-    let report = json::read(out(&output));
+    let wanted = format!("refused\n{}: refusal 4: ", folder.at("trips.txt"));
+    assert!(out(&output).starts_with(&wanted), "{}", out(&output));
+    assert_eq!(out(&output).lines().count(), 3);
+    let report = document(&[folder.path()]);
     assert_eq!(report.get("refusal").get("line").number(), 0);
     assert_eq!(report.get("refusal").get("text"), &Json::Null);
 }
 
 #[test]
 fn text_from_a_feed_is_printed_safely() {
-    let feed = Feed::new("safe");
+    let folder = Folder::new("safe");
     let mut stops =
-        b"stop_id,stop_name,stop_lat,stop_lon\nA,\x1b[31m\x07\x00\x7f\xC2\x9B\xFF\xE2\x80\xAE\\,9,".to_vec();
+        b"stop_id,stop_name,stop_lat,stop_lon\nA,\x1b[31m\x07\x00\x7f\xC2\x9B\xFF\xE2\x80\xAE\xC2\xA0\xE2\xA0\x80\\,9,"
+            .to_vec();
     stops.extend(b"9,9\n");
-    feed.put("stops.txt", &stops);
-    let output = run(&["check", feed.path()]);
+    folder.put("stops.txt", &stops);
+    let output = run(&["check", folder.path()]);
     assert_eq!(status(&output), 2);
-    let last = out(&output).lines().last().expect("a line");
-    assert_eq!(last, "    A,\\x1B[31m\\x07\\x00\\x7F\\u{009B}\\xFF\\u{202E}\\\\,9,9,9");
-    let output = run(&["check", "--json", feed.path()]);
+    let line = out(&output).lines().nth(2).expect("a line");
+    assert_eq!(line, "    A,\\x1B[31m\\x07\\x00\\x7F\\u{009B}\\xFF\\u{202E}\\u{00A0}\\u{2800}\\\\,9,9,9");
+    let output = run(&["check", "--json", folder.path()]);
     assert!(output.stdout.iter().all(|&byte| byte == b'\n' || (b' '..=b'~').contains(&byte)));
     let report = json::read(out(&output));
     let text = report.get("refusal").get("text").text().to_string();
-    assert_eq!(text, "A,\u{1b}[31m\u{7}\u{0}\u{7f}\u{9b}\u{fffd}\u{202e}\\,9,9,9");
+    assert_eq!(text, "A,\u{1b}[31m\u{7}\u{0}\u{7f}\u{9b}\u{fffd}\u{202e}\u{a0}\u{2800}\\,9,9,9");
 }
 
 #[test]
 fn long_lines_are_cut() {
-    let feed = Feed::new("long");
+    let folder = Folder::new("long");
     let line = [&b"A,"[..], &[b'x'; 1000], b",1,2,3\n"].concat();
-    feed.put("stops.txt", &[&b"stop_id,stop_name,stop_lat,stop_lon\n"[..], &line].concat());
-    let output = run(&["check", feed.path()]);
-    assert!(out(&output).ends_with("xxx ... (1008 bytes)\n"), "{}", out(&output));
-    let output = run(&["check", "--json", feed.path()]);
-    let report = json::read(out(&output));
+    folder.put("stops.txt", &[&b"stop_id,stop_name,stop_lat,stop_lon\n"[..], &line].concat());
+    let output = run(&["check", folder.path()]);
+    assert!(out(&output).contains("xxx ... (1008 bytes)\n"), "{}", out(&output));
+    let report = document(&[folder.path()]);
     assert_eq!(report.get("refusal").get("cut"), &Json::Bool(true));
     assert_eq!(report.get("refusal").get("text").text().len(), 400);
 }
 
 /// Many findings: every route is without a name, and every second one repeats the id above it.
-#[test]
-fn totals_of_many_findings() {
-    let feed = Feed::new("many");
+fn many_findings(name: &str) -> Folder {
+    let folder = Folder::new(name);
     let mut routes = b"route_id,route_type\n".to_vec();
     (0..2001).for_each(|line| routes.extend(format!("r{},3\n", line / 2).bytes()));
-    feed.put("routes.txt", &routes);
-    let output = run(&["check", feed.path()]);
+    folder.put("routes.txt", &routes);
+    folder
+}
+
+/// 2,001 of rule 25, 1,000 of rule 20, and the two trips whose route B7 is gone.
+#[test]
+fn a_long_list_is_short_unless_all_is_asked_for() {
+    let folder = many_findings("many");
+    let output = run(&["check", folder.path()]);
     assert_eq!(status(&output), 1);
-    // 2,001 of rule 25, 1,000 of rule 20, and the two trips whose route B7 is gone.
     assert!(out(&output).starts_with("findings: 3003\n"));
-    let tail: Vec<&str> = out(&output).lines().rev().take(3).collect();
-    assert!(tail[2].trim_start().starts_with("1000  rule 20: "), "{tail:?}");
-    assert!(tail[1].trim_start().starts_with("2  rule 21: "), "{tail:?}");
-    assert!(tail[0].trim_start().starts_with("2001  rule 25: "), "{tail:?}");
-    assert_eq!(out(&output).lines().count(), 1 + 2 * 3003 + 4);
+    let headings: Vec<&str> = out(&output).lines().filter(|line| line.starts_with("rule ")).collect();
+    let counts: Vec<&str> = headings.iter().map(|line| line.rsplit(' ').next().expect("a word")).collect();
+    assert_eq!(counts, ["(1000)", "(2)", "(2001)"]);
+    let more: Vec<&str> = out(&output).lines().filter(|line| line.starts_with("and ")).collect();
+    assert_eq!(more, ["and 995 more, which --all shows", "and 1996 more, which --all shows"]);
+    // A blank line and a heading for each rule, two lines for each finding shown, one for the rest of a rule.
+    assert_eq!(out(&output).lines().count(), 1 + 3 * 2 + 2 * (5 + 2 + 5) + 2 + 2);
+    let output = run(&["check", "--all", folder.path()]);
+    assert_eq!(out(&output).lines().count(), 1 + 3 * 2 + 2 * 3003 + 2);
+}
+
+#[test]
+fn colours_where_they_are_asked_for() {
+    let feed = example("findings");
+    let coloured = run(&["check", "--color", "always", &feed]);
+    assert!(out(&coloured).starts_with("\u{1b}[1;31mfindings: 6\u{1b}[0m\n"), "{}", out(&coloured));
+    let plain = run(&["check", "--color=never", &feed]);
+    assert_eq!(run(&["check", &feed]).stdout, plain.stdout);
+    let mut bare = String::new();
+    for (place, piece) in out(&coloured).split('\u{1b}').enumerate() {
+        bare += if place == 0 { piece } else { piece.split_once('m').expect("the end of an escape").1 };
+    }
+    assert_eq!(bare, out(&plain), "colours change nothing else");
+}
+
+/// What the command writes to a terminal, standard output and standard error together.
+fn on_a_terminal(words: &[&str], term: &str, no_color: &str) -> String {
+    let quoted: Vec<String> =
+        program().iter().map(String::as_str).chain(words.iter().copied()).map(|word| format!("'{word}'")).collect();
+    let mut script = Command::new("script");
+    script.args(["-qec", &quoted.join(" "), "/dev/null"]).stdin(Stdio::null());
+    let output = script.env("TERM", term).env("NO_COLOR", no_color).output().expect("script, which Debian always has");
+    String::from_utf8_lossy(&output.stdout).into_owned()
+}
+
+/// Colours and progress go to a terminal that can show them, and nothing of it to others or with --quiet.
+#[test]
+fn escapes_go_to_able_terminals_only() {
+    let large = Folder::new("large");
+    let note = "x".repeat(1_100_000);
+    large.put("routes.txt", format!("route_id,route_short_name,route_type,note\nB7,7,3,{note}\n").as_bytes());
+    let check = ["check", large.path()];
+    let quiet = ["check", "--quiet", large.path()];
+    let able = on_a_terminal(&check, "xterm", "");
+    assert!(able.contains("\u{1b}[K") && able.contains("\u{1b}[1;32maccepted"), "{able:?}");
+    let no_color = on_a_terminal(&check, "xterm", "1");
+    assert!(no_color.contains("\u{1b}[K") && !no_color.contains("[1;32m"), "{no_color:?}");
+    assert!(!on_a_terminal(&check, "dumb", "").contains('\u{1b}'));
+    assert!(!on_a_terminal(&quiet, "xterm", "").contains('\u{1b}'));
+    assert!(!on_a_terminal(&quiet, "dumb", "").contains('\u{1b}'));
 }
 
 #[test]
@@ -292,62 +326,131 @@ fn explain_prints_the_clerks_page() {
         assert!(out(&output).contains("**How to mend it.**"));
     }
     for bad in ["0", "14", "19", "32"] {
-        assert_cannot(&["explain", bad], "there is no refusal or rule");
+        assert_cannot(&["explain", bad], &["there is no refusal or rule"]);
     }
 }
 
 #[test]
 fn bad_words_on_the_command_line() {
     let feed = example("feed");
-    assert_cannot(&[], "say what to do");
-    assert_cannot(&["chek", &feed], "unknown command 'chek'");
-    assert_cannot(&["\u{1b}[2J"], "'\\x1B[2J'");
-    assert_cannot(&["check"], "needs the folder");
-    assert_cannot(&["check", &feed, &feed], "too much");
-    assert_cannot(&["check", &feed, "--fast"], "unknown option '--fast'");
-    assert_cannot(&["check", &feed, "--room"], "--room needs a value");
-    assert_cannot(&["check", &feed, "--room", "-1"], "--room takes a number");
-    assert_cannot(&["check", &feed, "--after", "1,2"], "--after takes three numbers");
-    assert_cannot(&["check", &feed, "--after", "1,2,99999999999"], "--after takes three numbers");
-    assert_cannot(&["check", &feed, "--json", "--quiet"], "don't go together");
-    assert_cannot(&["explain"], "explain takes one number");
-    assert_cannot(&["explain", "x"], "explain takes a number");
+    assert_cannot(&[], &["say what to do"]);
+    assert_cannot(&["chek", &feed], &["unknown command 'chek'"]);
+    assert_cannot(&["\u{1b}[2J"], &["'\\x1B[2J'"]);
+    assert_cannot(&["check"], &["check needs a feed"]);
+    assert_cannot(&["check", &feed, "--fast"], &["unknown option '--fast'"]);
+    assert_cannot(&["check", &feed, "-x"], &["unknown option '-x'"]);
+    assert_cannot(&["check", &feed, "--room"], &["--room needs a value"]);
+    assert_cannot(&["check", &feed, "--room", "-1"], &["--room takes a number from 0 to 983040, and not '-1'"]);
+    assert_cannot(&["check", &feed, "--room", "983041"], &["--room takes a number from 0 to 983040"]);
+    assert_cannot(&["check", &feed, "--json=yes"], &["--json takes no value"]);
+    assert_cannot(&["check", &feed, "--after", "1,2"], &["--after takes three numbers"]);
+    assert_cannot(&["check", &feed, "--after", "1,2,99999999999"], &["--after takes three numbers"]);
+    assert_cannot(&["check", &feed, "--json", "--quiet"], &["don't go together"]);
+    assert_cannot(&["explain"], &["explain takes one number"]);
+    assert_cannot(&["explain", "x"], &["explain takes a number"]);
+    let output =
+        command().args(["check", &feed]).arg(OsStr::from_bytes(b"--\xFF\x1b")).output().expect("the command runs");
+    assert_eq!((status(&output), out(&output)), (3, ""));
+    assert_eq!(said(&output), "tusuchiy: unknown option '--\u{FFFD}\\x1B' (see tusuchiy --help)\n");
 }
 
 #[test]
-fn files_that_cannot_be_read() {
-    let feed = Feed::new("unread");
-    assert_cannot(&["check", &format!("{}/nowhere", feed.path())], "nowhere: ");
-    assert_cannot(&["check", &format!("{}/stops.txt", feed.path())], "a feed is a folder");
-    feed.take("trips.txt");
-    assert_cannot(&["check", feed.path()], "trips.txt: ");
-    assert_cannot(&["check", "--json", feed.path()], "trips.txt: ");
-    assert_cannot(&["check", "--quiet", feed.path()], "trips.txt: ");
-    fs::create_dir(feed.0.join("trips.txt")).expect("a folder");
-    assert_cannot(&["check", feed.path()], "it isn't a regular file");
-    assert_cannot(&["check", "no\nfolder"], "no\\x0Afolder");
-}
-
-#[test]
-fn help_is_there() {
-    let output = run(&["--help"]);
-    assert_eq!(status(&output), 0);
+fn help_and_version_are_there() {
+    let help = run(&["--help"]);
+    assert_eq!(status(&help), 0);
     for word in ["check FEED", "--json", "--after", "--room", "--quiet", "explain", "Exit status"] {
-        assert!(out(&output).contains(word), "{word}");
+        assert!(out(&help).contains(word), "{word}");
+    }
+    for words in [&["-h"][..], &["check", "--help"], &["check", "-h"], &["explain", "--help"], &["help"]] {
+        assert_eq!(run(words).stdout, help.stdout, "{words:?}");
+    }
+    for words in [&["--version"][..], &["-V"], &["check", "--version"]] {
+        let output = run(words);
+        assert_eq!((status(&output), out(&output)), (0, "tusuchiy 0.1.0\n"), "{words:?}");
     }
 }
 
+/// A path behind `--` may look like an option.
 #[test]
-fn version_is_there() {
-    let output = run(&["--version"]);
-    assert_eq!((status(&output), out(&output)), (0, "tusuchiy 0.1.0\n"));
+fn paths_behind_two_dashes() {
+    let folder = Folder::empty("dashes");
+    folder.put_feed("--json", &common::example_files("feed"));
+    let output = command().args(["check", "-q", "--", "--json"]).current_dir(&folder.0).output().expect("it runs");
+    assert_eq!((status(&output), out(&output)), (0, "accepted\n"));
+}
+
+/// What bash completes is tried in bash.
+#[test]
+fn bash_completes() {
+    let script = run(&["--generate", "complete-bash"]);
+    assert_eq!(status(&script), 0);
+    let complete = |words: &str, place: usize| {
+        let rest = format!("COMP_WORDS=({words}) COMP_CWORD={place}; _tusuchiy; echo \"${{COMPREPLY[@]}}\"");
+        let output = Command::new("bash").args(["-c", &format!("{}\n{rest}", out(&script))]).output().expect("bash");
+        assert_eq!(said(&output), "");
+        out(&output).trim_end().to_string()
+    };
+    assert_eq!(complete("tusuchiy ch", 1), "check");
+    assert_eq!(complete("tusuchiy check --js", 2), "--json");
+    assert_eq!(complete("tusuchiy check --fo", 2), "--follow-links");
+    assert_eq!(complete("tusuchiy check --color n", 3), "never");
+    assert_eq!(complete("tusuchiy --generate m", 2), "man");
+}
+
+/// The manual page is one that man takes without a warning, where there is man.
+#[test]
+fn the_manual_page_is_well_formed() {
+    let folder = Folder::empty("man");
+    folder.put("tusuchiy.1", &run(&["--generate", "man"]).stdout);
+    let man = Command::new("man").args(["--warnings", "-E", "UTF-8", "-l", &folder.at("tusuchiy.1")]).output();
+    if let Ok(output) = man {
+        assert_eq!(String::from_utf8_lossy(&output.stderr), "");
+        for word in ["NAME", "--follow-links", "EXIT STATUS", "couldn't run"] {
+            assert!(String::from_utf8_lossy(&output.stdout).contains(word), "{word}");
+        }
+    }
+    for kind in ["complete-fish", "complete-zsh"] {
+        assert!(out(&run(&["--generate", kind])).contains("follow-links"));
+    }
+}
+
+/// The check has a stack of its own, whatever the main thread's; an emulator makes the main thread's stack itself.
+#[test]
+fn a_small_stack_is_enough() {
+    let mut small = if std::env::var_os(RUNNER).is_some() { command() } else { command_after("ulimit -s 512") };
+    small.env("QEMU_STACK_SIZE", (512 << 10).to_string());
+    let output = small.args(["check", "--quiet", &example("findings")]).output().expect("the command runs");
+    assert_eq!((output.status.code(), out(&output)), (Some(1), "findings: 6\n"));
 }
 
 /// Output that nobody can take is status 3, not a verdict.
 #[test]
 fn a_full_disk_is_no_verdict() {
-    let Ok(full) = fs::OpenOptions::new().write(true).open("/dev/full") else { return };
-    let output = command().args(["check", &example("feed")]).stdout(full).output().expect("the command runs");
-    assert_eq!(status(&output), 3);
-    assert!(String::from_utf8_lossy(&output.stderr).contains("can't write to standard output"));
+    for words in [&["check"][..], &["check", "--json"], &["check", "--quiet"]] {
+        let full = fs::OpenOptions::new().write(true).open("/dev/full").expect("Linux has it");
+        let output = command().args(words).arg(example("feed")).stdout(full).output().expect("the command runs");
+        assert_eq!(status(&output), 3, "{words:?}");
+        assert_eq!(said(&output), "tusuchiy: can't write to standard output: No space left on device (os error 28)\n");
+    }
+}
+
+/// A reader who goes away has read enough: no message, and the status is the verdict's.
+#[test]
+fn a_closed_pipe_is_no_failure() {
+    let folder = many_findings("closed");
+    let cases = [
+        (&["check", "--all", folder.path()][..], 1),
+        (&["check", "--json", folder.path()], 1),
+        (&["check", folder.path()], 1),
+        (&["--help"], 0),
+        (&["explain", "13"], 0),
+    ];
+    for (words, verdict) in cases {
+        let mut child = command();
+        let mut child =
+            child.args(words).stdout(Stdio::piped()).stderr(Stdio::piped()).spawn().expect("the command runs");
+        drop(child.stdout.take());
+        let output = child.wait_with_output().expect("the command ends");
+        assert_eq!((status(&output), said(&output)), (verdict, ""), "{words:?}");
+    }
 }

@@ -1,0 +1,284 @@
+//! The facts behind a finding or a refusal, each looked up in the plainest way that document 01's words allow.
+
+use crate::columns::{Column, COLUMNS};
+use crate::fields::{fields, line_ends, lines, Field, Line};
+use crate::forms::number;
+use crate::reading::{Feed, Row};
+use crate::records::IDS;
+use crate::rules::Finding;
+
+/// A fact.
+#[derive(Clone, Debug, PartialEq, Eq)]
+pub enum Fact {
+    None,
+    Number(i64),
+    Text(Vec<u8>),
+    List(Vec<Fact>),
+    Members(Facts),
+}
+
+/// Facts by name.
+pub type Facts = Vec<(&'static str, Fact)>;
+
+/// The files, in the order of their numbers.
+const FILES: [&str; 5] = ["stops.txt", "routes.txt", "calendar.txt", "trips.txt", "stop_times.txt"];
+
+fn text(text: impl AsRef<[u8]>) -> Fact {
+    Fact::Text(text.as_ref().to_vec())
+}
+
+fn count(count: usize) -> Fact {
+    Fact::Number(count as i64)
+}
+
+fn stored(row: Row, column: &str) -> Fact {
+    Fact::Number(row.number(column).into())
+}
+
+/// The first line of a file that has this value under this column.
+fn first_line(feed: &Feed, file: usize, column: &str, value: &[u8]) -> Option<usize> {
+    feed[file - 1].rows().position(|row| row.value(column) == value).map(|place| place + 2)
+}
+
+fn row(feed: &Feed, file: usize, line: usize) -> Row<'_> {
+    feed[file - 1].record(line - 1)
+}
+
+/// A time as HH:MM:SS, none where it is empty.
+fn time(row: Row, column: &str) -> Fact {
+    match row.number(column) {
+        -1 => Fact::None,
+        seconds => text(format!("{:02}:{:02}:{:02}", seconds / 3600, seconds % 3600 / 60, seconds % 60)),
+    }
+}
+
+fn timed(row: Row) -> bool {
+    !row.value("arrival_time").is_empty() && !row.value("departure_time").is_empty()
+}
+
+/// The lines of stop_times with this trip_id, in file order.
+fn lines_of_trip<'a>(feed: &'a Feed, trip: &[u8]) -> Vec<(usize, Row<'a>)> {
+    let all = feed[4].rows().enumerate().map(|(place, row)| (place + 2, row));
+    all.filter(|(_, row)| row.value("trip_id") == trip).collect()
+}
+
+/// The facts behind a finding of a feed.
+pub fn of_finding(feed: &Feed, finding: Finding) -> Facts {
+    let [file, line, rule] = finding.map(|number| number as usize);
+    let own = row(feed, file, line);
+    match rule {
+        20 => {
+            let column = IDS[file - 1];
+            let earlier = first_line(feed, file, column, own.value(column)).expect("its own line at least");
+            vec![("column", text(column)), ("value", text(own.value(column))), ("earlier_line", count(earlier))]
+        }
+        21 => vec![("references", Fact::List(unresolved(feed, file, own)))],
+        22 => parent(feed, own),
+        23 => {
+            let id = own.value("stop_id");
+            let stop = first_line(feed, 1, "stop_id", id).expect("a stop that resolves");
+            let kind = stored(row(feed, 1, stop), "location_type");
+            vec![("stop_id", text(id)), ("stop_line", count(stop)), ("location_type", kind)]
+        }
+        24 => ["start_date", "end_date"].map(|column| (column, text(own.value(column)))).to_vec(),
+        25 => vec![("columns", Fact::List(["route_short_name", "route_long_name"].map(text).to_vec()))],
+        26 => times_given(own),
+        27 => ["arrival_time", "departure_time"].map(|column| (column, time(own, column))).to_vec(),
+        28 | 29 => order(feed, line, own, rule),
+        30 | 31 => ends(feed, own, rule),
+        _ => panic!("no rule {rule}"),
+    }
+}
+
+/// Rule 21: the references that name no line.
+fn unresolved(feed: &Feed, file: usize, own: Row) -> Vec<Fact> {
+    let references: &[(&str, usize, &str)] = match file {
+        1 => &[("parent_station", 1, "stop_id")],
+        4 => &[("route_id", 2, "route_id"), ("service_id", 3, "service_id")],
+        _ => &[("trip_id", 4, "trip_id"), ("stop_id", 1, "stop_id")],
+    };
+    let mut facts = Vec::new();
+    for &(column, searched, id) in references {
+        let value = own.value(column);
+        if !value.is_empty() && first_line(feed, searched, id, value).is_none() {
+            let searched = ("searched", text(FILES[searched - 1]));
+            facts.push(Fact::Members(vec![("column", text(column)), ("value", text(value)), searched]));
+        }
+    }
+    facts
+}
+
+/// Rule 22, clause by clause.
+fn parent(feed: &Feed, own: Row) -> Facts {
+    let id = own.value("parent_station");
+    let line = Some(id).filter(|id| !id.is_empty()).and_then(|id| first_line(feed, 1, "stop_id", id));
+    let mut clauses = Vec::new();
+    if own.number("location_type") == 1 && !id.is_empty() {
+        clauses.push(text("station_with_parent"));
+    }
+    if own.number("location_type") == 2 && id.is_empty() {
+        clauses.push(text("entrance_without_parent"));
+    }
+    if line.is_some_and(|line| row(feed, 1, line).number("location_type") != 1) {
+        clauses.push(text("parent_is_no_station"));
+    }
+    let kind = line.map_or(Fact::None, |line| stored(row(feed, 1, line), "location_type"));
+    vec![
+        ("clauses", Fact::List(clauses)),
+        ("location_type", stored(own, "location_type")),
+        ("parent_station", text(id)),
+        ("parent_line", line.map_or(Fact::None, count)),
+        ("parent_location_type", kind),
+    ]
+}
+
+/// Rule 26, clause by clause.
+fn times_given(own: Row) -> Facts {
+    let given = |column: &str| !own.value(column).is_empty();
+    let mut clauses = Vec::new();
+    if given("arrival_time") && !given("departure_time") {
+        clauses.push(text("arrival_time_only"));
+    }
+    if given("departure_time") && !given("arrival_time") {
+        clauses.push(text("departure_time_only"));
+    }
+    if own.value("timepoint") == b"1" && !timed(own) {
+        clauses.push(text("timepoint_without_times"));
+    }
+    vec![
+        ("clauses", Fact::List(clauses)),
+        ("arrival_time", time(own, "arrival_time")),
+        ("departure_time", time(own, "departure_time")),
+        ("timepoint", stored(own, "timepoint")),
+    ]
+}
+
+/// Rules 28 and 29: the nearest earlier line, or timed line, of the same trip.
+fn order(feed: &Feed, line: usize, own: Row, rule: usize) -> Facts {
+    let mut earlier = lines_of_trip(feed, own.value("trip_id"));
+    earlier.retain(|(other, row)| *other < line && (rule == 28 || timed(*row)));
+    let (nearest, row) = *earlier.last().expect("an earlier line");
+    if rule == 28 {
+        let sequence = ("stop_sequence", stored(own, "stop_sequence"));
+        return vec![
+            sequence,
+            ("earlier_line", count(nearest)),
+            ("earlier_stop_sequence", stored(row, "stop_sequence")),
+        ];
+    }
+    vec![
+        ("arrival_time", time(own, "arrival_time")),
+        ("earlier_line", count(nearest)),
+        ("earlier_departure_time", time(row, "departure_time")),
+    ]
+}
+
+/// Rules 30 and 31: the lines of a trip, its first and its last.
+fn ends(feed: &Feed, own: Row, rule: usize) -> Facts {
+    let trip = own.value("trip_id");
+    let lines = lines_of_trip(feed, trip);
+    if rule == 30 {
+        let numbers = lines.iter().map(|(line, _)| count(*line)).collect();
+        return vec![("trip_id", text(trip)), ("lines", Fact::List(numbers))];
+    }
+    let (first, last) = (lines[0].0, lines[lines.len() - 1].0);
+    let is_end = |line: usize| line == first || line == last;
+    let untimed = lines.iter().filter(|(line, row)| is_end(*line) && !timed(*row));
+    let untimed = untimed.map(|(line, _)| count(*line)).collect();
+    vec![("first_line", count(first)), ("last_line", count(last)), ("untimed", Fact::List(untimed))]
+}
+
+/// The facts behind a refusal, all but the words for the form that is wanted.
+pub fn of_refusal(files: &[Vec<u8>; 5], number: usize, file: usize, line: usize) -> Facts {
+    let bytes = &files[file - 1];
+    match number {
+        1 => return vec![("limit", count(16_777_216))],
+        2 => return vec![("lines", count(line_ends(bytes))), ("limit", count(65_536))],
+        4 => {
+            let clause = if bytes.is_empty() { "empty" } else { "no_line_end" };
+            return vec![("clause", text(clause)), ("missing", Fact::List(Vec::new()))];
+        }
+        _ => {}
+    }
+    let columns = COLUMNS[file - 1];
+    let lines = lines(bytes);
+    let own = lines[line - 1];
+    let header = || values(fields(lines[0]).expect("a header that is read"));
+    let own_fields = || fields(own).expect("a line of good marks");
+    match number {
+        5 => stray(own),
+        6 => marks(own),
+        7 => vec![("fields", count(own_fields().len())), ("limit", count(32))],
+        8 => twice(&header(), columns),
+        9 => {
+            let missing = columns.iter().filter(|column| column.present && !header().contains(&column.name.into()));
+            vec![("columns", Fact::List(missing.map(|column| text(column.name)).collect()))]
+        }
+        10 => vec![("fields", count(own_fields().len())), ("header_fields", count(header().len()))],
+        _ => bad_value(number, &header(), own_fields(), columns),
+    }
+}
+
+fn values(fields: Vec<Field>) -> Vec<Vec<u8>> {
+    fields.into_iter().map(|field| field.value).collect()
+}
+
+/// Rule 5: the first tab or CR.
+fn stray(line: Line) -> Facts {
+    let tab = line.text.iter().position(|&byte| byte == b'\t').unwrap_or(usize::MAX);
+    let cr = line.text.iter().position(|&byte| byte == b'\r').unwrap_or(usize::MAX);
+    let found = if tab < cr { "tab" } else { "CR" };
+    vec![("found", text(found)), ("byte", count(tab.min(cr) + 1))]
+}
+
+/// Rule 6: the first byte after which no line end can be good any more, or the mark that nothing closes.
+fn marks(line: Line) -> Facts {
+    let good = |text: &[u8]| fields(Line { start: 0, text }).is_some();
+    let lost = |length: &usize| {
+        let beginning = &line.text[..*length];
+        !good(beginning) && !good(&[beginning, b"\""].concat())
+    };
+    let facts = |clause: &str, place: usize| vec![("clause", text(clause)), ("byte", count(place))];
+    match (1..=line.text.len()).find(lost) {
+        Some(place) if line.text[place - 1] == b'"' => facts("mark_in_bare_field", place),
+        Some(place) => facts("text_after_closing_mark", place),
+        None => {
+            let begins = |place: &usize| *place == 0 || line.text[place - 1] == b',' && good(&line.text[..*place]);
+            let opened = (0..line.text.len()).rev().find(begins).expect("a field that isn't closed");
+            facts("not_closed", opened + 1)
+        }
+    }
+}
+
+/// Rule 8: the leftmost second standing of a known name.
+fn twice(header: &[Vec<u8>], columns: &[Column]) -> Facts {
+    for (place, name) in header.iter().enumerate() {
+        let known = columns.iter().any(|column| column.name.as_bytes() == name);
+        if known && header[..place].contains(name) {
+            return vec![("column", text(name)), ("field", count(place + 1))];
+        }
+    }
+    panic!("no known name stands twice")
+}
+
+/// Rules 11 to 13: the leftmost value that breaks the rule.
+fn bad_value(rule: usize, header: &[Vec<u8>], fields: Vec<Field>, columns: &[Column]) -> Facts {
+    for (place, field) in fields.iter().enumerate() {
+        let Some(column) = columns.iter().find(|column| column.name.as_bytes() == header[place]) else { continue };
+        let value = &field.value;
+        let mut facts = vec![("column", text(column.name)), ("field", count(place + 1))];
+        match rule {
+            11 if column.is_id() && value.len() > 64 => {
+                facts.extend([("value", text(value)), ("bytes", count(value.len())), ("limit", count(64))]);
+                return facts;
+            }
+            12 if column.needed() && value.is_empty() => return facts,
+            13 if number(column.form, value).is_none() => {
+                facts.push(("value", text(value)));
+                return facts;
+            }
+            _ => {}
+        }
+    }
+    panic!("no value breaks rule {rule}")
+}

@@ -1,0 +1,85 @@
+//! The known columns of each file: which must be there, the form that their values have, and a good value.
+
+/// A known column.
+pub struct Column {
+    pub name: &'static str,
+    /// It must be in the header.
+    pub must: bool,
+    /// The form of its values, in words; empty where any text is good.
+    pub form: &'static str,
+    /// A value that no rule refuses.
+    pub good: &'static str,
+}
+
+const fn must(name: &'static str, form: &'static str, good: &'static str) -> Column {
+    Column { name, must: true, form, good }
+}
+
+const fn may(name: &'static str, form: &'static str) -> Column {
+    Column { name, must: false, form, good: "" }
+}
+
+const LATITUDE: &str = "degrees from -90 to 90, as -33.8675: up to 3 digits, a point, up to 20 digits";
+const LONGITUDE: &str = "degrees from -180 to 180, as 151.2: up to 3 digits, a point, up to 20 digits";
+const TIME: &str = "a time as 8:05:00 or 08:05:00, hours 0 to 99, minutes and seconds 00 to 59";
+const DATE: &str = "a day that exists, in eight digits as 20240229";
+const SEQUENCE: &str = "one to nine digits";
+const ROUTE_TYPE: &str = "0 to 7, 11 or 12";
+const TO_1: &str = "0 or 1";
+const TO_2: &str = "0, 1 or 2";
+const TO_3: &str = "0, 1, 2 or 3";
+
+const STOPS: &[Column] = &[
+    must("stop_id", "", "A"),
+    must("stop_name", "", "A"),
+    must("stop_lat", LATITUDE, "1"),
+    must("stop_lon", LONGITUDE, "1"),
+    may("location_type", TO_2),
+    may("parent_station", ""),
+];
+
+const ROUTES: &[Column] = &[
+    must("route_id", "", "A"),
+    must("route_type", ROUTE_TYPE, "3"),
+    may("route_short_name", ""),
+    may("route_long_name", ""),
+];
+
+const CALENDAR: &[Column] = &[
+    must("service_id", "", "A"),
+    must("monday", TO_1, "1"),
+    must("tuesday", TO_1, "1"),
+    must("wednesday", TO_1, "1"),
+    must("thursday", TO_1, "1"),
+    must("friday", TO_1, "1"),
+    must("saturday", TO_1, "1"),
+    must("sunday", TO_1, "1"),
+    must("start_date", DATE, "20240101"),
+    must("end_date", DATE, "20240101"),
+];
+
+const TRIPS: &[Column] = &[
+    must("route_id", "", "A"),
+    must("service_id", "", "A"),
+    must("trip_id", "", "A"),
+    may("direction_id", TO_1),
+    may("wheelchair_accessible", TO_2),
+    may("bikes_allowed", TO_2),
+];
+
+const STOP_TIMES: &[Column] = &[
+    must("trip_id", "", "A"),
+    must("arrival_time", TIME, ""),
+    must("departure_time", TIME, ""),
+    must("stop_id", "", "A"),
+    must("stop_sequence", SEQUENCE, "1"),
+    may("pickup_type", TO_3),
+    may("drop_off_type", TO_3),
+    may("timepoint", TO_1),
+];
+
+/// The known columns of files 1 to 5.
+pub const COLUMNS: [&[Column]; 5] = [STOPS, ROUTES, CALENDAR, TRIPS, STOP_TIMES];
+
+/// The id column of files 1 to 4.
+pub const IDS: [&str; 4] = ["stop_id", "route_id", "service_id", "trip_id"];

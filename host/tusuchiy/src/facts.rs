@@ -1,0 +1,376 @@
+//! What a finding is about, from the tables that the check filled and from the files.
+
+use crate::columns::IDS;
+use crate::feed::Feed;
+use crate::fields::{split, value};
+use crate::memory;
+use crate::paging::Finding;
+use crate::safe;
+use crate::value::{Members, Value};
+use std::borrow::Cow;
+use std::cell::OnceCell;
+use std::collections::HashMap;
+use tusuchiy::WIDTHS;
+
+/// What a finding or a refusal is about: in words, and the same as members.
+#[derive(Debug, Default, PartialEq)]
+pub struct About {
+    pub words: String,
+    pub members: Members,
+}
+
+/// A number of a record: its file, and its place in the record as the tables of document 01 have it.
+type Cell = (usize, usize);
+
+const LOCATION_TYPE: Cell = (1, 4);
+const PARENT: Cell = (1, 5);
+const START_DATE: Cell = (3, 3);
+const END_DATE: Cell = (3, 4);
+const ROUTE: Cell = (4, 2);
+const SERVICE: Cell = (4, 3);
+const TRIP: Cell = (5, 0);
+const STOP: Cell = (5, 1);
+const SEQUENCE: Cell = (5, 2);
+const ARRIVAL: Cell = (5, 3);
+const DEPARTURE: Cell = (5, 4);
+const TIMEPOINT: Cell = (5, 7);
+
+/// The lines of stop_times.txt that a trip has: how many, the first and the last.
+#[derive(Clone, Copy, Default)]
+struct Calls {
+    count: usize,
+    first: usize,
+    last: usize,
+}
+
+/// For a line of stop_times.txt the nearest earlier line and timed line of its trip; 0 is none.
+type Before = [u32; 2];
+
+/// A feed that was read, with what was looked up in it.
+pub struct Facts<'a> {
+    feed: &'a Feed,
+    tables: &'a [Vec<i32>; 5],
+    headers: [OnceCell<Vec<Vec<u8>>>; 5],
+    firsts: [OnceCell<HashMap<Cow<'a, [u8]>, u32>>; 4],
+    calls: OnceCell<Vec<Calls>>,
+    before: OnceCell<Vec<Before>>,
+}
+
+impl<'a> Facts<'a> {
+    /// Nothing is looked up before it is asked for.
+    pub fn new(feed: &'a Feed, tables: &'a [Vec<i32>; 5]) -> Self {
+        let (headers, firsts) = Default::default();
+        Facts { feed, tables, headers, firsts, calls: OnceCell::new(), before: OnceCell::new() }
+    }
+
+    /// What a finding is about.
+    pub fn about(&self, finding: &Finding) -> About {
+        let Finding { file, line, rule } = *finding;
+        match rule {
+            20 => self.repeated_id(file, line),
+            21 => self.references(file, line),
+            22 => self.parent(line),
+            23 => self.no_platform(line),
+            24 => self.dates(line),
+            25 => no_name(),
+            26 => self.times_given(line),
+            27 => self.departure_first(line),
+            28 => self.sequence(line),
+            29 => self.arrival_too_early(line),
+            30 => self.few_calls(line),
+            31 => self.untimed_ends(line),
+            _ => About::default(),
+        }
+    }
+
+    /// A number of the record of a line.
+    fn number(&self, (file, place): Cell, line: usize) -> i32 {
+        self.tables[file - 1][(line - 1) * WIDTHS[file - 1] + place]
+    }
+
+    /// The record number that stands in a record, as the line that it names; none for 0.
+    fn named(&self, cell: Cell, line: usize) -> Option<usize> {
+        let record = usize::try_from(self.number(cell, line)).ok().filter(|&record| record > 0);
+        record.map(|record| record + 1)
+    }
+
+    /// The value under a known column; empty where the column is absent.
+    fn value(&self, file: usize, line: usize, column: &str) -> Cow<'a, [u8]> {
+        let header = self.headers[file - 1].get_or_init(|| names(self.feed, file));
+        let place = header.iter().position(|name| name == column.as_bytes());
+        let text = self.feed.line(file, line).unwrap_or(&[]);
+        let field = place.and_then(|place| split(text).ok()?.into_iter().nth(place));
+        field.map_or(Cow::Borrowed(&[]), |field| value(&text[field]))
+    }
+
+    /// The first line with an id.
+    fn first(&self, file: usize, id: &[u8]) -> usize {
+        let firsts = self.firsts[file - 1].get_or_init(|| {
+            let mut firsts = HashMap::new();
+            let lines = self.feed.line_count(file);
+            firsts.try_reserve(lines).unwrap_or_else(|_| memory::none());
+            for line in 2..=lines {
+                let [start, end] = [0, 1].map(|place| self.number((file, place), line) as usize);
+                firsts.entry(value(&self.feed.slices()[file - 1][start..end])).or_insert(line as u32);
+            }
+            firsts
+        });
+        firsts.get(id).map_or(0, |&line| line as usize)
+    }
+
+    fn repeated_id(&self, file: usize, line: usize) -> About {
+        let column = IDS[file - 1];
+        let id = self.value(file, line, column);
+        let earlier = self.first(file, &id);
+        About {
+            words: format!("{column} {} stands on line {earlier} already", shown(&id)),
+            members: vec![("column", Value::text(column)), shown_value(&id), ("earlier_line", Value::size(earlier))],
+        }
+    }
+
+    /// Every reference of the line that leads nowhere.
+    fn references(&self, file: usize, line: usize) -> About {
+        let referring: &[(&str, Cell, &str)] = match file {
+            1 => &[("parent_station", PARENT, "stops.txt")],
+            4 => &[("route_id", ROUTE, "routes.txt"), ("service_id", SERVICE, "calendar.txt")],
+            _ => &[("trip_id", TRIP, "trips.txt"), ("stop_id", STOP, "stops.txt")],
+        };
+        let (mut words, mut list) = (Vec::new(), Vec::new());
+        for &(column, _, searched) in referring.iter().filter(|(_, cell, _)| self.number(*cell, line) == 0) {
+            let id = self.value(file, line, column);
+            words.push(format!("{column} {} stands on no line of {searched}", shown(&id)));
+            let searched = ("searched", Value::text(searched));
+            list.push(Value::Members(vec![("column", Value::text(column)), shown_value(&id), searched]));
+        }
+        About { words: words.join("; "), members: vec![("references", Value::List(list))] }
+    }
+
+    fn parent(&self, line: usize) -> About {
+        let kind = self.number(LOCATION_TYPE, line);
+        let id = self.value(1, line, "parent_station");
+        let parent = self.named(PARENT, line);
+        let parent_kind = parent.map(|parent| self.number(LOCATION_TYPE, parent));
+        let mut clauses = Vec::new();
+        if kind == 1 && !id.is_empty() {
+            clauses.push(("station_with_parent", format!("a station has the parent_station {}", shown(&id))));
+        }
+        if kind == 2 && id.is_empty() {
+            clauses.push(("entrance_without_parent", "an entrance has no parent_station".to_string()));
+        }
+        if let (Some(parent), Some(other @ (0 | 2..))) = (parent, parent_kind) {
+            let words = format!("its parent_station {} on line {parent} has location_type {other}", shown(&id));
+            clauses.push(("parent_is_no_station", words));
+        }
+        let members = vec![
+            ("clauses", Value::texts(clauses.iter().map(|(clause, _)| clause))),
+            ("location_type", Value::Number(kind.into())),
+            ("parent_station", Value::text(&id)),
+            ("parent_line", Value::maybe(parent)),
+            ("parent_location_type", parent_kind.map_or(Value::Null, |kind| Value::Number(kind.into()))),
+        ];
+        let words: Vec<String> = clauses.into_iter().map(|(_, words)| words).collect();
+        About { words: words.join("; "), members }
+    }
+
+    fn no_platform(&self, line: usize) -> About {
+        let id = self.value(5, line, "stop_id");
+        let stop = self.named(STOP, line).unwrap_or(1);
+        let kind = self.number(LOCATION_TYPE, stop);
+        About {
+            words: format!("stop_id {} on line {stop} of stops.txt has location_type {kind}", shown(&id)),
+            members: vec![
+                ("stop_id", Value::text(&id)),
+                ("stop_line", Value::size(stop)),
+                ("location_type", Value::Number(kind.into())),
+            ],
+        }
+    }
+
+    fn dates(&self, line: usize) -> About {
+        let [start, end] = [START_DATE, END_DATE].map(|cell| format!("{:08}", self.number(cell, line)));
+        About {
+            words: format!("end_date {end} is before start_date {start}"),
+            members: vec![("start_date", Value::text(start)), ("end_date", Value::text(end))],
+        }
+    }
+
+    /// The two times of a line; none where one is empty.
+    fn times(&self, line: usize) -> [Option<String>; 2] {
+        [ARRIVAL, DEPARTURE].map(|cell| {
+            let seconds = self.number(cell, line);
+            let [hours, minutes] = [seconds / 3600, seconds / 60 % 60];
+            (seconds >= 0).then(|| format!("{hours:02}:{minutes:02}:{:02}", seconds % 60))
+        })
+    }
+
+    fn times_given(&self, line: usize) -> About {
+        let times = self.times(line);
+        let exact = self.number(TIMEPOINT, line) == 1;
+        let (mut clauses, mut words) = (Vec::new(), Vec::new());
+        match &times {
+            [Some(time), None] => {
+                clauses.push("arrival_time_only");
+                words.push(format!("arrival_time is {time} and departure_time is empty"));
+            }
+            [None, Some(time)] => {
+                clauses.push("departure_time_only");
+                words.push(format!("departure_time is {time} and arrival_time is empty"));
+            }
+            _ => {}
+        }
+        if exact && times.iter().any(Option::is_none) {
+            clauses.push("timepoint_without_times");
+            words.push(format!("timepoint is 1 and {} empty", lacking(&times)));
+        }
+        let [arrival, departure] = times.map(|time| time.map_or(Value::Null, Value::text));
+        let members = vec![
+            ("clauses", Value::texts(clauses)),
+            ("arrival_time", arrival),
+            ("departure_time", departure),
+            ("timepoint", Value::Number(self.number(TIMEPOINT, line).into())),
+        ];
+        About { words: words.join("; "), members }
+    }
+
+    fn departure_first(&self, line: usize) -> About {
+        let [arrival, departure] = self.times(line).map(Option::unwrap_or_default);
+        About {
+            words: format!("departure_time {departure} is before arrival_time {arrival}"),
+            members: vec![("arrival_time", Value::text(arrival)), ("departure_time", Value::text(departure))],
+        }
+    }
+
+    /// The nearest earlier line and timed line of the same trip.
+    fn before(&self, line: usize) -> [usize; 2] {
+        let before = self.before.get_or_init(|| {
+            let lines = self.feed.line_count(5);
+            let mut nearest: HashMap<Cow<[u8]>, Before> = HashMap::new();
+            nearest.try_reserve(lines).unwrap_or_else(|_| memory::none());
+            let look = |line: usize| {
+                let trip = nearest.entry(self.value(5, line, "trip_id")).or_default();
+                let before = *trip;
+                trip[0] = line as u32;
+                if self.times(line).iter().all(Option::is_some) {
+                    trip[1] = line as u32;
+                }
+                before
+            };
+            memory::list((2..=lines).map(look), lines)
+        });
+        before[line - 2].map(|line| line as usize)
+    }
+
+    fn sequence(&self, line: usize) -> About {
+        let [earlier, _] = self.before(line);
+        let [own, other] = [line, earlier].map(|line| self.number(SEQUENCE, line));
+        About {
+            words: format!("stop_sequence {own} isn't above {other} on line {earlier}"),
+            members: vec![
+                ("stop_sequence", Value::Number(own.into())),
+                ("earlier_line", Value::size(earlier)),
+                ("earlier_stop_sequence", Value::Number(other.into())),
+            ],
+        }
+    }
+
+    fn arrival_too_early(&self, line: usize) -> About {
+        let [_, earlier] = self.before(line);
+        let [[arrival, _], [_, departure]] =
+            [line, earlier].map(|line| self.times(line).map(Option::unwrap_or_default));
+        About {
+            words: format!("arrival_time {arrival} is before departure_time {departure} on line {earlier}"),
+            members: vec![
+                ("arrival_time", Value::text(arrival)),
+                ("earlier_line", Value::size(earlier)),
+                ("earlier_departure_time", Value::text(departure)),
+            ],
+        }
+    }
+
+    /// The lines of stop_times.txt that belong to the trip on a line of trips.txt.
+    fn calls(&self, line: usize) -> Calls {
+        let calls = self.calls.get_or_init(|| {
+            let trips = self.feed.line_count(4);
+            let mut calls = memory::list((0..trips).map(|_| Calls::default()), trips);
+            for line in 2..=self.feed.line_count(5) {
+                let trip = self.named(TRIP, line).map_or(0, |trip| trip - 1);
+                let Calls { count, first, .. } = calls[trip];
+                calls[trip] = Calls { count: count + 1, first: if count == 0 { line } else { first }, last: line };
+            }
+            calls
+        });
+        calls[line - 1]
+    }
+
+    fn few_calls(&self, line: usize) -> About {
+        let id = self.value(4, line, "trip_id");
+        let calls = self.calls(line);
+        let (words, lines) = match calls.count {
+            0 => ("has no line in stop_times.txt".to_string(), Vec::new()),
+            _ => (format!("has one line in stop_times.txt, line {}", calls.first), vec![Value::size(calls.first)]),
+        };
+        About {
+            words: format!("trip_id {} {words}", shown(&id)),
+            members: vec![("trip_id", Value::text(&id)), ("lines", Value::List(lines))],
+        }
+    }
+
+    fn untimed_ends(&self, line: usize) -> About {
+        let Calls { first, last, .. } = self.calls(line);
+        let untimed = |line: usize| self.times(line).iter().any(Option::is_none);
+        let words = |end: &str, line: usize| {
+            format!("its {end} line in stop_times.txt, line {line}, lacks {}", wanting(&self.times(line)))
+        };
+        let mut ends = vec![("first", first), ("last", last)];
+        ends.dedup_by_key(|(_, line)| *line);
+        ends.retain(|(_, line)| untimed(*line));
+        About {
+            words: ends.iter().map(|(end, line)| words(end, *line)).collect::<Vec<_>>().join("; "),
+            members: vec![
+                ("first_line", Value::size(first)),
+                ("last_line", Value::size(last)),
+                ("untimed", Value::List(ends.into_iter().map(|(_, line)| Value::size(line)).collect())),
+            ],
+        }
+    }
+}
+
+/// Rule 25 says it all; an absent column is empty.
+fn no_name() -> About {
+    About {
+        words: "route_short_name and route_long_name are both empty".to_string(),
+        members: vec![("columns", Value::texts(["route_short_name", "route_long_name"]))],
+    }
+}
+
+/// Which times are empty, and the word that goes with them.
+fn lacking(times: &[Option<String>; 2]) -> String {
+    let word = if times.iter().all(Option::is_none) { "are" } else { "is" };
+    format!("{} {word}", wanting(times))
+}
+
+/// Which times are empty.
+fn wanting(times: &[Option<String>; 2]) -> &'static str {
+    match times {
+        [None, None] => "arrival_time and departure_time",
+        [None, _] => "arrival_time",
+        _ => "departure_time",
+    }
+}
+
+/// The names of a header.
+pub fn names(feed: &Feed, file: usize) -> Vec<Vec<u8>> {
+    let text = feed.line(file, 1).unwrap_or(&[]);
+    split(text).map_or(Vec::new(), |fields| fields.into_iter().map(|field| value(&text[field]).into_owned()).collect())
+}
+
+/// A value of the feed in quotes, safe to print and not too long.
+pub fn shown(value: &[u8]) -> String {
+    let (beginning, cut) = safe::beginning(value, safe::SHOWN_VALUE);
+    format!("\"{}{}\"", safe::text(beginning), if cut { "..." } else { "" })
+}
+
+/// The member `value`, which isn't too long either.
+pub fn shown_value(value: &[u8]) -> (&'static str, Value) {
+    ("value", Value::text(safe::beginning(value, safe::SHOWN_LINE).0))
+}

@@ -1,0 +1,84 @@
+//! The fields of a line, for words about them: what is a field is the check's to say, and a test holds this to the model.
+
+use std::borrow::Cow;
+use std::ops::Range;
+
+/// What is wrong with a line's quotation marks.
+#[derive(Clone, Copy, Debug, PartialEq, Eq)]
+pub enum Wrong {
+    MarkInBareField,
+    TextAfterClosingMark,
+    NotClosed,
+}
+
+#[derive(Clone, Copy, PartialEq)]
+enum State {
+    Start,
+    Bare,
+    Quoted,
+    Closed,
+}
+
+/// Where the fields of a line stand, or what is wrong at which place; places count from 0.
+pub fn split(line: &[u8]) -> Result<Vec<Range<usize>>, (Wrong, usize)> {
+    let mut fields = Vec::new();
+    let (mut state, mut from) = (State::Start, 0);
+    for (place, &byte) in line.iter().enumerate() {
+        state = match (state, byte) {
+            (State::Quoted, b'"') => State::Closed,
+            (State::Quoted, _) => State::Quoted,
+            (_, b',') => {
+                fields.push(from..place);
+                from = place + 1;
+                State::Start
+            }
+            (State::Start | State::Closed, b'"') => State::Quoted,
+            (State::Bare, b'"') => return Err((Wrong::MarkInBareField, place)),
+            (State::Closed, _) => return Err((Wrong::TextAfterClosingMark, place)),
+            _ => State::Bare,
+        };
+    }
+    if state == State::Quoted {
+        return Err((Wrong::NotClosed, from));
+    }
+    fields.push(from..line.len());
+    Ok(fields)
+}
+
+/// The value of a field: outer marks taken off, a doubled mark inside means one.
+pub fn value(raw: &[u8]) -> Cow<'_, [u8]> {
+    let Some(inside) = raw.strip_prefix(b"\"").and_then(|rest| rest.strip_suffix(b"\"")) else {
+        return Cow::Borrowed(raw);
+    };
+    if !inside.contains(&b'"') {
+        return Cow::Borrowed(inside);
+    }
+    let mut marks = 0;
+    let kept = |byte: &u8| {
+        marks += usize::from(*byte == b'"');
+        *byte != b'"' || marks % 2 == 1
+    };
+    Cow::Owned(inside.iter().copied().filter(kept).collect())
+}
+
+#[cfg(test)]
+mod tests {
+    use super::*;
+
+    fn values(line: &str) -> Vec<String> {
+        let fields = split(line.as_bytes()).expect("good marks");
+        fields.into_iter().map(|field| String::from_utf8_lossy(&value(&line.as_bytes()[field])).into_owned()).collect()
+    }
+
+    /// The starred lines of document 01, and lines after its table.
+    #[test]
+    fn lines_of_fields() {
+        assert_eq!(values("\"a\"\"b\",c"), ["a\"b", "c"]);
+        assert_eq!(values(""), [""]);
+        assert_eq!(values("a,"), ["a", ""]);
+        assert_eq!(values("\"\",\"a,b\",\"\"\"\"\"\""), ["", "a,b", "\"\""]);
+        assert_eq!(split(b"x,a\"b"), Err((Wrong::MarkInBareField, 3)));
+        assert_eq!(split(b"\"a\"b"), Err((Wrong::TextAfterClosingMark, 3)));
+        assert_eq!(split(b"x,\"a"), Err((Wrong::NotClosed, 2)));
+    }
+}

@@ -1,0 +1,124 @@
+//! Checks feeds, several at a time, and prints what is said of each in the order in which they were given.
+
+use crate::arguments::{Check, Form};
+use crate::feed::Feed;
+use crate::paging::{self, Outcome, Report};
+use crate::style::{self, Style};
+use crate::text::Layout;
+use crate::{json, progress, source, text, COULD_NOT_RUN};
+use std::io::{self, BufWriter, ErrorKind, Write};
+use std::panic::{self, AssertUnwindSafe};
+use std::path::Path;
+use std::sync::atomic::{AtomicU8, AtomicUsize, Ordering};
+use std::sync::{Condvar, Mutex, MutexGuard, PoisonError};
+use std::thread;
+use std::time::Instant;
+
+/// What all workers share.
+struct Desk<'a> {
+    check: &'a Check,
+    style: Style,
+    next: AtomicUsize,
+    worst: AtomicU8,
+    /// Whose turn it is to print.
+    turn: Mutex<usize>,
+    moved: Condvar,
+}
+
+/// Checks all feeds and gives the exit status, the worst of theirs.
+pub fn run(check: &Check) -> u8 {
+    let processors = thread::available_parallelism().map_or(1, usize::from);
+    let jobs = check.jobs.unwrap_or(processors).min(check.feeds.len());
+    let desk = Desk {
+        check,
+        style: style::of_output(check.color, check.form == Form::Quiet),
+        next: AtomicUsize::new(0),
+        worst: AtomicU8::new(0),
+        turn: Mutex::new(0),
+        moved: Condvar::new(),
+    };
+    thread::scope(|scope| {
+        // Where there is no further thread, those that there are do the work.
+        for _ in 1..jobs {
+            let _ = thread::Builder::new().spawn_scoped(scope, || desk.work());
+        }
+        desk.work();
+    });
+    desk.worst.into_inner()
+}
+
+impl Desk<'_> {
+    /// Takes feed after feed until none is left.
+    fn work(&self) {
+        loop {
+            let number = self.next.fetch_add(1, Ordering::Relaxed);
+            let Some(path) = self.check.feeds.get(number) else { return };
+            let checked = guarded(|| self.checked(path));
+            let mut turn = self.turn(number);
+            let status = guarded(|| checked.and_then(|(feed, report, since)| self.print(&feed, &report, since)));
+            self.worst.fetch_max(status.unwrap_or_else(|message| crate::complain(&message)), Ordering::Relaxed);
+            *turn += 1;
+            self.moved.notify_all();
+        }
+    }
+
+    /// Waits until it is a feed's turn to be printed, and keeps it.
+    fn turn(&self, number: usize) -> MutexGuard<'_, usize> {
+        let turn = self.turn.lock().unwrap_or_else(PoisonError::into_inner);
+        self.moved.wait_while(turn, |turn| *turn != number).unwrap_or_else(PoisonError::into_inner)
+    }
+
+    /// Reads and checks a feed.
+    fn checked(&self, path: &Path) -> Result<(Feed, Report, Instant), String> {
+        let since = Instant::now();
+        let check = self.check;
+        let feed = source::read(path, check.follow_links)?;
+        let alone = check.feeds.len() == 1 && check.form != Form::Quiet;
+        let progress = if alone { progress::start(&feed) } else { progress::silent() };
+        let verdict_only = check.form == Form::Quiet || check.feeds.len() > 1 && check.form == Form::Text;
+        let page = if verdict_only { Some(paging::VERDICT_ONLY) } else { check.page };
+        let report = paging::check(&feed, page, &progress)?;
+        Ok((feed, report, since))
+    }
+
+    /// Prints what is to be said of a feed, and gives its exit status.
+    fn print(&self, feed: &Feed, report: &Report, since: Instant) -> Result<u8, String> {
+        let check = self.check;
+        write(|out| match check.form {
+            Form::Json => json::write(out, feed, report),
+            _ if check.feeds.len() > 1 => writeln!(out, "{}", text::verdict_line(feed, report, self.style)),
+            Form::Quiet => writeln!(out, "{}", text::verdict(report, self.style)),
+            Form::Text => {
+                let layout = Layout { style: self.style, all: check.all, time: since.elapsed() };
+                text::write(out, feed, report, &layout)
+            }
+        })?;
+        Ok(match report.outcome {
+            Outcome::Accepted => 0,
+            Outcome::Findings { .. } => 1,
+            Outcome::Refused { .. } => 2,
+        })
+    }
+}
+
+/// Whatever happens, the other feeds go on.
+fn guarded<Done>(work: impl FnOnce() -> Result<Done, String>) -> Result<Done, String> {
+    let fault = |_| Err("a fault of the command itself, not of the feed".to_string());
+    panic::catch_unwind(AssertUnwindSafe(work)).unwrap_or_else(fault)
+}
+
+/// Writes to standard output, to its end. A reader who went away has read enough; any other failure is one.
+pub fn write(write: impl FnOnce(&mut dyn Write) -> io::Result<()>) -> Result<(), String> {
+    let mut out = BufWriter::new(io::stdout().lock());
+    match write(&mut out).and_then(|()| out.flush()) {
+        Err(error) if error.kind() == ErrorKind::BrokenPipe => {
+            // What is left is dropped, not written once more.
+            let _ = out.into_parts();
+            Ok(())
+        }
+        done => done.map_err(|error| format!("can't write to standard output: {error}")),
+    }
+}
+
+/// The status of what couldn't run is the worst.
+const _: () = assert!(COULD_NOT_RUN > 2);

@@ -1,0 +1,179 @@
+//! What a refusal is about. The check names file and line; where it refused a value, it is asked about each column again.
+
+use crate::columns::{Column, COLUMNS};
+use crate::facts::{names, shown, shown_value, About};
+use crate::feed::{Feed, MOST_BYTES, MOST_LINES, NAMES};
+use crate::fields::{split, value, Wrong};
+use crate::value::{Members, Value};
+use tusuchiy::{Verdict, WIDTHS};
+
+/// The most fields that rule 7 allows a line, and the most bytes that rule 11 allows an id.
+const MOST_FIELDS: usize = 32;
+const MOST_ID_BYTES: usize = 64;
+
+/// What a refusal is about.
+pub fn about(feed: &Feed, number: usize, file: usize, line: usize) -> About {
+    let text = feed.line(file, line).unwrap_or(&[]);
+    match number {
+        1 => one_number(format!("it has more than {MOST_BYTES} bytes"), "limit", MOST_BYTES),
+        2 => counted(format!("it has {} lines", feed.line_count(file)), "lines", feed.line_count(file), MOST_LINES),
+        4 => no_end(feed, file),
+        5 => stray(text),
+        6 => marks(text),
+        7 => counted(format!("it has {} fields", field_count(text)), "fields", field_count(text), MOST_FIELDS),
+        8 => twice(feed, file),
+        9 => missing(feed, file),
+        10 => counts(field_count(text), names(feed, file).len()),
+        11..=13 => bad_value(feed, number, file, text).unwrap_or_default(),
+        _ => About::default(),
+    }
+}
+
+fn one_number(words: String, name: &'static str, number: usize) -> About {
+    About { words, members: vec![(name, Value::size(number))] }
+}
+
+fn counted(words: String, name: &'static str, count: usize, limit: usize) -> About {
+    About { words, members: vec![(name, Value::size(count)), ("limit", Value::size(limit))] }
+}
+
+fn no_end(feed: &Feed, file: usize) -> About {
+    let missing = feed.missing();
+    let name = NAMES[file - 1];
+    let (clause, words) = match (missing.contains(&name), feed.slices()[file - 1].is_empty()) {
+        (true, _) => ("missing", format!("the file is missing; the feed lacks {}", missing.join(", "))),
+        (_, true) => ("empty", "the file is empty".to_string()),
+        _ => ("no_line_end", "the last line has no line ending".to_string()),
+    };
+    About { words, members: vec![("clause", Value::text(clause)), ("missing", Value::texts(missing))] }
+}
+
+/// A tab, or a CR outside an ending.
+fn stray(text: &[u8]) -> About {
+    let place = text.iter().position(|byte| matches!(byte, b'\t' | b'\r')).unwrap_or(0);
+    let found = if text.get(place) == Some(&b'\t') { "tab" } else { "CR" };
+    About {
+        words: format!("byte {} of the line is a {found}", place + 1),
+        members: vec![("found", Value::text(found)), ("byte", Value::size(place + 1))],
+    }
+}
+
+fn marks(text: &[u8]) -> About {
+    let Err((wrong, place)) = split(text) else { return About::default() };
+    let (clause, words) = match wrong {
+        Wrong::MarkInBareField => ("mark_in_bare_field", "a quotation mark stands in a field that has none around it"),
+        Wrong::TextAfterClosingMark => ("text_after_closing_mark", "text follows a closing quotation mark"),
+        Wrong::NotClosed => ("not_closed", "a quotation mark opens a field and none closes it"),
+    };
+    About {
+        words: format!("at byte {} of the line {words}", place + 1),
+        members: vec![("clause", Value::text(clause)), ("byte", Value::size(place + 1))],
+    }
+}
+
+fn field_count(text: &[u8]) -> usize {
+    split(text).map_or(0, |fields| fields.len())
+}
+
+/// The leftmost second standing of a known name.
+fn twice(feed: &Feed, file: usize) -> About {
+    let names = names(feed, file);
+    let known = |name: &[u8]| COLUMNS[file - 1].iter().any(|column| column.name.as_bytes() == name);
+    let again = (0..names.len()).find(|&place| known(&names[place]) && names[..place].contains(&names[place]));
+    let Some(place) = again else { return About::default() };
+    About {
+        words: format!("{} is field {} again", String::from_utf8_lossy(&names[place]), place + 1),
+        members: vec![("column", Value::text(&names[place])), ("field", Value::size(place + 1))],
+    }
+}
+
+fn missing(feed: &Feed, file: usize) -> About {
+    let names = names(feed, file);
+    let there = |column: &Column| names.iter().any(|name| name == column.name.as_bytes());
+    let must = COLUMNS[file - 1].iter().filter(|column| column.must);
+    let missing: Vec<&str> = must.filter(|column| !there(column)).map(|column| column.name).collect();
+    About {
+        words: format!("the header lacks {}", missing.join(", ")),
+        members: vec![("columns", Value::texts(missing))],
+    }
+}
+
+fn counts(fields: usize, header: usize) -> About {
+    About {
+        words: format!("it has {fields} fields, the header {header}"),
+        members: vec![("fields", Value::size(fields)), ("header_fields", Value::size(header))],
+    }
+}
+
+/// The leftmost value of the line that breaks rule 11, 12 or 13.
+fn bad_value(feed: &Feed, number: usize, file: usize, text: &[u8]) -> Option<About> {
+    let names = names(feed, file);
+    for (place, field) in split(text).ok()?.into_iter().enumerate() {
+        let known = COLUMNS[file - 1]
+            .iter()
+            .find(|column| Some(column.name.as_bytes()) == names.get(place).map(|name| &name[..]));
+        let Some(column) = known else { continue };
+        if refused(file, column, &text[field.clone()]) == Some(number) {
+            return Some(about_value(number, column, place + 1, &value(&text[field])));
+        }
+    }
+    None
+}
+
+fn about_value(number: usize, column: &Column, field: usize, value: &[u8]) -> About {
+    let mut members: Members = vec![("column", Value::text(column.name)), ("field", Value::size(field))];
+    let words = match number {
+        11 => {
+            let (bytes, limit) = (("bytes", Value::size(value.len())), ("limit", Value::size(MOST_ID_BYTES)));
+            members.extend([shown_value(value), bytes, limit]);
+            format!("{} {} has {} bytes", column.name, shown(value), value.len())
+        }
+        12 => format!("{} is empty", column.name),
+        _ => {
+            members.extend([shown_value(value), ("wanted", Value::text(column.form))]);
+            format!("{} is {}, wanted: {}", column.name, shown(value), column.form)
+        }
+    };
+    About { words, members }
+}
+
+/// What the check says of a value alone: it stands in a feed of one good line a file, in the place of a good one.
+fn refused(file: usize, column: &Column, raw: &[u8]) -> Option<usize> {
+    let files =
+        [1, 2, 3, 4, 5].map(|other| one_line(other, |name| (other == file && name == column.name).then_some(raw)));
+    let mut tables = WIDTHS.map(|width| vec![0; width * 2]);
+    let tables = tables.each_mut().map(|table| &mut table[..]);
+    let answer = tusuchiy::try_check(files.each_ref().map(|file| &file[..]), tables, &mut [], [0, 0, 0]).ok()?;
+    match answer.verdict()? {
+        Verdict::Refused { number, file: told, line: 2 } if told == file => Some(number),
+        _ => None,
+    }
+}
+
+/// A file with all its columns and one line of good values, but for one that is given.
+fn one_line<'a>(file: usize, given: impl Fn(&str) -> Option<&'a [u8]>) -> Vec<u8> {
+    let columns = COLUMNS[file - 1];
+    let names: Vec<&[u8]> = columns.iter().map(|column| column.name.as_bytes()).collect();
+    let values = columns.iter().map(|column| given(column.name).unwrap_or(column.good.as_bytes()));
+    let values: Vec<&[u8]> = values.collect();
+    [names.join(&b","[..]), values.join(&b","[..]), Vec::new()].join(&b'\n')
+}
+
+#[cfg(test)]
+mod tests {
+    use super::*;
+
+    /// The good values are good: with one of them in its place, no value is refused.
+    #[test]
+    fn good_values_are_good() {
+        for file in 1..=5 {
+            for column in COLUMNS[file - 1] {
+                assert_eq!(refused(file, column, column.good.as_bytes()), None, "{}", column.name);
+                let needed = column.must && !column.name.ends_with("_time");
+                assert_eq!(refused(file, column, b""), needed.then_some(12), "{}", column.name);
+                let formed = !column.form.is_empty();
+                assert_eq!(refused(file, column, b"?"), formed.then_some(13), "{}", column.name);
+            }
+        }
+    }
+}

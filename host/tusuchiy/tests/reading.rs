@@ -1,0 +1,300 @@
+//! What the command reads and what it doesn't: missing files, links, devices, large files, zip files.
+
+mod common;
+
+use common::zip::{feed, member, write, Member};
+use common::{assert_cannot, command_after, document, example_files, out, run, said, status, Folder, NAMES, RUNNER};
+use std::fs::{self, File};
+use std::os::unix::fs::symlink;
+use std::process::{Command, Output};
+use std::sync::OnceLock;
+
+/// A file that isn't there is the check's own refusal, and all that are missing are named.
+#[test]
+fn missing_files_are_refused() {
+    let folder = Folder::new("missing");
+    folder.take("trips.txt");
+    folder.take("stop_times.txt");
+    let output = run(&["check", folder.path()]);
+    assert_eq!((status(&output), said(&output)), (2, ""));
+    let words = "the file is missing; the feed lacks trips.txt, stop_times.txt";
+    assert!(out(&output).contains(&format!("{}: refusal 4: ", folder.at("trips.txt"))), "{}", out(&output));
+    assert!(out(&output).contains(words), "{}", out(&output));
+    let report = document(&[folder.path()]);
+    let refusal = report.get("refusal");
+    assert_eq!(["number", "file", "line"].map(|name| refusal.get(name).number()), [4, 4, 0]);
+    assert_eq!(refusal.get("about").get("clause").text(), "missing");
+    let missing: Vec<&str> = refusal.get("about").get("missing").list().iter().map(|name| name.text()).collect();
+    assert_eq!(missing, ["trips.txt", "stop_times.txt"]);
+    assert_eq!(out(&run(&["check", "--quiet", folder.path()])), "refused\n");
+}
+
+/// Another refusal that speaks first isn't hidden by a file that is missing.
+#[test]
+fn rules_1_to_3_speak_before_a_missing_file() {
+    let folder = Folder::new("missing-large");
+    folder.take("stops.txt");
+    folder.put("routes.txt", &[b'\n'; 65_537]);
+    let report = document(&[folder.path()]);
+    assert_eq!(["number", "file"].map(|name| report.get("refusal").get(name).number()), [2, 2]);
+}
+
+/// What can't be read is status 3, and all of it is named.
+#[test]
+fn files_that_cannot_be_read() {
+    let folder = Folder::new("unread");
+    assert_cannot(&["check", &folder.at("nowhere")], &["nowhere: "]);
+    assert_cannot(&["check", &folder.at("stops.txt")], &["neither a folder nor a zip file"]);
+    assert_cannot(&["check", "/dev/null"], &["a feed is a folder or a zip file"]);
+    assert_cannot(&["check", "no\nfolder"], &["no\\x0Afolder"]);
+    for file in ["stops.txt", "trips.txt"] {
+        folder.take(file);
+        fs::create_dir(folder.0.join(file)).expect("a folder");
+    }
+    let pipe = Command::new("mkfifo").arg(folder.at("pipe")).status().expect("mkfifo, which Debian always has");
+    assert!(pipe.success());
+    folder.take("routes.txt");
+    fs::rename(folder.at("pipe"), folder.at("routes.txt")).expect("a pipe");
+    let messages = ["stops.txt: it isn't a regular file", "routes.txt: it isn't", "trips.txt: it isn't"];
+    for words in [&["check"][..], &["check", "--json"], &["check", "--quiet"], &["check", "--follow-links"]] {
+        assert_cannot(&[words, &[folder.path()]].concat(), &messages);
+    }
+}
+
+/// Root may read everything, so this shows something to others only.
+#[test]
+fn files_without_permission() {
+    use std::os::unix::fs::PermissionsExt;
+    let folder = Folder::new("permission");
+    for file in ["stops.txt", "trips.txt"] {
+        fs::set_permissions(folder.0.join(file), fs::Permissions::from_mode(0o000)).expect("permissions");
+    }
+    if File::open(folder.0.join("stops.txt")).is_err() {
+        assert_cannot(&["check", folder.path()], &["stops.txt: Permission denied", "trips.txt: Permission denied"]);
+    }
+}
+
+/// A link could name any file that the tool may read, and the report would quote it.
+#[test]
+fn links_in_a_feed_are_not_followed() {
+    let folder = Folder::new("links");
+    let secret = Folder::empty("secret");
+    secret.put("secret", b"top secret\nstop\n");
+    folder.take("stops.txt");
+    symlink(secret.at("secret"), folder.at("stops.txt")).expect("a link");
+    let output = run(&["check", folder.path()]);
+    assert_eq!((status(&output), out(&output)), (3, ""));
+    assert!(said(&output).contains("stops.txt: it is a symbolic link, which only --follow-links reads"));
+    assert!(!said(&output).contains("secret"), "{}", said(&output));
+    let output = run(&["check", "--follow-links", folder.path()]);
+    assert_eq!(status(&output), 2);
+    assert!(out(&output).contains("top secret"));
+    for target in ["/dev/zero", "/proc/self/mem", &folder.at("nowhere")] {
+        folder.take("stops.txt");
+        symlink(target, folder.at("stops.txt")).expect("a link");
+        assert_cannot(&["check", folder.path()], &["it is a symbolic link"]);
+    }
+    folder.take("stops.txt");
+    symlink("/dev/zero", folder.at("stops.txt")).expect("a link");
+    assert_cannot(&["check", "-L", folder.path()], &["it isn't a regular file"]);
+    // The feed itself is the user's own word.
+    let whole = Folder::empty("link-to-feed");
+    symlink(common::example("feed"), whole.at("feed")).expect("a link");
+    assert_eq!(status(&run(&["check", &whole.at("feed")])), 0);
+}
+
+/// Checks with so much address space, in MiB.
+fn within(most: usize, words: &[&str]) -> Output {
+    command_after(&format!("ulimit -v {}", most << 10)).args(words).output().expect("the command runs")
+}
+
+/// The address space that the program itself takes, and an emulator where there is one: in MiB, to the next 16.
+/// It isn't the same in every run, so this is where it is always enough, here and with more.
+fn own() -> usize {
+    static OWN: OnceLock<usize> = OnceLock::new();
+    let runs = |most: usize| within(most, &["check", "--quiet", &common::example("feed")]).status.code() == Some(0);
+    let always = |most: &usize| (0..40).all(|run| runs(*most + run % 5 * 16));
+    *OWN.get_or_init(|| (1..256).map(|step| step * 16).find(always).expect("memory"))
+}
+
+/// A feed's memory, as the README has it, in MiB.
+const FEED: usize = 160;
+
+/// Five files of 2 GiB, which are holes.
+fn huge(name: &str) -> Folder {
+    let folder = Folder::empty(name);
+    for name in NAMES {
+        let file = File::create(folder.0.join(name)).expect("a file");
+        file.set_len(2 << 30).expect("a file of holes");
+    }
+    folder
+}
+
+/// Five files much longer than rule 1 allows, of nothing or of line ends, take no more memory than those that it allows.
+#[test]
+fn memory_has_a_bound() {
+    assert!(include_str!("../../../README.md").contains(&format!("at most {FEED} MiB for each feed")));
+    let own = own();
+    let folder = huge("huge");
+    let output = within(own + FEED, &["check", "--json", folder.path()]);
+    assert_eq!(status(&output), 2, "{}", said(&output));
+    assert!(out(&output).contains("\"number\": 1,"), "{}", out(&output));
+    for length in [16_777_216, 60_000_000] {
+        NAMES.iter().for_each(|name| folder.put(name, &vec![b'\n'; length]));
+        let output = within(own + FEED, &["check", "--json", folder.path()]);
+        assert_eq!(status(&output), 2, "{}", said(&output));
+        let number = if length > 16_777_216 { 1 } else { 2 };
+        assert!(out(&output).contains(&format!("\"number\": {number},")), "{}", out(&output));
+    }
+}
+
+/// From the least with which the program starts up to more than enough: the verdict, or status 3 and why, never an abort.
+/// An emulator may itself have too little; of an abort of the program it says so.
+#[test]
+fn want_of_memory_is_no_abort() {
+    let folder = huge("want");
+    let small = common::example("feed");
+    let starts = |most: &usize| within(*most, &["check", "--quiet", &small]).status.code() == Some(0);
+    let least = (1..256).map(|step| step * 8).find(starts).expect("memory");
+    let emulated = std::env::var_os(RUNNER).is_some();
+    let mut told = 0;
+    for most in (least..least + 192).step_by(16) {
+        let output = within(most, &["check", folder.path()]);
+        let words = String::from_utf8_lossy(&output.stderr);
+        let by_signal =
+            if emulated { words.contains("uncaught target signal") } else { output.status.code().is_none() };
+        assert!(!by_signal, "{most} MiB: {words}");
+        told +=
+            usize::from(output.status.code() == Some(3) && words.starts_with("tusuchiy: ") && out(&output).is_empty());
+    }
+    assert!(told > 0, "no run had too little");
+}
+
+/// A readable feed as long as rule 1 allows, with more findings than one call hands out.
+#[test]
+fn memory_has_a_bound_with_many_findings() {
+    let own = own();
+    let folder = Folder::new("long-lines");
+    let line = format!("B7,3,{}\n", "x".repeat(248));
+    let routes = format!("route_id,route_type,note\n{}", line.repeat(65_535));
+    assert!((16_500_000..16_777_216).contains(&routes.len()));
+    folder.put("routes.txt", routes.as_bytes());
+    let output = within(own + FEED, &["check", folder.path()]);
+    assert_eq!(status(&output), 1, "{}", said(&output));
+    assert!(out(&output).starts_with("findings: 131069\n"));
+}
+
+/// A zip file in a folder of its own.
+fn zipped(name: &str, members: &[Member]) -> (Folder, String) {
+    let folder = Folder::empty(name);
+    folder.put("feed.zip", &write(members));
+    let path = folder.at("feed.zip");
+    (folder, path)
+}
+
+/// What the documents of the two feeds say, but for where they are.
+fn assert_same(zip: &str, folder: &str) {
+    let [of_zip, of_folder] = [zip, folder].map(|feed| document(&[feed]));
+    for member in ["verdict", "refusal", "total", "findings", "totals", "records"] {
+        assert_eq!(of_zip.get(member), of_folder.get(member), "{member}");
+    }
+}
+
+#[test]
+fn a_zip_file_is_checked_like_its_folder() {
+    for name in ["feed", "findings", "refused"] {
+        for packed in [true, false] {
+            for large in [true, false] {
+                let mut members = feed("", &example_files(name));
+                members.iter_mut().for_each(|member| (member.packed, member.large) = (packed, large));
+                members.insert(2, member("agency.txt", b"x"));
+                let (_folder, zip) = zipped("zip", &members);
+                assert_same(&zip, &common::example(name));
+                let report = document(&[&zip]);
+                assert_eq!(report.get("unread").get("count").number(), 1);
+            }
+        }
+    }
+    let (_folder, zip) = zipped("zip-text", &feed("", &example_files("findings")));
+    let output = run(&["check", &zip]);
+    assert!(out(&output).contains(&format!("\n{zip}/trips.txt:3: service_id \"X\"")), "{}", out(&output));
+}
+
+#[test]
+fn a_feed_in_one_sub_folder_is_found() {
+    let mut members = feed("gtfs/2024/", &example_files("findings"));
+    members.push(member("README", b""));
+    members.push(member("gtfs/2024/agency.txt", b""));
+    members.push(member("gtfs/2024/", b""));
+    let (_folder, zip) = zipped("sub", &members);
+    assert_same(&zip, &common::example("findings"));
+    let report = document(&[&zip]);
+    assert_eq!(report.get("folder").text(), "gtfs/2024/");
+    assert_eq!(report.get("unread").get("count").number(), 1);
+    let output = run(&["check", &zip]);
+    assert!(out(&output).contains("in the folder gtfs/2024/ of the zip file\n"), "{}", out(&output));
+    assert!(out(&output).contains(&format!("{zip}/gtfs/2024/trips.txt:3: ")), "{}", out(&output));
+    members.extend(feed("other/", &example_files("feed")));
+    let (_folder, zip) = zipped("subs", &members);
+    assert_cannot(&["check", &zip], &["it has feeds in several folders (gtfs/2024/, other/)"]);
+    members.extend(feed("", &example_files("feed")));
+    let (_folder, zip) = zipped("top", &members);
+    assert_eq!(status(&run(&["check", &zip])), 0, "what stands at the top goes first");
+}
+
+#[test]
+fn missing_members_are_refused() {
+    let members = &feed("", &example_files("feed"))[..3];
+    let (_folder, zip) = zipped("members", members);
+    let report = document(&[&zip]);
+    assert_eq!(["number", "file"].map(|name| report.get("refusal").get(name).number()), [4, 4]);
+    let (_folder, zip) = zipped("no-members", &[]);
+    assert_eq!(document(&[&zip]).get("refusal").get("about").get("missing").list().len(), 5);
+}
+
+/// A megabyte that unpacks to a thousand: refusal 1, with the memory of any other feed, and nothing on disk.
+#[test]
+fn a_bomb_is_refusal_1() {
+    let own = own();
+    let mut members = feed("", &example_files("feed"));
+    (members[4].bytes, members[4].times) = (vec![0; 1 << 20], 1000);
+    let (_folder, zip) = zipped("bomb", &members);
+    assert!(fs::metadata(&zip).expect("a file").len() < 2 << 20);
+    let temporary = Folder::empty("bomb-temporary");
+    // An emulator has files of its own.
+    let no_files = if std::env::var_os(RUNNER).is_some() { "" } else { "-f 0" };
+    let mut command = command_after(&format!("ulimit -v {} {no_files}", (own + FEED) << 10));
+    let output = command.env("TMPDIR", &temporary.0).current_dir(&temporary.0).args(["check", "--json", &zip]).output();
+    let output = output.expect("the command runs");
+    assert_eq!(status(&output), 2, "{}", said(&output));
+    assert!(out(&output).contains("\"number\": 1, "), "{}", out(&output));
+    assert_eq!(fs::read_dir(&temporary.0).expect("a folder").count(), 0);
+}
+
+/// Zip files that say two things at once, or can't be read: status 3, and why.
+#[test]
+fn zip_files_that_cannot_be_read() {
+    let good = || feed("", &example_files("feed"));
+    let wrong = |change: &dyn Fn(&mut Vec<Member>), message: &str| {
+        let mut members = good();
+        change(&mut members);
+        let (_folder, zip) = zipped("wrong", &members);
+        assert_cannot(&["check", &zip], &[message]);
+    };
+    wrong(&|members| members.push(member("stops.txt", b"x")), "stops.txt stands in it twice");
+    wrong(&|members| members[0].flags = 1, "stops.txt: it is encrypted");
+    wrong(&|members| members[1].wrong = 1, "routes.txt: it is damaged");
+    wrong(&|members| members[1].mode = 0o120_777, "routes.txt: it is a symbolic link");
+    wrong(&|members| members[0].local_name = b"slops.txt".to_vec(), "don't go together");
+    let folder = Folder::empty("cut");
+    let whole = write(&good());
+    for end in [0, 1, 21, 22, 100, whole.len() / 2, whole.len() - 1] {
+        folder.put("cut.zip", &whole[..end]);
+        assert_cannot(&["check", &folder.at("cut.zip")], &["neither a folder nor a zip file"]);
+    }
+    let mut moved = whole.clone();
+    let end = moved.len() - 29;
+    moved[end + 16..end + 20].copy_from_slice(&[0xFF, 0xFF, 0xFF, 0x7F]);
+    folder.put("moved.zip", &moved);
+    assert_cannot(&["check", &folder.at("moved.zip")], &["its directory doesn't stand where"]);
+}

@@ -1,0 +1,283 @@
+//! What the command says a finding or a refusal is about, against the model, and the words by hand.
+
+mod common;
+
+use cases::generate;
+use common::json::Json;
+use common::{document, json, out, run, status, Folder};
+use model::columns::COLUMNS;
+use model::facts::{of_finding, of_refusal, Fact, Facts};
+use model::forms::Form;
+use model::Answer;
+use std::collections::{BTreeMap, BTreeSet};
+
+/// How many seeds the command and the model are compared on, and how many feeds one run checks.
+const SEEDS: u64 = 384;
+const AT_A_TIME: u64 = 64;
+
+/// The words for the form that a column's values have, by hand.
+fn wanted(form: Form) -> &'static str {
+    match form {
+        Form::Text => "",
+        Form::Time => "a time as 8:05:00 or 08:05:00, hours 0 to 99, minutes and seconds 00 to 59",
+        Form::Date => "a day that exists, in eight digits as 20240229",
+        Form::Coordinate(90) => "degrees from -90 to 90, as -33.8675: up to 3 digits, a point, up to 20 digits",
+        Form::Coordinate(_) => "degrees from -180 to 180, as 151.2: up to 3 digits, a point, up to 20 digits",
+        Form::Sequence => "one to nine digits",
+        Form::Choice(["0", "1"], _) => "0 or 1",
+        Form::Choice(["0", "1", "2"], _) => "0, 1 or 2",
+        Form::Choice(["0", "1", "2", "3"], _) => "0, 1, 2 or 3",
+        Form::Choice(..) => "0 to 7, 11 or 12",
+    }
+}
+
+/// A fact as the document has it: bytes that aren't UTF-8 become U+FFFD, and 400 bytes at most are given.
+fn in_json(fact: &Fact) -> Json {
+    match fact {
+        Fact::None => Json::Null,
+        Fact::Number(number) => Json::Number(*number),
+        Fact::Text(bytes) => {
+            let end = (0..=bytes.len().min(400)).rev().find(|&end| end == bytes.len() || bytes[end] & 0xC0 != 0x80);
+            Json::Text(String::from_utf8_lossy(&bytes[..end.unwrap_or(0)]).into_owned())
+        }
+        Fact::List(list) => Json::List(list.iter().map(in_json).collect()),
+        Fact::Members(facts) => members(facts),
+    }
+}
+
+fn members(facts: &Facts) -> Json {
+    Json::Members(facts.iter().map(|(name, fact)| (name.to_string(), in_json(fact))).collect())
+}
+
+/// Names of members.
+type Names = BTreeSet<String>;
+
+/// Fails where the document of a feed differs from the model's answer and facts; gives the rules that were seen, each
+/// with the names of what it is about.
+fn compare(name: &str, files: &[Vec<u8>; 5], report: &Json) -> Vec<(i64, Names)> {
+    let mut tables = cases::large::tables(files, 0);
+    let mut list = vec![0; 30_000];
+    match model::check(files, &mut tables, &mut list, [0, 0, 0]) {
+        Answer::Accepted => {
+            assert_eq!(report.get("verdict").text(), "accepted", "{name}");
+            Vec::new()
+        }
+        Answer::Refused { number, file, line } => {
+            let refusal = report.get("refusal");
+            let numbers = ["number", "file", "line"].map(|member| refusal.get(member).number());
+            assert_eq!(numbers, [number, file, line].map(|number| number as i64), "{name}");
+            let mut facts = of_refusal(files, number, file, line);
+            if number == 13 {
+                let Json::Text(column) = refusal.get("about").get("column") else { panic!("{name}: no column") };
+                let known = COLUMNS[file - 1].iter().find(|known| known.name == column).expect("a known column");
+                facts.push(("wanted", Fact::Text(wanted(known.form).into())));
+            }
+            assert_eq!(refusal.get("about"), &members(&facts), "{name}, refusal {number}");
+            assert!(!refusal.get("words").text().is_empty(), "{name}");
+            vec![(number as i64, names(refusal.get("about")))]
+        }
+        Answer::Findings { written, .. } => {
+            let room: Vec<usize> = tables.iter().map(Vec::len).collect();
+            let feed = model::reading::read(files, &room).expect("a feed that is read");
+            let found = report.get("findings").list();
+            assert_eq!(found.len(), written, "{name}");
+            for (place, found) in found.iter().enumerate() {
+                let finding = [0, 1, 2].map(|number| list[place * 3 + number]);
+                let numbers = ["file", "line", "rule"].map(|member| found.get(member).number() as i32);
+                assert_eq!(numbers, finding, "{name}");
+                assert_eq!(found.get("about"), &members(&of_finding(&feed, finding)), "{name}, {finding:?}");
+                assert!(!found.get("words").text().is_empty(), "{name}");
+            }
+            found.iter().map(|found| (found.get("rule").number(), names(found.get("about")))).collect()
+        }
+    }
+}
+
+/// Every refusal but 3, which the command's tables never break, and every rule come up among the seeds.
+#[test]
+fn the_facts_are_the_models() {
+    let folder = Folder::empty("facts");
+    let mut seen: BTreeMap<i64, Names> = BTreeMap::new();
+    for first in (0..SEEDS).step_by(AT_A_TIME as usize) {
+        let cases: Vec<_> = (first..first + AT_A_TIME).map(generate::case).collect();
+        let feeds: Vec<String> =
+            cases.iter().enumerate().map(|(place, case)| folder.put_feed(&place.to_string(), &case.files)).collect();
+        let words: Vec<&str> = ["check", "--json"].into_iter().chain(feeds.iter().map(|feed| &feed[..])).collect();
+        let output = run(&words);
+        assert!(status(&output) < 3);
+        let documents: Vec<Json> = out(&output).lines().map(json::read).collect();
+        assert_eq!(documents.len(), cases.len());
+        for ((case, feed), report) in cases.iter().zip(&feeds).zip(&documents) {
+            assert_eq!(report.get("feed").text(), feed);
+            for (number, names) in compare(&case.name, &case.files, report) {
+                seen.entry(number).or_default().extend(names);
+            }
+        }
+    }
+    let all: BTreeSet<i64> = (1..=13).filter(|number| *number != 3).chain(20..=31).collect();
+    assert_eq!(seen.keys().copied().collect::<BTreeSet<_>>(), all);
+    for (number, names) in seen {
+        assert_eq!(documented(number), names, "docs/JSON.md on {number}");
+    }
+}
+
+/// The members of `about` that docs/JSON.md has for a refusal or a rule: names between back marks, but no values.
+fn documented(number: i64) -> Names {
+    let page = include_str!("../../../docs/JSON.md");
+    let row = page.lines().find(|line| line.starts_with(&format!("| {number} | "))).expect("a row");
+    let is_name = |word: &&str| word.chars().all(|char| char.is_ascii_lowercase() || char == '_');
+    row.split('`').skip(1).step_by(2).filter(is_name).map(str::to_string).collect()
+}
+
+/// The names of all members of a value, those of members too.
+fn names(value: &Json) -> Names {
+    match value {
+        Json::Members(members) => {
+            members.iter().flat_map(|(name, value)| names(value).into_iter().chain([name.clone()])).collect()
+        }
+        Json::List(list) => list.iter().flat_map(names).collect(),
+        _ => Names::new(),
+    }
+}
+
+/// The accepted example with one file in another shape.
+fn words_of(file: &str, bytes: &str) -> Vec<String> {
+    let folder = Folder::new("words");
+    folder.put(file, bytes.as_bytes());
+    let report = document(&[folder.path()]);
+    let places = match report.get("refusal") {
+        Json::Null => report.get("findings").list(),
+        refusal => std::slice::from_ref(refusal),
+    };
+    places
+        .iter()
+        .map(|place| {
+            let number = if report.get("refusal") == &Json::Null { place.get("rule") } else { place.get("number") };
+            format!("{}:{}: {}", place.get("line").number(), number.number(), place.get("words").text())
+        })
+        .collect()
+}
+
+const TIMES: &str = "trip_id,arrival_time,departure_time,stop_id,stop_sequence,timepoint\n";
+
+/// A feed whose trips are T and U, with these lines in stop_times.txt.
+fn words_of_times(lines: &str) -> Vec<String> {
+    let folder = Folder::new("times");
+    folder.put("stops.txt", b"stop_id,stop_name,stop_lat,stop_lon,location_type\nA,a,1,1,\nB,b,1,1,\nS,s,1,1,1\n");
+    folder.put("routes.txt", b"route_id,route_short_name,route_type\nR,1,3\n");
+    folder.put(
+        "calendar.txt",
+        b"service_id,monday,tuesday,wednesday,thursday,friday,saturday,sunday,start_date,end_date\n\
+          W,1,1,1,1,1,0,0,20240101,20241231\n",
+    );
+    folder.put("trips.txt", b"route_id,service_id,trip_id\nR,W,T\n");
+    folder.put("stop_times.txt", format!("{TIMES}{lines}").as_bytes());
+    let report = document(&[folder.path()]);
+    let found = report.get("findings").list();
+    found.iter().map(|found| format!("{}: {}", found.get("rule").number(), found.get("words").text())).collect()
+}
+
+/// Lines of stop_times.txt and the words about them, found by hand.
+const ABOUT_TIMES: [(&str, &[&str]); 8] = [
+    ("T,08:00:00,08:00:00,A,1,\n", &["30: trip_id \"T\" has one line in stop_times.txt, line 2"]),
+    ("", &["30: trip_id \"T\" has no line in stop_times.txt"]),
+    (
+        "T,8:00:00,8:00:00,A,1,\nT,7:59:59,8:05:00,B,1,\n",
+        &[
+            "28: stop_sequence 1 isn't above 1 on line 2",
+            "29: arrival_time 07:59:59 is before departure_time 08:00:00 on line 2",
+        ],
+    ),
+    (
+        "T,8:00:00,,A,1,\nT,9:00:00,9:00:00,B,2,\n",
+        &[
+            "31: its first line in stop_times.txt, line 2, lacks departure_time",
+            "26: arrival_time is 08:00:00 and departure_time is empty",
+        ],
+    ),
+    (
+        "T,8:00:00,8:00:00,A,1,\nT,,8:01:00,B,2,1\nT,9:00:00,9:00:00,B,3,\n",
+        &["26: departure_time is 08:01:00 and arrival_time is empty; timepoint is 1 and arrival_time is empty"],
+    ),
+    (
+        "T,8:00:00,8:00:00,A,1,\nT,,,B,2,1\nT,9:00:00,8:59:00,B,3,\n",
+        &[
+            "26: timepoint is 1 and arrival_time and departure_time are empty",
+            "27: departure_time 08:59:00 is before arrival_time 09:00:00",
+        ],
+    ),
+    (
+        "T,8:00:00,8:00:00,S,1,\nX,8:00:00,8:00:00,C,1,\nT,9:00:00,9:00:00,B,3,\n",
+        &[
+            "23: stop_id \"S\" on line 4 of stops.txt has location_type 1",
+            "21: trip_id \"X\" stands on no line of trips.txt; stop_id \"C\" stands on no line of stops.txt",
+        ],
+    ),
+    (
+        "T,,,A,1,\nT,9:00:00,9:00:00,B,2,\nT,,,A,3,\n",
+        &["31: its first line in stop_times.txt, line 2, lacks arrival_time and departure_time; \
+           its last line in stop_times.txt, line 4, lacks arrival_time and departure_time"],
+    ),
+];
+
+/// The words of each rule about times.
+#[test]
+fn words_about_times() {
+    for (lines, wanted) in ABOUT_TIMES {
+        assert_eq!(words_of_times(lines), wanted, "{lines}");
+    }
+}
+
+/// The words about stops, routes and services, found by hand.
+#[test]
+fn words_about_other_files() {
+    let stops = "stop_id,stop_name,stop_lat,stop_lon,location_type,parent_station\n\
+                 MAIN,m,1,1,1,MAIN\nMAIN,m,1,1,,\nE,e,1,1,2,\nP,p,1,1,0,E\nQ,q,1,1,,X\n";
+    let found = words_of("stops.txt", stops);
+    let wanted = [
+        "2:22: a station has the parent_station \"MAIN\"",
+        "3:20: stop_id \"MAIN\" stands on line 2 already",
+        "4:22: an entrance has no parent_station",
+        "5:22: its parent_station \"E\" on line 4 has location_type 2",
+        "6:21: parent_station \"X\" stands on no line of stops.txt",
+    ];
+    assert_eq!(found[..5], wanted);
+    let routes = words_of("routes.txt", "route_id,route_short_name,route_type\nB7,,3\n");
+    assert_eq!(routes, ["2:25: route_short_name and route_long_name are both empty"]);
+    let header = "service_id,monday,tuesday,wednesday,thursday,friday,saturday,sunday,start_date,end_date\n";
+    let services = words_of("calendar.txt", &format!("{header}Z,1,1,1,1,1,1,1,20240102,20240101\n"));
+    assert_eq!(services[0], "2:24: end_date 20240101 is before start_date 20240102");
+}
+
+/// The words of each refusal, found by hand.
+#[test]
+fn words_about_refusals() {
+    let header = "route_id,route_short_name,route_type\n";
+    let cases: [(&str, &str); 13] = [
+        ("", "0:4: the file is empty"),
+        ("x", "0:4: the last line has no line ending"),
+        ("a\tb\n", "1:5: byte 2 of the line is a tab"),
+        ("a\rb\n", "1:5: byte 2 of the line is a CR"),
+        ("a\"b\n", "1:6: at byte 2 of the line a quotation mark stands in a field that has none around it"),
+        ("\"a\"b\n", "1:6: at byte 4 of the line text follows a closing quotation mark"),
+        ("a,\"b\n", "1:6: at byte 3 of the line a quotation mark opens a field and none closes it"),
+        ("route_id,route_type,\"route_id\"\n", "1:8: route_id is field 3 again"),
+        ("Route_id,agency_id\n", "1:9: the header lacks route_id, route_type"),
+        ("H\nR,1\n", "2:10: it has 2 fields, the header 3"),
+        ("H\nR,1,\n", "2:12: route_type is empty"),
+        ("H\nR,1, 3\n", "2:13: route_type is \" 3\", wanted: 0 to 7, 11 or 12"),
+        ("H\n\u{a0},1,x\u{202e}\n", "2:13: route_type is \"x\\u{202E}\", wanted: 0 to 7, 11 or 12"),
+    ];
+    for (bytes, wanted) in cases {
+        assert_eq!(words_of("routes.txt", &bytes.replace("H\n", header)), [wanted], "{bytes}");
+    }
+    let commas = ",".repeat(32);
+    assert_eq!(words_of("routes.txt", &format!("{commas}\n")), ["1:7: it has 33 fields"]);
+    let id = "i".repeat(65);
+    let wanted = format!("2:11: route_id \"{id}\" has 65 bytes");
+    assert_eq!(words_of("routes.txt", &format!("{header}{id},1,3\n")), [wanted]);
+    let many = "\n".repeat(65_537);
+    assert_eq!(words_of("routes.txt", &many), ["0:2: it has 65537 lines"]);
+    let long = "\n".repeat(16_777_217);
+    assert_eq!(words_of("routes.txt", &long), ["0:1: it has more than 16777216 bytes"]);
+}
