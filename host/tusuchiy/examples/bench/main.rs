@@ -46,6 +46,8 @@ fn main() {
         stop(&format!("the feeds are: {}", FAMILIES.each_ref().map(|family| family.name).join(", ")));
     }
     report::introduce(&families);
+    // An emulator is slower once a program has had a second thread, as the check makes: so for both from the start.
+    let _ = std::thread::spawn(|| ()).join();
     let rows: Vec<Row> = families.iter().flat_map(|family| sizes(family, options.lines)).collect();
     let parts: Vec<Parts> = families.iter().map(|family| parts_of(family, &rows)).collect();
     report::parts(&parts);
