@@ -27,8 +27,6 @@ struct Desk<'a> {
 
 /// Checks all feeds and gives the exit status, the worst of theirs.
 pub fn run(check: &Check) -> u8 {
-    let processors = thread::available_parallelism().map_or(1, usize::from);
-    let jobs = check.jobs.unwrap_or(processors).min(check.feeds.len());
     let desk = Desk {
         check,
         style: style::of_output(check.color, check.form == Form::Quiet),
@@ -37,14 +35,25 @@ pub fn run(check: &Check) -> u8 {
         turn: Mutex::new(0),
         moved: Condvar::new(),
     };
+    in_threads(at_a_time(check.jobs, check.feeds.len()), || desk.work());
+    desk.worst.into_inner()
+}
+
+/// How many feeds are checked at a time: as many as asked for, else as there are processors, and no more than there are feeds.
+fn at_a_time(asked: Option<usize>, feeds: usize) -> usize {
+    let processors = thread::available_parallelism().map_or(1, usize::from);
+    asked.unwrap_or(processors).min(feeds)
+}
+
+/// The same work in several threads, of which this is one.
+fn in_threads(jobs: usize, work: impl Fn() + Sync) {
     thread::scope(|scope| {
         // Where there is no further thread, those that there are do the work.
         for _ in 1..jobs {
-            let _ = thread::Builder::new().spawn_scoped(scope, || desk.work());
+            let _ = thread::Builder::new().spawn_scoped(scope, &work);
         }
-        desk.work();
+        work();
     });
-    desk.worst.into_inner()
 }
 
 impl Desk<'_> {
@@ -122,3 +131,33 @@ pub fn write(write: impl FnOnce(&mut dyn Write) -> io::Result<()>) -> Result<(),
 
 /// The status of what couldn't run is the worst.
 const _: () = assert!(COULD_NOT_RUN > 2);
+
+#[cfg(test)]
+mod tests {
+    use super::*;
+    use std::time::Duration;
+
+    #[test]
+    fn as_many_as_there_are_processors() {
+        let processors = thread::available_parallelism().expect("a number of processors").get();
+        assert_eq!([1, 1000].map(|feeds| at_a_time(None, feeds)), [1, processors.min(1000)]);
+        assert_eq!([2, 1000].map(|feeds| at_a_time(Some(7), feeds)), [2, 7]);
+    }
+
+    /// Each waits until all are at work: one after the other they would wait in vain.
+    #[test]
+    fn all_work_at_the_same_time() {
+        let jobs = at_a_time(None, 1000).max(2);
+        let (there, moved) = (Mutex::new(0), Condvar::new());
+        let met = AtomicUsize::new(0);
+        in_threads(jobs, || {
+            let mut count = there.lock().expect("a lock");
+            *count += 1;
+            moved.notify_all();
+            let wait = moved.wait_timeout_while(count, Duration::from_secs(20), |count| *count < jobs);
+            let in_vain = wait.expect("a lock").1.timed_out();
+            met.fetch_add(usize::from(!in_vain), Ordering::Relaxed);
+        });
+        assert_eq!(met.into_inner(), jobs);
+    }
+}
