@@ -26,3 +26,20 @@ parentMark = 7
 
 abbrev pub namelessMark : ℕ
 namelessMark = 8
+
+-- of a line of stop_times: 9, an earlier line of its trip has its sequence; 10, it arrives before a line of its trip with a smaller sequence departs
+abbrev pub equalMark : ℕ
+equalMark = 9
+
+abbrev pub fallingMark : ℕ
+fallingMark = 10
+
+-- of a trip: 11, it has two lines at least; 12, its first or its last isn't timed; 13, a walk in file order has come to it
+abbrev pub pairedMark : ℕ
+pairedMark = 11
+
+abbrev pub openMark : ℕ
+openMark = 12
+
+abbrev pub metMark : ℕ
+metMark = 13

@@ -9,6 +9,18 @@ pub const PARENT: usize = 7;
 
 pub const NAMELESS: usize = 8;
 
+// Of a line of stop_times: an earlier line of its trip has its sequence; it arrives before a smaller sequence departs.
+pub const EQUAL: usize = 9;
+
+pub const FALLING: usize = 10;
+
+// Of a trip: it has two lines at least; its first or its last isn't timed; a walk in file order has come to it.
+pub const PAIRED: usize = 11;
+
+pub const OPEN: usize = 12;
+
+pub const MET: usize = 13;
+
 // No record is marked. As many entries as a file can have lines: record r of any file has entry r.
 pub fn blank() -> [u16; MAX_LINES]
     ensures { λ r. ⌜ Blank r ⌝ }
