@@ -16,7 +16,7 @@ use Rattle.meaning.proofs.Claims.{claims-ordered, claims-exactly}
 use Rattle.meaning.proofs.Readable.{values-kept}
 use Rattle.meaning.proofs.TheList.{listed-exactly, list-ordered, refused-answer, refused-untouched, answer-ends}
 use Rattle.meaning.proofs.Pages.{page-told, accepted-exactly}
-use Rattle.meaning.proofs.TimesNeverFall.{accepted-times}
+use Rattle.meaning.proofs.TimesNeverFall.{accepted-times, accepted-sequences}
 use Rattle.meaning.proofs.Held.{tables-held, tables-long, list-long}
 use Rattle.meaning.proofs.Calls.{calls-join}
 
@@ -48,6 +48,7 @@ module _ (files : List (List ℕ)) (tables : List (List ℤ)) (list : List ℤ) 
           long = tables-long files tables list p five;
           accepted = (λ e. let k = exactly .0 e in (read .0 (k .0), k .1), λ k. exactly .1 (read .1 (k .0), k .1));
           times = accepted-times files tables list p;
+          sequences = accepted-sequences files tables list p;
         }
 
     pub demand-3 : Demand3 files tables list p (outcome files tables list p)

@@ -3,14 +3,14 @@ use Prim.Native.Nat.{ℕ, zero, suc, _≤_, _<_}
 use native.Mathlib.Omega.{arith}
 use native.Mathlib.Nat.{not-suc-le-zero}
 use mathlib.Core.Path.{_≡_, refl, sym, ap, ap₂, _∙_}
-use mathlib.Core.List.{List, [], _∷_, _++_, append-nil, List·Memᴰ, List·Memᴰ·head, List·Memᴰ·tail, Memᴰ·append-right}
+use mathlib.Core.List.{List, [], _∷_, _++_, List·Memᴰ, List·Memᴰ·head, List·Memᴰ·tail, Memᴰ·append-right}
 use mathlib.Core.Bool.{Bool, true, false, cond, not, _&&_, _||_}
 use lib.IntN.{pos}
 use lib.ListN.{length, getD, take}
 use lib.Seq.{take-suc}
 use lib.Dec.{eqb, ltb}
 use borrow.Author.Tests.{ltb-true, ltb-false, eqb-true, eq-eqb, ne-eqb, le-ltb}
-use Rattle.meaning.specs.Lists.{same, keep, lastHas}
+use Rattle.meaning.specs.Lists.{same, keep}
 use Rattle.meaning.specs.Findings.{Finding, above, after}
 use Rattle.meaning.specs.Promises.{Ordered, comesBefore}
 
@@ -73,59 +73,6 @@ module _ {A : Type 0} (P : A → Bool) where
   unfolding keep
   keep-all [] h = refl
   keep-all (x ∷ l) h = rw (h x (List·Memᴰ·head refl), keep-all l (λ y m. h y (List·Memᴰ·tail m)))
-
-  pub last-append : (l : List A) (x : A) → lastHas P (l ++ (x ∷ [])) ≡ P x
-  unfolding lastHas
-  last-append [] x = refl
-  last-append (y ∷ []) x = refl
-  last-append (y ∷ z ∷ l) x = last-append (z ∷ l) x
-
--- two tests, one after the other
-pub keep-keep : {A : Type 0} (P Q : A → Bool) (l : List A) → keep P (keep Q l) ≡ keep (λ x. Q x && P x) l
-unfolding keep
-keep-keep P Q [] = refl
-keep-keep {A} P Q (x ∷ l) = go (Q x) (keep-keep P Q l)
-  where
-    go : (b : Bool) → keep P (keep Q l) ≡ keep (λ x. Q x && P x) l
-        → keep P (cond b (x ∷ keep Q l) (keep Q l)) ≡ cond (b && P x) (x ∷ keep (λ x. Q x && P x) l) (keep (λ x. Q x && P x) l)
-    go true e = ap (λ (k : List A). cond (P x) (x ∷ k) k) e
-    go false e = e
-
--- the last index below j at which Q holds, not before i
-pub record LastAt {A : Type 0} (Q : A → Bool) (l : List A) (d : A) (i j : ℕ) : Type 0 where
-  pub at : ℕ
-  pub from : i ≤ at
-  pub below : at < j
-  pub holds : Q (getD l at d) ≡ true
-  pub last : (P : A → Bool) → lastHas P (keep Q (take j l)) ≡ P (getD l at d)
-
-module _ {A : Type 0} (Q : A → Bool) (l : List A) (d : A) (i : ℕ) (h : Q (getD l i d) ≡ true) where
-  pub last-at : (j : ℕ) → i < j → j ≤ length l → LastAt Q l d i j
-  unfolding keep
-  last-at zero n f = absurd (not-suc-le-zero n)
-  last-at (suc j) n f = go (Q (getD l j d)) refl (λ m. last-at j m (omega arith))
-    where
-      ends : (b : Bool) → Q (getD l j d) ≡ b → keep Q (take (suc j) l) ≡ keep Q (take j l) ++ cond b (getD l j d ∷ []) []
-      ends b e = ap (keep Q) (take-suc l j d f) ∙ keep-append Q (take j l) (getD l j d ∷ []) ∙ rw e
-
-      go : (b : Bool) → Q (getD l j d) ≡ b → (i < j → LastAt Q l d i j) → LastAt Q l d i (suc j)
-      go true e k = record {
-        at = j;
-        from = omega arith;
-        below = omega arith;
-        holds = e;
-        last = λ P. ap (lastHas P) (ends true e) ∙ last-append P (keep Q (take j l)) (getD l j d);
-      }
-      go false e k =
-          let ne : i ≡ j → ⊥ = λ q. both (Q (getD l j d)) (rw q at h) e in
-          let m : LastAt Q l d i j = k (omega (arith, ne)) in
-          record {
-            at = m .at;
-            from = m .from;
-            below = omega (arith, m .below);
-            holds = m .holds;
-            last = λ P. ap (lastHas P) (ends false e ∙ append-nil (keep Q (take j l))) ∙ m .last P;
-          }
 
 -- ---- the order of findings
 

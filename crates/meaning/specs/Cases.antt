@@ -93,7 +93,7 @@ starred =
     ∷ refusedLine "a\"b"
     ∷ refusedLine "\"a\"b"
     ∷ call example (sevens 19 ∷ sevens 6 ∷ sevens 12 ∷ sevens 21 ∷ sevens 33 ∷ []) (sevens 20) beginning (record {
-      answer = Findings 6 6;
+      answer = Findings 5 5;
       tables =
           (pos 0 ∷ pos 0 ∷ pos 0 ∷ pos 0 ∷ pos 0 ∷ pos 0
           ∷ pos 36 ∷ pos 37 ∷ pos 15000000 ∷ pos 20000000 ∷ pos 0 ∷ pos 0
@@ -114,13 +114,12 @@ starred =
           ∷ pos 7 ∷ [])
           ∷ [];
       list =
-          pos 4 ∷ pos 2 ∷ pos 31
-          ∷ pos 4 ∷ pos 3 ∷ pos 21
+          pos 4 ∷ pos 3 ∷ pos 21
           ∷ pos 4 ∷ pos 3 ∷ pos 30
           ∷ pos 5 ∷ pos 3 ∷ pos 29
           ∷ pos 5 ∷ pos 4 ∷ pos 21
           ∷ pos 5 ∷ pos 4 ∷ pos 28
-          ∷ pos 7 ∷ pos 7 ∷ [];
+          ∷ pos 7 ∷ pos 7 ∷ pos 7 ∷ pos 7 ∷ pos 7 ∷ [];
     })
     ∷ []
 
@@ -199,18 +198,18 @@ refusedCall =
     let tables : List (List ℤ) = sevens 12 ∷ sevens 6 ∷ sevens 10 ∷ sevens 14 ∷ sevens 24 ∷ [] in
     call (around oneStop oneTrip times) tables (sevens 4) beginning (record { answer = Refused (refusedAs 13 5 3); tables = tables; list = sevens 4 })
 
--- The feed in full, from its second finding on, with room for two: its third and its fourth, and the total of six.
+-- The feed in full, from its first finding on, with room for two: its second and its third, and the total of five.
 abbrev pub secondPage : Case
 secondPage =
     handed example (sevens 8) (record { file = pos 4; line = pos 3; rule = pos 21 })
-    (Findings 2 6) (pos 4 ∷ pos 3 ∷ pos 30 ∷ pos 5 ∷ pos 3 ∷ pos 29 ∷ pos 7 ∷ pos 7 ∷ [])
+    (Findings 2 5) (pos 4 ∷ pos 3 ∷ pos 30 ∷ pos 5 ∷ pos 3 ∷ pos 29 ∷ pos 7 ∷ pos 7 ∷ [])
 
--- The same feed in calls with room for four: four findings, then two, then none.
+-- The same feed in calls with room for four: four findings, then one, then none.
 abbrev pub threeCalls : Case
 threeCalls =
     called example (sevens 12) (again ∷ again ∷ again ∷ [])
-    ((pos 4 ∷ pos 2 ∷ pos 31 ∷ pos 4 ∷ pos 3 ∷ pos 21 ∷ pos 4 ∷ pos 3 ∷ pos 30 ∷ pos 5 ∷ pos 3 ∷ pos 29 ∷ [])
-    ∷ (pos 5 ∷ pos 4 ∷ pos 21 ∷ pos 5 ∷ pos 4 ∷ pos 28 ∷ [])
+    ((pos 4 ∷ pos 3 ∷ pos 21 ∷ pos 4 ∷ pos 3 ∷ pos 30 ∷ pos 5 ∷ pos 3 ∷ pos 29 ∷ pos 5 ∷ pos 4 ∷ pos 21 ∷ [])
+    ∷ (pos 5 ∷ pos 4 ∷ pos 28 ∷ [])
     ∷ []
     ∷ [])
 
@@ -235,12 +234,46 @@ entranceAlone =
     found (around "stop_id,stop_name,stop_lat,stop_lon,location_type,parent_station\nA,Alder,1.5,2,,\nE,Elm,1.5,2,2,\n" oneTrip twoTimes)
     (finding 1 3 22 ∷ [])
 
--- 28: sequence not above that of the nearest earlier line of the same trip. T goes from 5 to 4, with 1 on the line between; U from 1 to 2.
+-- Trip order is not file order. T goes from 5 to 4, with a line of U between: no rule is broken.
 abbrev pub tripsMixed : Case
 tripsMixed =
     found (around oneStop "route_id,service_id,trip_id\nR,W,T\nR,W,U\n"
-    "trip_id,arrival_time,departure_time,stop_id,stop_sequence\nT,8:00:00,8:00:00,A,5\nU,8:00:00,8:00:00,A,1\nT,8:00:00,8:00:00,A,4\nU,8:00:00,8:00:00,A,2\n")
+    "trip_id,arrival_time,departure_time,stop_id,stop_sequence\nT,8:05:00,8:05:00,A,5\nU,8:00:00,8:00:00,A,1\nT,8:00:00,8:00:00,A,4\nU,8:00:00,8:00:00,A,2\n") []
+
+-- 28: any earlier line, not only the one above, and by value: 01 is 1.
+abbrev pub sequenceAgain : Case
+sequenceAgain =
+    found (around oneStop oneTrip
+    "trip_id,arrival_time,departure_time,stop_id,stop_sequence\nT,8:00:00,8:00:00,A,1\nT,8:05:00,8:05:00,A,2\nT,8:00:00,8:00:00,A,01\n")
     (finding 5 4 28 ∷ [])
+
+-- 29: any line with a smaller sequence, also on a later line and not only the nearest; equal sequences don't count.
+-- The first stop is left at 8:30, on line 4. Sequence 3 arrives at 8:10 and sequence 2 at 8:00; line 5, at 7:00, has the sequence of line 4.
+abbrev pub fallsFarBack : Case
+fallsFarBack =
+    found (around oneStop oneTrip
+    "trip_id,arrival_time,departure_time,stop_id,stop_sequence\nT,8:10:00,8:10:00,A,3\nT,8:00:00,8:00:00,A,2\nT,8:00:00,8:30:00,A,1\nT,7:00:00,7:00:00,A,1\n")
+    (finding 5 2 29 ∷ finding 5 3 29 ∷ finding 5 5 28 ∷ [])
+
+-- 31: ties go to the earliest line, at the start and at the end: line 2, which isn't timed.
+abbrev pub tiesAtTheStart : Case
+tiesAtTheStart =
+    found (around oneStop oneTrip
+    "trip_id,arrival_time,departure_time,stop_id,stop_sequence\nT,,,A,1\nT,8:00:00,8:00:00,A,1\nT,8:05:00,8:05:00,A,2\nT,,,A,2\n")
+    (finding 4 2 31 ∷ finding 5 3 28 ∷ finding 5 5 28 ∷ [])
+
+abbrev pub tiesAtTheEnd : Case
+tiesAtTheEnd =
+    found (around oneStop oneTrip
+    "trip_id,arrival_time,departure_time,stop_id,stop_sequence\nT,,,A,2\nT,8:05:00,8:05:00,A,2\nT,8:00:00,8:00:00,A,1\nT,,,A,1\n")
+    (finding 4 2 31 ∷ finding 5 3 28 ∷ finding 5 5 28 ∷ [])
+
+-- 28 and 29 go by the value of trip_id: lines of a trip that stands nowhere are compared too.
+abbrev pub strayTrip : Case
+strayTrip =
+    found (around oneStop oneTrip
+    "trip_id,arrival_time,departure_time,stop_id,stop_sequence\nX,8:00:00,8:30:00,A,1\nT,8:00:00,8:00:00,A,1\nT,8:05:00,8:05:00,A,2\nX,8:10:00,8:10:00,A,2\nY,8:00:00,8:00:00,A,2\nX,9:00:00,9:00:00,A,2\n")
+    (finding 5 2 21 ∷ finding 5 5 21 ∷ finding 5 5 29 ∷ finding 5 6 21 ∷ finding 5 7 21 ∷ finding 5 7 28 ∷ [])
 
 -- Rules 30 and 31 concern only the first line of each trip_id: the second line of T breaks rule 20 alone.
 abbrev pub tripTwice : Case
@@ -287,6 +320,11 @@ worked =
     ∷ quotedId
     ∷ entranceAlone
     ∷ tripsMixed
+    ∷ sequenceAgain
+    ∷ fallsFarBack
+    ∷ tiesAtTheStart
+    ∷ tiesAtTheEnd
+    ∷ strayTrip
     ∷ tripTwice
     ∷ timeMissing
     ∷ tabQuoted

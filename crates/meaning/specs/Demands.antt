@@ -13,7 +13,7 @@ use Rattle.meaning.specs.Refusals.{Claim, claims}
 use Rattle.meaning.specs.Rules.{row}
 use Rattle.meaning.specs.Findings.{finding, findingsOf, answerNumbers}
 use Rattle.meaning.specs.Outcome.{Outcome}
-use Rattle.meaning.specs.Promises.{Ordered, Each, saysAccepted, saysRefused, FileClaim, LineClaim, speaksBefore, FirstBroken, NoneBroken, Ends, ValueKept, TimesNeverFall, BrokenAt, comesBefore, PageTold}
+use Rattle.meaning.specs.Promises.{Ordered, Each, saysAccepted, saysRefused, FileClaim, LineClaim, speaksBefore, FirstBroken, NoneBroken, Ends, ValueKept, TimesNeverFall, SequencesDiffer, BrokenAt, comesBefore, PageTold}
 use Rattle.meaning.specs.Held.{TablesHeld}
 use Rattle.meaning.specs.Calls.{Lending, Enough, CallsJoin}
 
@@ -51,6 +51,8 @@ pub record Demand2 (files : List (List ℕ)) (tables : List (List ℤ)) (o : Out
   pub accepted : answerNumbers (o .answer) ≡ saysAccepted ↔ Reads files tables × (findingsOf (feedOf files) ≡ [])
   -- in an accepted feed times never fall between any two timed lines of one trip, taken in trip order
   pub times : answerNumbers (o .answer) ≡ saysAccepted → TimesNeverFall (feedOf files)
+  -- which is the order of sequences: no two lines of one trip share one
+  pub sequences : answerNumbers (o .answer) ≡ saysAccepted → SequencesDiffer (feedOf files)
 
 pub record Demand3 (files : List (List ℕ)) (tables : List (List ℤ)) (list : List ℤ) (p : Place) (o : Outcome) : Type 0 where
   -- the findings are all the places where a binding rule is broken

@@ -39,11 +39,6 @@ unfoldable pub keep : {A : Type 0} → (A → Bool) → List A → List A
 keep P [] = []
 keep P (x ∷ r) = let k = keep P r in cond (P x) (x ∷ k) k
 
--- does a test hold of the first element
-unfoldable pub firstHas : {A : Type 0} → (A → Bool) → List A → Bool
-firstHas P [] = false
-firstHas P (x ∷ r) = P x
-
 -- does a test hold of the last element
 unfoldable pub lastHas : {A : Type 0} → (A → Bool) → List A → Bool
 lastHas P [] = false

@@ -16,7 +16,7 @@ use Rattle.meaning.specs.Bytes.{Line, linesOf, countLf, fields}
 use Rattle.meaning.specs.Columns.{places, headerOf}
 use Rattle.meaning.specs.Tables.{Feed, fileOf, timeTrip, widthOf}
 use Rattle.meaning.specs.Refusals.{Test, test, Claim, claim, maxBytes, maxLines, rule1, rule2, rule3, rule4, headTests, lineTests, long, blank, formless, refusal, verdictOf}
-use Rattle.meaning.specs.Rules.{row, timed, arrives, departs, rulesOf, recordCount}
+use Rattle.meaning.specs.Rules.{row, timed, arrives, departs, sequence, rulesOf, recordCount}
 use Rattle.meaning.specs.Findings.{Finding, after, triples, answerNumbers}
 use Rattle.meaning.specs.Outcome.{Outcome}
 
@@ -174,16 +174,27 @@ pub data First (v : List ℕ) (n : ℕ) (vs : List (List ℕ)) (r : ℕ) : Type 
       → ((j : ℕ) → j < k → same (getD vs j []) v ≡ false)
       → First v n vs r
 
--- times never fall between any two timed lines of one trip, taken in trip order
+-- times never fall between any two timed lines of one trip, taken in trip order: the one with the smaller sequence departs no later than the other arrives
 abbrev pub TimesNeverFall : Feed → Type 0
 TimesNeverFall w =
     (i j : ℕ)
-    → i < j
+    → i < length (w .stopTimes)
     → j < length (w .stopTimes)
     → same (timeTrip (row (w .stopTimes) i)) (timeTrip (row (w .stopTimes) j)) ≡ true
     → timed (row (w .stopTimes) i) ≡ true
     → timed (row (w .stopTimes) j) ≡ true
+    → sequence (row (w .stopTimes) i) < sequence (row (w .stopTimes) j)
     → departs (row (w .stopTimes) i) ≤ arrives (row (w .stopTimes) j)
+
+-- no two lines of one trip share a sequence: trip order leaves no two of them open
+abbrev pub SequencesDiffer : Feed → Type 0
+SequencesDiffer w =
+    (i j : ℕ)
+    → i < j
+    → j < length (w .stopTimes)
+    → same (timeTrip (row (w .stopTimes) i)) (timeTrip (row (w .stopTimes) j)) ≡ true
+    → sequence (row (w .stopTimes) i) ≡ sequence (row (w .stopTimes) j)
+    → ⊥
 
 -- ---- Demand 3
 

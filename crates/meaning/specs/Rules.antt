@@ -3,7 +3,7 @@ use Prim.Native.Nat.{ℕ, zero, suc, _+_, _-_}
 use mathlib.Core.List.{List, [], _∷_, _++_}
 use mathlib.Core.Bool.{Bool, true, false, not, _&&_, _||_}
 use lib.ListN.{length, getD, take}
-use lib.Dec.{leb, ltb, eqb}
+use lib.Dec.{ltb, eqb}
 use Rattle.meaning.specs.declared.Number.{Number}
 use Rattle.meaning.specs.declared.Number.the-variants.{Value, NoNumber}
 use Rattle.meaning.specs.declared.Time.{Time}
@@ -12,7 +12,7 @@ use Rattle.meaning.specs.declared.Date.{Date}
 use Rattle.meaning.specs.declared.Date.the-variants.{Day, NoDate}
 use Rattle.meaning.specs.declared.Choice.{Choice}
 use Rattle.meaning.specs.declared.Choice.the-variants.{Picked, NoChoice}
-use Rattle.meaning.specs.Lists.{same, empty, keep, firstHas, lastHas, stands}
+use Rattle.meaning.specs.Lists.{same, empty, some, keep, stands}
 use Rattle.meaning.specs.Columns.{Row}
 use Rattle.meaning.specs.Forms.{timeOf, dateOf, sequenceOf, choiceOf}
 use Rattle.meaning.specs.Tables.{Feed, stopIds, routeIds, serviceIds, tripIds, refer, locationType, parentStation, routeShortName, routeLongName, startDate, endDate, tripRoute, tripService, tripId, timeTrip, arrivalTime, departureTime, timeStop, stopSequence, timepoint, oneIf}
@@ -129,25 +129,37 @@ valueOf NoNumber = 0
 unfoldable pub sequence : Row → ℕ
 sequence r = valueOf (sequenceOf (stopSequence r))
 
--- "Same trip" means equal trip_id values: the lines of a trip. Trip order is file order.
+-- "Same trip" means equal trip_id values: the lines of a trip
 unfoldable pub ofTrip : List ℕ → List Row → List Row
 ofTrip v rs = keep (λ r. same (timeTrip r) v) rs
 
--- the earlier lines of the same trip, of which the last is the nearest
-unfoldable pub earlier : Feed → ℕ → List Row
-earlier w i = ofTrip (timeTrip (row (w .stopTimes) i)) (take i (w .stopTimes))
+-- Trip order is the order of sequences, whatever the order of the file. Of the line with index j of stop_times: its row
+abbrev pub timeRow : Feed → ℕ → Row
+timeRow w j = row (w .stopTimes) j
 
--- 28 (5): sequence not above that of the nearest earlier line of the same trip
+-- its sequence
+unfoldable pub sequenceAt : Feed → ℕ → ℕ
+sequenceAt w j = sequence (timeRow w j)
+
+-- is it a line of the trip v
+unfoldable pub isOf : Feed → List ℕ → ℕ → Bool
+isOf w v j = same (timeTrip (timeRow w j)) v
+
+-- 28 (5): an earlier line of the same trip has the same sequence
 unfoldable pub rule28 : Feed → ℕ → Bool
-rule28 w i =
-    let r = row (w .stopTimes) i in
-    lastHas (λ e. leb (sequence r) (sequence e)) (earlier w i)
+rule28 w i = some (λ j. isOf w (timeTrip (timeRow w i)) j && eqb (sequenceAt w j) (sequenceAt w i)) 0 i
 
--- 29 (5): a timed line arrives before the departure of the nearest earlier timed line of the same trip
+-- does the line with index j, a timed one with a smaller sequence, depart after the one with index i arrives
+unfoldable pub outruns : Feed → ℕ → ℕ → Bool
+outruns w j i =
+    timed (timeRow w j)
+    && (ltb (sequenceAt w j) (sequenceAt w i) && ltb (arrives (timeRow w i)) (departs (timeRow w j)))
+
+-- 29 (5): some timed line of the same trip with a smaller sequence departs after this timed line arrives
 unfoldable pub rule29 : Feed → ℕ → Bool
 rule29 w i =
-    let r = row (w .stopTimes) i in
-    timed r && lastHas (λ e. ltb (arrives r) (departs e)) (keep timed (earlier w i))
+    timed (timeRow w i)
+    && some (λ j. isOf w (timeTrip (timeRow w i)) j && outruns w j i) 0 (length (w .stopTimes))
 
 -- the stop_times lines of the trip on a line of file 4
 unfoldable pub ofTripLine : Feed → ℕ → List Row
@@ -161,9 +173,35 @@ firstOfTrip w i = not (rule20 (tripIds w) i)
 unfoldable pub rule30 : Feed → ℕ → Bool
 rule30 w i = firstOfTrip w i && ltb (length (ofTripLine w i)) 2
 
+-- the same sequence, on an earlier line: ties go to it
+unfoldable pub tiesBefore : Feed → ℕ → ℕ → Bool
+tiesBefore w j i = eqb (sequenceAt w j) (sequenceAt w i) && ltb j i
+
+-- the first line of the trip v: its sequence is the smallest
+unfoldable pub isFirst : Feed → List ℕ → ℕ → Bool
+isFirst w v i =
+    isOf w v i
+    && not
+    (some (λ j. isOf w v j && (ltb (sequenceAt w j) (sequenceAt w i) || tiesBefore w j i)) 0 (length (w .stopTimes)))
+
+-- the last line of the trip v: its sequence is the largest
+unfoldable pub isLast : Feed → List ℕ → ℕ → Bool
+isLast w v i =
+    isOf w v i
+    && not
+    (some (λ j. isOf w v j && (ltb (sequenceAt w i) (sequenceAt w j) || tiesBefore w j i)) 0 (length (w .stopTimes)))
+
+-- some line of stop_times that such a test says is one isn't timed
+unfoldable pub someUntimed : Feed → (ℕ → Bool) → Bool
+someUntimed w is = some (λ j. is j && untimed (timeRow w j)) 0 (length (w .stopTimes))
+
+-- the first or the last line of the trip v isn't timed
+unfoldable pub openEnded : Feed → List ℕ → Bool
+openEnded w v = someUntimed w (isFirst w v) || someUntimed w (isLast w v)
+
 -- 31 (4): its first or last stop_times line isn't timed; not tested with none
 unfoldable pub rule31 : Feed → ℕ → Bool
-rule31 w i = firstOfTrip w i && (firstHas untimed (ofTripLine w i) || lastHas untimed (ofTripLine w i))
+rule31 w i = firstOfTrip w i && openEnded w (tripId (row (w .trips) i))
 
 -- the rules of a line of each file, in the order of their numbers
 unfoldable pub stopRules : Feed → ℕ → List Test
