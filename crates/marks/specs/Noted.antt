@@ -30,7 +30,7 @@ pub record TripsNoted (w : Feed) (m : List ℕ) : Type 0 where
       → empty (tripId (row (w .trips) i)) ≡ false
       → firstOfTrip w i ≡ true
       → marked m pairedMark (i + 1) ≡ not (ltb (length (ofTripLine w i)) 2)
-  pub open :
+  pub open-ended :
       (i : ℕ)
       → i < length (w .trips)
       → empty (tripId (row (w .trips) i)) ≡ false
