@@ -6,18 +6,18 @@ use borrow.Author.Needs.{needs}
 use lib.ListN.{length}
 use Rattle.meaning.specs.Tables.{Feed}
 use Rattle.listing.specs.Handing.{state}
-use Rattle.file_rules.specs.Lines.{Ready}
-use Rattle.file_rules.proofs.Walk.{Left, left-first, left-next, left-last}
+use Rattle.file_rules.specs.Lines.{ruleCount, Ready}
+use Rattle.file_rules.proofs.Walk.{Left, left-first, left-next, left-last, count-first, count-next, count-last, count-small}
 use Rattle.file_rules.proofs.list_file.Statement.{statement}
 use Rattle.file_rules.proofs.list_file.Tie as tie
 
 abbrev Inv-loop : tie.InvT-loop
-Inv-loop f n t marks times first last out₀ p numbers rules sink₀ i₀ out sink i =
-    ((w : Feed) → Ready f n w t marks times first last → Left p f w i (state out sink) (state out₀ sink₀))
-    × ((i ≤ n) × ((sink .total ≤ sink₀ .total + 4 * i) × (length out ≡ length out₀)))
+Inv-loop f n t stops marks out₀ p numbers rules sink₀ i₀ out sink i =
+    ((w : Feed) → Ready f n w t stops marks → Left p f w i (state out sink) (state out₀ sink₀))
+    × ((i ≤ n) × ((sink .total ≤ sink₀ .total + ruleCount f * i) × (length out ≡ length out₀)))
 
 abbrev μ-loop : tie.MeasureT-loop
-μ-loop f n t marks times first last out₀ p numbers rules sink₀ i₀ out sink i = n - i
+μ-loop f n t stops marks out₀ p numbers rules sink₀ i₀ out sink i = n - i
 
 numbers-of-requires : tie.Need-numbers-of-requires Inv-loop μ-loop
 numbers-of-requires c κs =
@@ -29,7 +29,7 @@ count-of-requires c κs =
 
 loop-holds : tie.Need-loop-holds Inv-loop μ-loop
 loop-holds c =
-    (λ w h. left-first _ _ _ _, (omega arith, (omega arith, refl)))
+    (λ w h. left-first _ _ _ _, (omega arith, (count-first _ _, refl)))
 
 judge-line-requires : tie.Need-judge-line-requires Inv-loop μ-loop
 judge-line-requires c κs =

@@ -1,5 +1,0 @@
--- Indexes of lines.
-pub mod Ones
-pub mod Marks
-pub mod Trips
-pub mod Nearest
