@@ -149,8 +149,8 @@ module _ {w : Feed} {n : ℕ} {t stops : List ℤ} {marks : List ℕ} {i : ℕ} 
 pub in-file :
     (f k : ℕ)
     → f ≡ k
-    → {w : Feed} {n : ℕ} {t stops : List ℤ} {marks : List ℕ} {i : ℕ} (r : List Bool)
+    → (w : Feed) (i : ℕ) (r : List Bool) {n : ℕ} {t stops : List ℤ} {marks : List ℕ}
     → (Ready k n w t stops marks → Judges k w i r)
     → Ready f n w t stops marks
     → Judges f w i r
-in-file f k e r h g = rw e (h (rw e at g))
+in-file f k e w i r h g = rw e (h (rw e at g))

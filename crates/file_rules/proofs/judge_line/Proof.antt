@@ -24,32 +24,32 @@ time-line-requires c κs = search needs
 returns : tie.Need-returns
 returns c =
     λ w n h inside.
-    let e : c .before .before .before .before .before .args .f ≡ 1 = omega arith in
-    in-file _ 1 e _ (λ g. c .stop-line .ensures w n _ g inside) h
+    let e : c .before .before .before .args .f ≡ 1 = omega arith in
+    in-file _ 1 e w _ _ (λ g. c .stop-line .ensures w n _ g inside) h
 
 returns-2 : tie.Need-returns-2
 returns-2 c =
     λ w n h inside.
-    let e : c .before .before .before .before .before .args .f ≡ 2 = omega arith in
-    in-file _ 2 e _ (λ g. c .route-line .ensures w n _ _ g inside) h
+    let e : c .before .before .before .args .f ≡ 2 = omega arith in
+    in-file _ 2 e w _ _ (λ g. c .route-line .ensures w n _ _ g inside) h
 
 returns-3 : tie.Need-returns-3
 returns-3 c =
     λ w n h inside.
-    let e : c .before .before .before .before .before .args .f ≡ 3 = omega arith in
-    in-file _ 3 e _ (λ g. c .service-line .ensures w n _ g inside) h
+    let e : c .before .before .before .args .f ≡ 3 = omega arith in
+    in-file _ 3 e w _ _ (λ g. c .service-line .ensures w n _ g inside) h
 
 returns-4 : tie.Need-returns-4
 returns-4 c =
     λ w n h inside.
-    let e : c .before .before .before .before .before .args .f ≡ 4 = omega arith in
-    in-file _ 4 e _ (λ g. c .trip-line .ensures w n _ g inside) h
+    let e : c .before .before .before .args .f ≡ 4 = omega arith in
+    in-file _ 4 e w _ _ (λ g. c .trip-line .ensures w n _ g inside) h
 
 returns-5 : tie.Need-returns-5
 returns-5 c =
     λ w n h inside.
-    let e : c .before .before .before .before .before .args .f ≡ 5 = omega arith in
-    in-file _ 5 e _ (λ g. c .time-line .ensures w n g inside) h
+    let e : c .before .before .before .args .f ≡ 5 = omega arith in
+    in-file _ 5 e w _ _ (λ g. c .time-line .ensures w n g inside) h
 
 pub judge-line-spec : {M : Type 1} → statement M
 judge-line-spec =

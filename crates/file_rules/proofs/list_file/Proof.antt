@@ -41,7 +41,10 @@ add-note-line c =
 
 note-line-requires : tie.Need-note-line-requires Inv-loop μ-loop
 note-line-requires c κs =
-    omega (arith, c .before .before .before .before .before .before .before .before .before .pre, c .before .before .before .loop .inv .1, c .before .before .before .before .count-of .ensures .1)
+    let m = c .before .before .before .before .count-of .ensures in
+    let small = count-small _ _ _ _ (c .before .before .before .loop .inv .1 .1 .0) (rw (m .0) at (m .1)) in
+    let q = c .before .before .before .before .before .before .before .pre in
+    (omega (arith, q .1 .0), omega (arith, small, c .before .before .before .loop .inv .1 .0, c .before .before .loop-test .taken, q .1 .1))
 
 add-i : tie.Need-add-i Inv-loop μ-loop
 add-i c =
@@ -55,11 +58,11 @@ loop-again : tie.Need-loop-again Inv-loop μ-loop
 loop-again c =
     let l = c .before .before .before .before .before .loop in
     let n = c .before .note-line .ensures in
-    let m = c .before .before .before .before .before .before .count-of .ensures in (
+    let m = c .before .before .before .before .before .before .count-of .ensures in
+    let below = c .before .before .before .before .loop-test .taken in (
       λ w h.
-          left-next _ _ w _ _ _ _ _ h (l .i) (c .before .before .before .before .loop-test .taken) _ _ _ (c .before .before .before .before .before .before .before .numbers-of .ensures) (m .0)
-          (λ g. c .before .before .before .judge-line .ensures w g (h .ends)) _ _ _ _ (n .0) (l .inv .0 w h),
-      (omega arith, (omega (arith, n .1, m .1), search needs)),
+          left-next _ _ w _ _ _ h (l .i) below _ _ _ (c .before .before .before .before .before .before .before .numbers-of .ensures) (m .0) (c .before .before .before .judge-line .ensures w _ h below) _ _ _ _ (n .0) (l .inv .0 w h),
+      (omega arith, (count-next _ _ _ _ _ (l .inv .1 .1 .0) (rw (m .0) at (n .1)), search needs)),
     )
 
 same-length : tie.Need-same-length Inv-loop μ-loop
@@ -69,7 +72,7 @@ same-length c =
 returns : tie.Need-returns Inv-loop μ-loop
 returns c =
     let l = c .before .loop in
-    (λ w h. left-last _ _ w _ _ _ _ _ h (l .i) (c .loop-test .left) _ _ _ (l .inv .0 w h), omega arith)
+    (λ w h. left-last _ _ w _ _ _ h (l .i) (c .loop-test .left) _ _ _ (l .inv .0 w h), count-last _ _ (l .i) _ _ (l .inv .1 .1 .0) (l .inv .1 .0))
 
 pub list-file-spec : {M : Type 1} → statement M
 list-file-spec =
