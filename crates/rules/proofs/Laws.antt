@@ -1,11 +1,10 @@
 -- Laws: what the findings of each file rest on, and those of all five together.
 use Prim.Native.Nat.{ℕ, _+_, _*_, _-_, _≤_}
-use mathlib.Core.Path.{_≡_, refl, sym, ap, _∙_}
+use mathlib.Core.Path.{_≡_, sym, ap, _∙_}
 use mathlib.Core.List.{List, _++_}
 use native.Mathlib.Omega.{arith}
 use native.Mathlib.Nat.{mul-le-mul-left}
 use lib.IntN.{ℤ}
-use lib.ListN.{length}
 use Rattle.meaning.specs.declared.Place.{Place}
 use Rattle.meaning.specs.Bytes.{countLf}
 use Rattle.meaning.specs.Tables.{Feed}
