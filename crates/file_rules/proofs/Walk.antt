@@ -9,10 +9,10 @@ use lib.IntN.{ℤ}
 use lib.ListN.{length}
 use Rattle.meaning.specs.declared.Place.{Place}
 use Rattle.meaning.specs.Tables.{Feed}
-use Rattle.meaning.specs.Refusals.{Test, onLine}
+use Rattle.meaning.specs.Refusals.{onLine}
 use Rattle.meaning.specs.Rules.{recordCounts, recordCount, rulesOf, onRecords, bindingsOf}
 use Rattle.listing.specs.Handing.{State, noting}
-use Rattle.listing.proofs.Laws.{noting-append}
+use Rattle.listing.proofs.Laws.{noting-line, noting-end}
 use Rattle.judging.specs.Judging.{testsFrom}
 use Rattle.file_rules.specs.Lines.{rowsIn, ruleNumbers, ruleCount, Judges, Ready}
 
@@ -35,16 +35,6 @@ pub left-first : (p : Place) (f : ℕ) (w : Feed) (x : State) → Left p f w 0 x
 unfolding bindingsOf
 left-first p f w x = let e : recordCount w f - 0 ≡ recordCount w f = omega arith in rw e
 
-left-turn :
-    (p : Place) (f : ℕ) (rules : ℕ → List Test) (i n : ℕ) (x y : State)
-    → i < n
-    → y ≡ noting p (onLine f (i + 2) (rules i)) x
-    → noting p (onRecords f rules (i + 1) (n - (i + 1))) y ≡ noting p (onRecords f rules i (n - i)) x
-unfolding onRecords
-left-turn p f rules i n x y h e =
-    let m : n - i ≡ suc (n - (i + 1)) = omega arith in
-    rw (m, e) (sym (noting-append p (onLine f (i + 2) (rules i)) (onRecords f rules (i + 1) (n - (i + 1))) x))
-
 module _ (f n : ℕ) (w : Feed) (t stops : List ℤ) (marks : List ℕ) (h : Ready f n w t stops marks) where
   -- what line i breaks is noted
   pub left-next :
@@ -59,13 +49,12 @@ module _ (f n : ℕ) (w : Feed) (t stops : List ℤ) (marks : List ℕ) (h : Rea
       → Left p f w (i + 1) y x₀
   left-next i inside numbers broken rules u v judged p x x₀ y g inv =
       let k : testsFrom numbers broken rules ≡ rulesOf w f i = rw (u, v) judged in
-      left-turn p f (rulesOf w f) i (recordCount w f) x y (omega (arith, h .all)) (rw k at g) ∙ inv
+      rw (rw k at g) (sym (noting-line p f (rulesOf w f) (recordCount w f) x i (omega (arith, h .all))) ∙ inv)
 
   -- no line is left
   pub left-last : (i : ℕ) → n ≤ i → (p : Place) (x x₀ : State) → Left p f w i x x₀ → x ≡ noting p (bindingsOf w f) x₀
-  unfolding onRecords noting
   left-last i past p x x₀ inv =
-      let z : recordCount w f - i ≡ 0 = omega (arith, h .all) in rw z at inv
+      sym (noting-end p f (rulesOf w f) (recordCount w f) x i (omega (arith, h .all))) ∙ inv
 
 -- ---- how many there are at most, c on each line
 
