@@ -15,7 +15,7 @@ pub record Told (s : List ℕ) (t : List ℤ) (n : ℕ) (m : List ℕ) : Type 0 
   pub equal : (x : ℕ) → 0 < x → x ≤ n → marked m equalMark x ≡ rule28 (linesIn s t) x
   pub falls : (x : ℕ) → 0 < x → x ≤ n → marked m fallingMark x ≡ rule29 (linesIn s t) n x
   pub paired : (r : ℕ) → 0 < r → r < length m → marked m pairedMark r ≡ not (rule30 n (λ y. eqb (tripOf t 8 y) r))
-  pub open : (r : ℕ) → 0 < r → r < length m → marked m openMark r ≡ rule31 (linesIn s t) n (λ y. eqb (tripOf t 8 y) r)
+  pub opens : (r : ℕ) → 0 < r → r < length m → marked m openMark r ≡ rule31 (linesIn s t) n (λ y. eqb (tripOf t 8 y) r)
 
 -- marks 9 to 13 are not set
 abbrev pub Untold : List ℕ → Type 0

@@ -387,7 +387,8 @@ pub fn mark_times(s: &[u8], t: &mut [i32], n: usize, m: &mut [u16])
     requires { ⌜ Untold (now m) ⌝ }
     ensures { λ _. ⌜ KeptAt 7 8 n (now (t .entry)) (now (t .exit)) ⌝ }
     ensures { λ _. ⌜ Told (now (s .entry)) (now (t .entry)) n (now (m .exit)) ⌝ }
-    ensures { λ _. ⌜ KeptMarks (now (m .entry)) (now (m .exit)) ⌝ }
+    ensures { λ _. ⌜ length (now (m .exit)) ≡ length (now (m .entry)) ⌝ }
+    ensures { λ _. ⌜ ((b r : ℕ) → b < 9 → marked (now (m .exit)) b r ≡ marked (now (m .entry)) b r) ⌝ }
 {
     rank(s, t, n, m);
     walk(s, t, n, m);
