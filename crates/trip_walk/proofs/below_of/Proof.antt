@@ -1,3 +1,9 @@
+use mathlib.Core.Path.{_≡_, refl, sym, ap, _∙_}
+use mathlib.Core.Bool.{Bool, true, false, cond}
+use mathlib.Core.List.{List, [], _∷_}
+use Prim.Native.Nat.{ℕ, suc, zero, _≤_, _<_, _-_, _+_}
+use native.Mathlib.Omega.{arith}
+use lib.ListN.{length, getD, drop, take}
 use borrow.Author.Needs.{needs}
 use Rattle.trip_walk.proofs.below_of.Statement.{statement}
 use Rattle.trip_walk.proofs.below_of.Tie as tie
@@ -6,21 +12,17 @@ use Rattle.trip_walk.proofs.below_of.Lts as lts
 use Rattle.trip_walk.proofs.larger_of.Reads as larger-of-reads
 use Rattle.trip_walk.proofs.pick.Reads as pick-reads
 
--- src/lib.rt:196:9
 larger-of-requires : tie.Need-larger-of-requires
 larger-of-requires c κs = search needs
 
--- src/lib.rt:197:16
 pick-requires : tie.Need-pick-requires
 pick-requires c κs = search needs
 
--- src/lib.rt:197:5
 pick-requires-2 : tie.Need-pick-requires-2
 pick-requires-2 c κs = search needs
 
--- src/lib.rt:193:1
 returns : tie.Need-returns
-returns c = ?
+returns c = c .pick2 .ensures ∙ rw (c .before .pick .ensures, c .before .before .larger-of .ensures)
 
 pub below-of-spec : {M : Type 1} → statement M
 below-of-spec = tie.close (tie.spec larger-of-requires pick-requires pick-requires-2 returns)

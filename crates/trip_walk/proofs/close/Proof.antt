@@ -1,3 +1,10 @@
+use Rattle.trip_walk.proofs.Turns.{closed-going, closed-first, closed-ended}
+use mathlib.Core.Path.{_≡_, refl, sym, ap, _∙_}
+use mathlib.Core.Bool.{Bool, true, false, cond}
+use mathlib.Core.List.{List, [], _∷_}
+use Prim.Native.Nat.{ℕ, suc, zero, _≤_, _<_, _-_, _+_}
+use native.Mathlib.Omega.{arith}
+use lib.ListN.{length, getD, drop, take}
 use borrow.Author.Needs.{needs}
 use Rattle.trip_walk.proofs.close.Statement.{statement}
 use Rattle.trip_walk.proofs.close.Tie as tie
@@ -5,29 +12,23 @@ use Rattle.trip_walk.proofs.close.Reads as reads
 use Rattle.trip_walk.proofs.close.Lts as lts
 use Rattle.trip_walk.proofs.tell_trip.Reads as tell-trip-reads
 
--- src/lib.rt:287:9
 returns : tie.Need-returns
-returns c = ?
+returns c = λ s. closed-going s _ _ _ _ _ _ (c .if1 .taken)
 
--- src/lib.rt:290:9
 returns-2 : tie.Need-returns-2
-returns-2 c = ?
+returns-2 c = λ s. closed-first s _ _ _ _ _ _ (c .if2 .taken)
 
--- src/lib.rt:292:18
 sub-tell-trip : tie.Need-sub-tell-trip
 sub-tell-trip c = search needs
 
--- src/lib.rt:292:5
 tell-trip-requires : tie.Need-tell-trip-requires
 tell-trip-requires c κs = search needs
 
--- src/lib.rt:283:1
 same-length : tie.Need-same-length
-same-length c = search needs
+same-length c = c .before .before .tell-trip .ensures .size
 
--- src/lib.rt:283:1
 returns-3 : tie.Need-returns-3
-returns-3 c = ?
+returns-3 c = λ s. closed-ended s _ _ _ _ _ _ _ (c .before .before .before .before .before .if1 .left) (c .before .before .before .before .if2 .left) (c .before .before .tell-trip .ensures)
 
 pub close-spec : {M : Type 1} → statement M
 close-spec =

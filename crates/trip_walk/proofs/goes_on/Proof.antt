@@ -1,3 +1,10 @@
+use Rattle.trip_walk.proofs.File.{goes-linked, goes-fresh, goes-out}
+use mathlib.Core.Path.{_≡_, refl, sym, ap, _∙_}
+use mathlib.Core.Bool.{Bool, true, false, cond}
+use mathlib.Core.List.{List, [], _∷_}
+use Prim.Native.Nat.{ℕ, suc, zero, _≤_, _<_, _-_, _+_}
+use native.Mathlib.Omega.{arith}
+use lib.ListN.{length, getD, drop, take}
 use borrow.Author.Needs.{needs}
 use Rattle.trip_walk.proofs.goes_on.Statement.{statement}
 use Rattle.trip_walk.proofs.goes_on.Tie as tie
@@ -9,49 +16,38 @@ use Rattle.rows.proofs.StopTimes.trip_at.Reads as trip-at-reads
 use Rattle.trip_walk.proofs.both.Reads as both-reads
 use Rattle.trip_walk.proofs.is_after.Reads as is-after-reads
 
--- src/lib.rt:337:43
 add-both : tie.Need-add-both
 add-both c = search needs
 
--- src/lib.rt:337:13
 trip-at-requires : tie.Need-trip-at-requires
 trip-at-requires c κs = search needs
 
--- src/lib.rt:338:8
 both-requires : tie.Need-both-requires
 both-requires c κs = search needs
 
--- src/lib.rt:339:12
 is-after-requires : tie.Need-is-after-requires
 is-after-requires c κs = search needs
 
--- src/lib.rt:340:17
 sequence-at-requires : tie.Need-sequence-at-requires
 sequence-at-requires c κs = search needs
 
--- src/lib.rt:341:55
 add-t15 : tie.Need-add-t15
 add-t15 c = search needs
 
--- src/lib.rt:341:17
 sequence-at-requires-2 : tie.Need-sequence-at-requires-2
 sequence-at-requires-2 c κs = search needs
 
--- src/lib.rt:342:13
 returns : tie.Need-returns
-returns c = ?
+returns c = goes-linked (c .before .before .before .before .before .before .before .before .args .t .now) (c .before .before .before .before .before .before .before .before .args .m .now) (c .before .before .before .before .before .before .before .before .args .i) _ _ (c .before .before .before .before .before .before .trip-at .ensures) (c .before .before .before .before .before .both .ensures) _ _ _ (c .before .before .before .before .if1 .taken) (c .before .before .before .is-after .ensures) (c .before .before .if2 .taken) (c .before .sequence-at .ensures) (c .sequence-at2 .ensures)
 
--- src/lib.rt:344:17
 is-marked-requires : tie.Need-is-marked-requires
 is-marked-requires c κs = search needs
 
--- src/lib.rt:344:9
 returns-2 : tie.Need-returns-2
-returns-2 c = ?
+returns-2 c = goes-fresh (c .before .before .before .before .before .before .before .args .t .now) (c .before .before .before .before .before .before .before .args .m .now) (c .before .before .before .before .before .before .before .args .i) _ _ (c .before .before .before .before .before .trip-at .ensures) (c .before .before .before .before .both .ensures) _ _ (c .before .before .before .if1 .taken) (c .before .before .is-after .ensures) (c .before .if2 .left) (c .is-marked .ensures)
 
--- src/lib.rt:333:1
 returns-3 : tie.Need-returns-3
-returns-3 c = ?
+returns-3 c = goes-out (c .before .before .before .before .args .t .now) (c .before .before .before .before .args .m .now) (c .before .before .before .before .args .i) _ _ (c .before .before .trip-at .ensures) (c .before .both .ensures) (c .if1 .left)
 
 pub goes-on-spec : {M : Type 1} → statement M
 goes-on-spec =

@@ -1,3 +1,9 @@
+use mathlib.Core.Path.{_≡_, refl, sym, ap, _∙_}
+use mathlib.Core.Bool.{Bool, true, false, cond}
+use mathlib.Core.List.{List, [], _∷_}
+use Prim.Native.Nat.{ℕ, suc, zero, _≤_, _<_, _-_, _+_}
+use native.Mathlib.Omega.{arith}
+use lib.ListN.{length, getD, drop, take}
 use borrow.Author.Needs.{needs}
 use Rattle.trip_walk.proofs.is_open.Statement.{statement}
 use Rattle.trip_walk.proofs.is_open.Tie as tie
@@ -7,29 +13,23 @@ use Rattle.trip_walk.proofs.either.Reads as either-reads
 use Rattle.trip_walk.proofs.is_untimed.Reads as is-untimed-reads
 use Rattle.trip_walk.proofs.line_at.Reads as line-at-reads
 
--- src/lib.rt:268:31
 line-at-requires : tie.Need-line-at-requires
 line-at-requires c κs = search needs
 
--- src/lib.rt:268:9
 is-untimed-requires : tie.Need-is-untimed-requires
 is-untimed-requires c κs = search needs
 
--- src/lib.rt:269:30
 line-at-requires-2 : tie.Need-line-at-requires-2
 line-at-requires-2 c κs = search needs
 
--- src/lib.rt:269:9
 is-untimed-requires-2 : tie.Need-is-untimed-requires-2
 is-untimed-requires-2 c κs = search needs
 
--- src/lib.rt:270:5
 either-requires : tie.Need-either-requires
 either-requires c κs = search needs
 
--- src/lib.rt:265:1
 returns : tie.Need-returns
-returns c = ?
+returns c = c .either .ensures ∙ rw (c .before .before .before .is-untimed .ensures, c .before .is-untimed2 .ensures, c .before .before .before .before .line-at .ensures, c .before .before .line-at2 .ensures)
 
 pub is-open-spec : {M : Type 1} → statement M
 is-open-spec =

@@ -1,3 +1,10 @@
+use Rattle.trip_walk.proofs.Turns.{repeats-here, repeats-not}
+use mathlib.Core.Path.{_≡_, refl, sym, ap, _∙_}
+use mathlib.Core.Bool.{Bool, true, false, cond}
+use mathlib.Core.List.{List, [], _∷_}
+use Prim.Native.Nat.{ℕ, suc, zero, _≤_, _<_, _-_, _+_}
+use native.Mathlib.Omega.{arith}
+use lib.ListN.{length, getD, drop, take}
 use borrow.Author.Needs.{needs}
 use Rattle.trip_walk.proofs.is_repeat.Statement.{statement}
 use Rattle.trip_walk.proofs.is_repeat.Tie as tie
@@ -6,33 +13,26 @@ use Rattle.trip_walk.proofs.is_repeat.Lts as lts
 use Rattle.rows.proofs.StopTimes.sequence_at.Reads as sequence-at-reads
 use Rattle.trip_walk.proofs.line_at.Reads as line-at-reads
 
--- src/lib.rt:172:61
 sub-line-at : tie.Need-sub-line-at
 sub-line-at c = search needs
 
--- src/lib.rt:172:50
 line-at-requires : tie.Need-line-at-requires
 line-at-requires c κs = search needs
 
--- src/lib.rt:172:16
 sequence-at-requires : tie.Need-sequence-at-requires
 sequence-at-requires c κs = search needs
 
--- src/lib.rt:173:50
 line-at-requires-2 : tie.Need-line-at-requires-2
 line-at-requires-2 c κs = search needs
 
--- src/lib.rt:173:16
 sequence-at-requires-2 : tie.Need-sequence-at-requires-2
 sequence-at-requires-2 c κs = search needs
 
--- src/lib.rt:172:9
 returns : tie.Need-returns
-returns c = ?
+returns c = λ s e. repeats-here s (c .before .before .before .before .before .args .t .now) (c .before .before .before .before .before .args .k) _ _ _ _ (c .before .before .before .before .before .args .link) (c .before .before .before .before .if1 .taken) e (c .before .before .before .line-at .ensures) (c .before .line-at2 .ensures) (c .before .before .sequence-at .ensures) (c .sequence-at2 .ensures)
 
--- src/lib.rt:167:1
 returns-2 : tie.Need-returns-2
-returns-2 c = ?
+returns-2 c = λ s e. repeats-not s (c .before .args .t .now) (c .before .args .k) (c .before .args .link) (c .if1 .left) e
 
 pub is-repeat-spec : {M : Type 1} → statement M
 is-repeat-spec =

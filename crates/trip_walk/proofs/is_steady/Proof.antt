@@ -1,3 +1,13 @@
+use borrow.Author.Tests.{not-true, not-false}
+use Rattle.meaning.proofs.ListLaws.{both}
+use Rattle.trip_walk.proofs.File.{Filing, file-start, file-turn, file-end, file-stop}
+use mathlib.Core.Path.{_≡_, refl, sym, ap, _∙_}
+use mathlib.Core.Bool.{Bool, true, false, cond}
+use mathlib.Core.List.{List, [], _∷_}
+use Prim.Native.Nat.{ℕ, suc, zero, _≤_, _<_, _-_, _+_}
+use native.Mathlib.Omega.{arith}
+use lib.ListN.{length, getD, drop, take}
+use borrow.Author.Needs.{needs}
 use Rattle.trip_walk.proofs.is_steady.Statement.{statement}
 use Rattle.trip_walk.proofs.is_steady.Tie as tie
 use Rattle.trip_walk.proofs.is_steady.Reads as reads
@@ -7,58 +17,49 @@ use Rattle.rows.proofs.StopTimes.trip_at.Reads as trip-at-reads
 use Rattle.trip_walk.proofs.goes_on.Reads as goes-on-reads
 
 abbrev Inv-loop : tie.InvT-loop
-Inv-loop t n m₀ i₀ m i = ?
+Inv-loop t n m₀ i₀ m i = (i ≤ n) × Filing t m₀ m i
 
 abbrev μ-loop : tie.MeasureT-loop
-μ-loop t n m₀ i₀ m i = ?
+μ-loop t n m₀ i₀ m i = n - i
 
--- src/lib.rt:358:5
 loop-holds : tie.Need-loop-holds Inv-loop μ-loop
-loop-holds c = ?
+loop-holds c = (omega arith, file-start _ _ (c .before .pre .1))
 
--- src/lib.rt:359:13
 goes-on-requires : tie.Need-goes-on-requires Inv-loop μ-loop
-goes-on-requires c κs = ?
+goes-on-requires c κs = omega arith
 
--- src/lib.rt:360:13
 same-length : tie.Need-same-length Inv-loop μ-loop
-same-length c = ?
+same-length c = c .before .before .before .before .loop .inv .1 .kept .size
 
--- src/lib.rt:360:13
 returns : tie.Need-returns Inv-loop μ-loop
-returns c = ?
+returns c = (λ s e. both false e refl, (λ s room. file-stop _ s _ _ _ _ _ (c .before .before .before .before .loop .inv .1) (c .before .before .before .loop-test .taken) room (c .before .goes-on .ensures) (not-true _ (c .if1 .taken)), c .before .before .before .before .loop .inv .1 .kept))
 
--- src/lib.rt:362:47
 add-t11 : tie.Need-add-t11 Inv-loop μ-loop
-add-t11 c = ?
+add-t11 c = omega arith
 
--- src/lib.rt:362:17
 trip-at-requires : tie.Need-trip-at-requires Inv-loop μ-loop
-trip-at-requires c κs = ?
+trip-at-requires c κs = search needs
 
--- src/lib.rt:363:9
 mark-requires : tie.Need-mark-requires Inv-loop μ-loop
-mark-requires c κs = ?
+mark-requires c κs = omega arith
 
--- src/lib.rt:364:9
 add-i : tie.Need-add-i Inv-loop μ-loop
-add-i c = ?
+add-i c = omega arith
 
--- src/lib.rt:358:5
 loop-less : tie.Need-loop-less Inv-loop μ-loop
-loop-less c = ?
+loop-less c = omega arith
 
--- src/lib.rt:358:5
 loop-again : tie.Need-loop-again Inv-loop μ-loop
-loop-again c = ?
+loop-again c = (omega arith, file-turn _ _ _ _ _ _ _ (c .before .before .before .before .before .before .before .before .before .loop .inv .1) (c .before .before .before .before .before .before .goes-on .ensures) (not-false _ (c .before .before .before .before .before .if1 .left)) (c .before .before .before .before .trip-at .ensures) (c .before .before .mark .ensures))
 
--- src/lib.rt:350:1
 same-length-2 : tie.Need-same-length-2 Inv-loop μ-loop
-same-length-2 c = ?
+same-length-2 c = c .before .loop .inv .1 .kept .size
 
--- src/lib.rt:350:1
 returns-2 : tie.Need-returns-2 Inv-loop μ-loop
-returns-2 c = ?
+returns-2 c =
+    let n = c .before .before .before .args .n in
+    let e : c .before .loop .i ≡ n = omega (arith, c .before .loop .inv .0) in
+    (λ s z. file-end _ s _ (rw e at (c .before .loop .inv .1 .goes s)), (λ s room. sym (rw e at (c .before .loop .inv .1 .goes s)), c .before .loop .inv .1 .kept))
 
 pub is-steady-spec : {M : Type 1} → statement M
 is-steady-spec =

@@ -1,3 +1,9 @@
+use mathlib.Core.Path.{_≡_, refl, sym, ap, _∙_}
+use mathlib.Core.Bool.{Bool, true, false, cond}
+use mathlib.Core.List.{List, [], _∷_}
+use Prim.Native.Nat.{ℕ, suc, zero, _≤_, _<_, _-_, _+_}
+use native.Mathlib.Omega.{arith}
+use lib.ListN.{length, getD, drop, take}
 use borrow.Author.Needs.{needs}
 use Rattle.trip_walk.proofs.next.Statement.{statement}
 use Rattle.trip_walk.proofs.next.Tie as tie
@@ -9,33 +15,26 @@ use Rattle.trip_walk.proofs.is_late.Reads as is-late-reads
 use Rattle.trip_walk.proofs.leaving.Reads as leaving-reads
 use Rattle.trip_walk.proofs.pick.Reads as pick-reads
 
--- src/lib.rt:214:9
 below-of-requires : tie.Need-below-of-requires
 below-of-requires c κs = search needs
 
--- src/lib.rt:217:33
 leaving-requires : tie.Need-leaving-requires
 leaving-requires c κs = search needs
 
--- src/lib.rt:217:15
 here-of-requires : tie.Need-here-of-requires
 here-of-requires c κs = search needs
 
--- src/lib.rt:218:15
 pick-requires : tie.Need-pick-requires
 pick-requires c κs = search needs
 
--- src/lib.rt:219:17
 pick-requires-2 : tie.Need-pick-requires-2
 pick-requires-2 c κs = search needs
 
--- src/lib.rt:222:16
 is-late-requires : tie.Need-is-late-requires
 is-late-requires c κs = search needs
 
--- src/lib.rt:208:1
 returns : tie.Need-returns
-returns c = ?
+returns c = ((c .before .before .before .before .before .below-of .ensures, c .before .before .before .here-of .ensures ∙ rw (c .before .before .before .before .leaving .ensures)), ((c .before .before .pick .ensures, c .before .pick2 .ensures), ((refl, refl), c .is-late .ensures ∙ rw (c .before .before .before .before .before .below-of .ensures))))
 
 pub next-spec : {M : Type 1} → statement M
 next-spec =

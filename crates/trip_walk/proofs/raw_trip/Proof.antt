@@ -1,3 +1,10 @@
+use Rattle.trip_walk.proofs.Turns.{raw-is}
+use mathlib.Core.Path.{_≡_, refl, sym, ap, _∙_}
+use mathlib.Core.Bool.{Bool, true, false, cond}
+use mathlib.Core.List.{List, [], _∷_}
+use Prim.Native.Nat.{ℕ, suc, zero, _≤_, _<_, _-_, _+_}
+use native.Mathlib.Omega.{arith}
+use lib.ListN.{length, getD, drop, take}
 use borrow.Author.Needs.{needs}
 use Rattle.trip_walk.proofs.raw_trip.Statement.{statement}
 use Rattle.trip_walk.proofs.raw_trip.Tie as tie
@@ -6,21 +13,17 @@ use Rattle.trip_walk.proofs.raw_trip.Lts as lts
 use Rattle.ordering.proofs.part_of.Reads as part-of-reads
 use Rattle.rows.proofs.cells.nat_of.Reads as nat-of-reads
 
--- src/lib.rt:136:9
 nat-of-requires : tie.Need-nat-of-requires
 nat-of-requires c κs = search needs
 
--- src/lib.rt:137:9
 nat-of-requires-2 : tie.Need-nat-of-requires-2
 nat-of-requires-2 c κs = search needs
 
--- src/lib.rt:138:5
 part-of-requires : tie.Need-part-of-requires
 part-of-requires c κs = search needs
 
--- src/lib.rt:133:1
 returns : tie.Need-returns
-returns c = ?
+returns c = raw-is (c .before .before .before .before .args .s .now) (c .before .before .before .before .args .t .now) (c .before .before .before .before .args .x) _ _ _ (c .before .before .nat-of .ensures) (c .before .nat-of2 .ensures) (c .part-of .ensures)
 
 pub raw-trip-spec : {M : Type 1} → statement M
 raw-trip-spec = tie.close (tie.spec nat-of-requires nat-of-requires-2 part-of-requires returns)

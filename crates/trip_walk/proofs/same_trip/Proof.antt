@@ -1,3 +1,10 @@
+use Rattle.trip_walk.proofs.Turns.{trips-differ, trips-stand, trips-stray}
+use mathlib.Core.Path.{_≡_, refl, sym, ap, _∙_}
+use mathlib.Core.Bool.{Bool, true, false, cond}
+use mathlib.Core.List.{List, [], _∷_}
+use Prim.Native.Nat.{ℕ, suc, zero, _≤_, _<_, _-_, _+_}
+use native.Mathlib.Omega.{arith}
+use lib.ListN.{length, getD, drop, take}
 use borrow.Author.Needs.{needs}
 use Rattle.trip_walk.proofs.same_trip.Statement.{statement}
 use Rattle.trip_walk.proofs.same_trip.Tie as tie
@@ -7,35 +14,27 @@ use Rattle.rows.proofs.StopTimes.trip_at.Reads as trip-at-reads
 use Rattle.text.proofs.same_value.Reads as same-value-reads
 use Rattle.trip_walk.proofs.raw_trip.Reads as raw-trip-reads
 
--- src/lib.rt:145:13
 trip-at-requires : tie.Need-trip-at-requires
 trip-at-requires c κs = search needs
 
--- src/lib.rt:146:13
 trip-at-requires-2 : tie.Need-trip-at-requires-2
 trip-at-requires-2 c κs = search needs
 
--- src/lib.rt:148:9
 returns : tie.Need-returns
 returns c = ?
 
--- src/lib.rt:151:9
 returns-2 : tie.Need-returns-2
 returns-2 c = ?
 
--- src/lib.rt:153:22
 raw-trip-requires : tie.Need-raw-trip-requires
 raw-trip-requires c κs = search needs
 
--- src/lib.rt:153:41
 raw-trip-requires-2 : tie.Need-raw-trip-requires-2
 raw-trip-requires-2 c κs = search needs
 
--- src/lib.rt:153:5
 same-value-requires : tie.Need-same-value-requires
 same-value-requires c κs = search needs
 
--- src/lib.rt:142:1
 returns-3 : tie.Need-returns-3
 returns-3 c = ?
 

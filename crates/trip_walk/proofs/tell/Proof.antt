@@ -1,3 +1,10 @@
+use Rattle.trip_walk.proofs.Telling.{told-both}
+use mathlib.Core.Path.{_≡_, refl, sym, ap, _∙_}
+use mathlib.Core.Bool.{Bool, true, false, cond}
+use mathlib.Core.List.{List, [], _∷_}
+use Prim.Native.Nat.{ℕ, suc, zero, _≤_, _<_, _-_, _+_}
+use native.Mathlib.Omega.{arith}
+use lib.ListN.{length, getD, drop, take}
 use borrow.Author.Needs.{needs}
 use Rattle.trip_walk.proofs.tell.Statement.{statement}
 use Rattle.trip_walk.proofs.tell.Tie as tie
@@ -5,21 +12,17 @@ use Rattle.trip_walk.proofs.tell.Reads as reads
 use Rattle.trip_walk.proofs.tell.Lts as lts
 use Rattle.trip_walk.proofs.tell_one.Reads as tell-one-reads
 
--- src/lib.rt:252:5
 tell-one-requires : tie.Need-tell-one-requires
-tell-one-requires c κs = search needs
+tell-one-requires c κs = omega (arith, c .before .before .pre .0, c .before .before .pre .1)
 
--- src/lib.rt:253:5
 tell-one-requires-2 : tie.Need-tell-one-requires-2
-tell-one-requires-2 c κs = search needs
+tell-one-requires-2 c κs = c .before .before .before .before .before .before .pre .1
 
--- src/lib.rt:248:1
 same-length : tie.Need-same-length
-same-length c = search needs
+same-length c = c .before .before .tell-one2 .ensures .size ∙ c .before .before .before .before .before .before .tell-one .ensures .size
 
--- src/lib.rt:248:1
 returns : tie.Need-returns
-returns c = ?
+returns c = told-both _ _ _ _ _ _ _ _ (c .before .before .before .before .before .before .before .before .before .pre .0) (c .before .before .before .before .before .before .tell-one .ensures) (c .before .before .tell-one2 .ensures)
 
 pub tell-spec : {M : Type 1} → statement M
 tell-spec = tie.close (tie.spec tell-one-requires tell-one-requires-2 same-length returns)

@@ -1,3 +1,10 @@
+use Rattle.trip_walk.proofs.Telling.{told-yes, told-no}
+use mathlib.Core.Path.{_≡_, refl, sym, ap, _∙_}
+use mathlib.Core.Bool.{Bool, true, false, cond}
+use mathlib.Core.List.{List, [], _∷_}
+use Prim.Native.Nat.{ℕ, suc, zero, _≤_, _<_, _-_, _+_}
+use native.Mathlib.Omega.{arith}
+use lib.ListN.{length, getD, drop, take}
 use borrow.Author.Needs.{needs}
 use Rattle.trip_walk.proofs.tell_one.Statement.{statement}
 use Rattle.trip_walk.proofs.tell_one.Tie as tie
@@ -5,21 +12,17 @@ use Rattle.trip_walk.proofs.tell_one.Reads as reads
 use Rattle.trip_walk.proofs.tell_one.Lts as lts
 use Rattle.marks.proofs.mark.Reads as mark-reads
 
--- src/lib.rt:243:9
 mark-requires : tie.Need-mark-requires
-mark-requires c κs = search needs
+mark-requires c κs = c .before .before .before .pre
 
--- src/lib.rt:238:1
 same-length : tie.Need-same-length
-same-length c = search needs
+same-length c = c .before .before .mark .ensures .size
 
--- src/lib.rt:238:1
 returns : tie.Need-returns
-returns c = ?
+returns c = told-yes _ _ _ _ _ (c .before .before .before .before .if1 .taken) (c .before .before .mark .ensures)
 
--- src/lib.rt:238:1
 returns-2 : tie.Need-returns-2
-returns-2 c = ?
+returns-2 c = told-no _ _ _ _ (c .if1 .left)
 
 pub tell-one-spec : {M : Type 1} → statement M
 tell-one-spec = tie.close (tie.spec mark-requires same-length returns returns-2)

@@ -1,3 +1,10 @@
+use Rattle.trip_walk.proofs.Turns.{trip-told}
+use mathlib.Core.Path.{_≡_, refl, sym, ap, _∙_}
+use mathlib.Core.Bool.{Bool, true, false, cond}
+use mathlib.Core.List.{List, [], _∷_}
+use Prim.Native.Nat.{ℕ, suc, zero, _≤_, _<_, _-_, _+_}
+use native.Mathlib.Omega.{arith}
+use lib.ListN.{length, getD, drop, take}
 use borrow.Author.Needs.{needs}
 use Rattle.trip_walk.proofs.tell_trip.Statement.{statement}
 use Rattle.trip_walk.proofs.tell_trip.Tie as tie
@@ -8,29 +15,23 @@ use Rattle.trip_walk.proofs.is_open.Reads as is-open-reads
 use Rattle.trip_walk.proofs.line_at.Reads as line-at-reads
 use Rattle.trip_walk.proofs.tell.Reads as tell-reads
 
--- src/lib.rt:277:43
 line-at-requires : tie.Need-line-at-requires
 line-at-requires c κs = search needs
 
--- src/lib.rt:277:13
 trip-at-requires : tie.Need-trip-at-requires
 trip-at-requires c κs = search needs
 
--- src/lib.rt:278:9
 is-open-requires : tie.Need-is-open-requires
 is-open-requires c κs = search needs
 
--- src/lib.rt:279:5
 tell-requires : tie.Need-tell-requires
-tell-requires c κs = search needs
+tell-requires c κs = (omega arith, omega arith)
 
--- src/lib.rt:274:1
 same-length : tie.Need-same-length
-same-length c = search needs
+same-length c = c .before .before .tell .ensures .size
 
--- src/lib.rt:274:1
 returns : tie.Need-returns
-returns c = ?
+returns c = trip-told _ _ _ _ _ _ _ _ _ (c .before .before .before .before .before .before .before .line-at .ensures) (c .before .before .before .before .before .before .trip-at .ensures) (c .before .before .before .before .before .is-open .ensures) (c .before .before .tell .ensures)
 
 pub tell-trip-spec : {M : Type 1} → statement M
 tell-trip-spec =

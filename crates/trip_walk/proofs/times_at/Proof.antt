@@ -1,3 +1,10 @@
+use Rattle.trip_walk.specs.Table.{timedIn}
+use mathlib.Core.Path.{_≡_, refl, sym, ap, _∙_}
+use mathlib.Core.Bool.{Bool, true, false, cond}
+use mathlib.Core.List.{List, [], _∷_}
+use Prim.Native.Nat.{ℕ, suc, zero, _≤_, _<_, _-_, _+_}
+use native.Mathlib.Omega.{arith}
+use lib.ListN.{length, getD, drop, take}
 use borrow.Author.Needs.{needs}
 use Rattle.trip_walk.proofs.times_at.Statement.{statement}
 use Rattle.trip_walk.proofs.times_at.Tie as tie
@@ -9,37 +16,30 @@ use Rattle.trip_walk.proofs.both.Reads as both-reads
 use Rattle.trip_walk.proofs.is_given.Reads as is-given-reads
 use Rattle.trip_walk.proofs.seconds_of.Reads as seconds-of-reads
 
--- src/lib.rt:123:9
 arrival-at-requires : tie.Need-arrival-at-requires
 arrival-at-requires c κs = search needs
 
--- src/lib.rt:124:9
 departure-at-requires : tie.Need-departure-at-requires
 departure-at-requires c κs = search needs
 
--- src/lib.rt:126:21
 is-given-requires : tie.Need-is-given-requires
 is-given-requires c κs = search needs
 
--- src/lib.rt:126:34
 is-given-requires-2 : tie.Need-is-given-requires-2
 is-given-requires-2 c κs = search needs
 
--- src/lib.rt:126:16
 both-requires : tie.Need-both-requires
 both-requires c κs = search needs
 
--- src/lib.rt:127:18
 seconds-of-requires : tie.Need-seconds-of-requires
 seconds-of-requires c κs = search needs
 
--- src/lib.rt:128:18
 seconds-of-requires-2 : tie.Need-seconds-of-requires-2
 seconds-of-requires-2 c κs = search needs
 
--- src/lib.rt:120:1
 returns : tie.Need-returns
-returns c = ?
+unfolding timedIn
+returns c = (rw (c .before .before .both .ensures, c .before .before .before .before .is-given .ensures, c .before .before .before .is-given2 .ensures, c .before .before .before .before .before .before .arrival-at .ensures, c .before .before .before .before .before .departure-at .ensures), (rw (c .before .seconds-of .ensures, c .before .before .before .before .before .before .arrival-at .ensures), rw (c .seconds-of2 .ensures, c .before .before .before .before .before .departure-at .ensures)))
 
 pub times-at-spec : {M : Type 1} → statement M
 times-at-spec =

@@ -1,3 +1,10 @@
+use Rattle.trip_walk.proofs.Turns.{turned}
+use mathlib.Core.Path.{_≡_, refl, sym, ap, _∙_}
+use mathlib.Core.Bool.{Bool, true, false, cond}
+use mathlib.Core.List.{List, [], _∷_}
+use Prim.Native.Nat.{ℕ, suc, zero, _≤_, _<_, _-_, _+_}
+use native.Mathlib.Omega.{arith}
+use lib.ListN.{length, getD, drop, take}
 use borrow.Author.Needs.{needs}
 use Rattle.trip_walk.proofs.turn.Statement.{statement}
 use Rattle.trip_walk.proofs.turn.Tie as tie
@@ -9,29 +16,25 @@ use Rattle.trip_walk.proofs.line_at.Reads as line-at-reads
 use Rattle.trip_walk.proofs.next.Reads as next-reads
 use Rattle.trip_walk.proofs.times_at.Reads as times-at-reads
 
--- src/lib.rt:231:9
 is-linked-requires : tie.Need-is-linked-requires
 is-linked-requires c κs = search needs
 
--- src/lib.rt:232:9
 is-repeat-requires : tie.Need-is-repeat-requires
 is-repeat-requires c κs = search needs
 
--- src/lib.rt:233:25
 line-at-requires : tie.Need-line-at-requires
 line-at-requires c κs = search needs
 
--- src/lib.rt:233:9
 times-at-requires : tie.Need-times-at-requires
 times-at-requires c κs = search needs
 
--- src/lib.rt:234:5
 next-requires : tie.Need-next-requires
 next-requires c κs = search needs
 
--- src/lib.rt:227:1
 returns : tie.Need-returns
-returns c = ?
+returns c =
+    turned (c .before .before .before .before .before .before .args .s .now) (c .before .before .before .before .before .before .args .t .now) (c .before .before .before .before .before .before .args .k) _ _ _ _ _ _ _ _ (c .before .before .before .before .is-linked .result) (c .before .before .before .is-repeat .result) _ (c .before .before .line-at .result) (c .before .times-at .result .timed) (c .before .times-at .result .arrives) (c .before .times-at .result .departs) _ _
+    (c .before .before .before .before .is-linked .ensures) (c .before .before .before .is-repeat .ensures _ (c .before .before .before .before .is-linked .ensures)) (c .before .before .line-at .ensures) (c .before .times-at .ensures) (c .next .ensures .0) (c .next .ensures .1 .0) (c .next .ensures .1 .1 .0) (c .next .ensures .1 .1 .1)
 
 pub turn-spec : {M : Type 1} → statement M
 turn-spec =
