@@ -29,22 +29,22 @@ module _ (s : List ℕ) (t : List ℤ) (x y a b : ℕ) (p : a ≡ natAt t (x * 8
   unfolding tripOf
   is-trip z c e = sym e
 
-  pub trips-differ : eqb a b ≡ false → false ≡ sameIn s t x y
+  pub trips-differ : (a ≡ b → ⊥) → false ≡ sameIn s t x y
   unfolding sameIn
-  trips-differ e = rw (is-trip x a p, is-trip y b q, e)
+  trips-differ n = rw (is-trip x a p, is-trip y b q, ne-eqb a b n)
 
-  pub trips-stand : eqb a b ≡ true → a ≡ b → (a ≡ 0 → ⊥) → true ≡ sameIn s t x y
+  pub trips-stand : a ≡ b → (a ≡ 0 → ⊥) → true ≡ sameIn s t x y
   unfolding sameIn strayId
-  trips-stand e i n =
+  trips-stand i n =
       let z : eqb b 0 ≡ false = ne-eqb b 0 (λ k. n (i ∙ k)) in
-      rw (is-trip x a p, is-trip y b q, e, ne-eqb a 0 n, z) (sym (same-self []))
+      rw (is-trip x a p, is-trip y b q, eq-eqb a b i, ne-eqb a 0 n, z) (sym (same-self []))
 
-  pub trips-stray : (u v : List ℕ) (r : Bool) → eqb a b ≡ true → a ≡ b → a ≡ 0 → u ≡ part s (boundsAt t (x * 8 + 5)) → v ≡ part s (boundsAt t (y * 8 + 5))
+  pub trips-stray : (u v : List ℕ) (r : Bool) → a ≡ b → a ≡ 0 → u ≡ part s (boundsAt t (x * 8 + 5)) → v ≡ part s (boundsAt t (y * 8 + 5))
       → r ≡ same (value u) (value v) → r ≡ sameIn s t x y
   unfolding sameIn strayId
-  trips-stray u v r e i z k l m =
+  trips-stray u v r i z k l m =
       let z′ : eqb b 0 ≡ true = eq-eqb b 0 (sym i ∙ z) in
-      m ∙ rw (is-trip x a p, is-trip y b q, e, eq-eqb a 0 z, z′, k, l)
+      m ∙ rw (is-trip x a p, is-trip y b q, eq-eqb a b i, eq-eqb a 0 z, z′, k, l)
 
 -- ---- a cell and the one before
 
