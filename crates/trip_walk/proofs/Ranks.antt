@@ -1,9 +1,8 @@
 -- Two orders of lines in which trips stand together and rise: the file's own, where it will do, and the sorted one.
 use Prim.Native.Nat.{ℕ, _+_, _*_, _^_, _≤_, _<_}
 use native.Mathlib.Omega.{arith}
-use mathlib.Core.Path.{_≡_, sym, ap, _∙_, subst}
+use mathlib.Core.Path.{_≡_, sym, subst}
 use mathlib.Core.List.{List}
-use mathlib.Core.Bool.{true}
 use lib.IntN.{ℤ}
 use lib.ListN.{length}
 use Rattle.ordering.specs.declared.By.the-variants.{TripAndSequence}

@@ -15,8 +15,8 @@ use Rattle.ordering.specs.Ids.{Whole, Apart}
 use Rattle.ordering.proofs.Laws.{Alike, yes, no, alike}
 use Rattle.trip_order.specs.Lines.{Lines, Trips}
 use Rattle.trip_order.specs.Cells.{Grouped, ends}
-use Rattle.trip_order.proofs.Tests.{Found, some-found, Standing, below, level, over, standing}
-use Rattle.trip_order.proofs.Ends.{past-end, End, end-of}
+use Rattle.trip_order.proofs.Tests.{Found, some-found, below}
+use Rattle.trip_order.proofs.Ends.{past-end, end-of}
 use Rattle.trip_walk.specs.Told.{ToldOne, ToldTwo}
 
 -- ---- one mark, and two

@@ -3,15 +3,15 @@ use Prim.Native.Nat.{ℕ, _+_, _-_, _≤_, _<_}
 use native.Mathlib.Omega.{arith}
 use mathlib.Core.Path.{_≡_, refl, sym, ap, _∙_}
 use mathlib.Core.List.{List}
-use mathlib.Core.Bool.{Bool, true, false, not, _&&_, _||_}
+use mathlib.Core.Bool.{Bool, true, false, not, _||_}
 use mathlib.Core.Logic.{_⊎_, inl, inr}
-use lib.Dec.{eqb, ltb}
+use lib.Dec.{eqb}
 use lib.ListN.{length}
 use borrow.Author.Tests.{lt-ltb, le-ltb}
 use Rattle.marks.specs.Marks.{marked, equalMark, fallingMark, pairedMark, openMark}
 use Rattle.ordering.specs.Ids.{Whole, Apart}
 use Rattle.trip_order.specs.Lines.{Lines, Trips, rule28, rule29, rule30, rule31}
-use Rattle.trip_order.specs.Cells.{Grouped, linked, repeats, ends, Walked, nextLower}
+use Rattle.trip_order.specs.Cells.{Grouped, linked, ends, Walked}
 use Rattle.trip_order.proofs.Tests.{Standing, below, level, over, standing}
 use Rattle.trip_order.proofs.Sequences.{rule28-cell, rule29-cell}
 use Rattle.trip_order.proofs.Steps.{walk-next}

@@ -1,16 +1,9 @@
+-- `trip_walk::close` meets its contract.
 use Rattle.trip_walk.proofs.Turns.{closed-going, closed-first, closed-ended}
-use mathlib.Core.Path.{_≡_, refl, sym, ap, _∙_}
-use mathlib.Core.Bool.{Bool, true, false, cond}
-use mathlib.Core.List.{List, [], _∷_}
-use Prim.Native.Nat.{ℕ, suc, zero, _≤_, _<_, _-_, _+_}
-use native.Mathlib.Omega.{arith}
-use lib.ListN.{length, getD, drop, take}
+use Prim.Native.Nat.{_-_}
 use borrow.Author.Needs.{needs}
 use Rattle.trip_walk.proofs.close.Statement.{statement}
 use Rattle.trip_walk.proofs.close.Tie as tie
-use Rattle.trip_walk.proofs.close.Reads as reads
-use Rattle.trip_walk.proofs.close.Lts as lts
-use Rattle.trip_walk.proofs.tell_trip.Reads as tell-trip-reads
 
 returns : tie.Need-returns
 returns c = λ s. closed-going s _ _ _ _ _ _ (c .if1 .taken)

@@ -1,20 +1,9 @@
+-- `trip_walk::goes_on` meets its contract.
 use Rattle.trip_walk.proofs.File.{goes-linked, goes-fresh, goes-out}
-use mathlib.Core.Path.{_≡_, refl, sym, ap, _∙_}
-use mathlib.Core.Bool.{Bool, true, false, cond}
-use mathlib.Core.List.{List, [], _∷_}
-use Prim.Native.Nat.{ℕ, suc, zero, _≤_, _<_, _-_, _+_}
-use native.Mathlib.Omega.{arith}
-use lib.ListN.{length, getD, drop, take}
+use Prim.Native.Nat.{_-_}
 use borrow.Author.Needs.{needs}
 use Rattle.trip_walk.proofs.goes_on.Statement.{statement}
 use Rattle.trip_walk.proofs.goes_on.Tie as tie
-use Rattle.trip_walk.proofs.goes_on.Reads as reads
-use Rattle.trip_walk.proofs.goes_on.Lts as lts
-use Rattle.marks.proofs.is_marked.Reads as is-marked-reads
-use Rattle.rows.proofs.StopTimes.sequence_at.Reads as sequence-at-reads
-use Rattle.rows.proofs.StopTimes.trip_at.Reads as trip-at-reads
-use Rattle.trip_walk.proofs.both.Reads as both-reads
-use Rattle.trip_walk.proofs.is_after.Reads as is-after-reads
 
 add-both : tie.Need-add-both
 add-both c = search needs

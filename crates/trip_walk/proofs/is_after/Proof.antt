@@ -1,17 +1,9 @@
+-- `trip_walk::is_after` meets its contract.
 use Rattle.trip_walk.proofs.File.{after-is}
-use mathlib.Core.Path.{_≡_, refl, sym, ap, _∙_}
-use mathlib.Core.Bool.{Bool, true, false, cond}
-use mathlib.Core.List.{List, [], _∷_}
-use Prim.Native.Nat.{ℕ, suc, zero, _≤_, _<_, _-_, _+_}
-use native.Mathlib.Omega.{arith}
-use lib.ListN.{length, getD, drop, take}
+use Prim.Native.Nat.{_-_}
 use borrow.Author.Needs.{needs}
 use Rattle.trip_walk.proofs.is_after.Statement.{statement}
 use Rattle.trip_walk.proofs.is_after.Tie as tie
-use Rattle.trip_walk.proofs.is_after.Reads as reads
-use Rattle.trip_walk.proofs.is_after.Lts as lts
-use Rattle.rows.proofs.StopTimes.trip_at.Reads as trip-at-reads
-use Rattle.trip_walk.proofs.both.Reads as both-reads
 
 trip-at-requires : tie.Need-trip-at-requires
 trip-at-requires c κs = search needs

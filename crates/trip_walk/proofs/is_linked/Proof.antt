@@ -1,17 +1,9 @@
+-- `trip_walk::is_linked` meets its contract.
 use Rattle.trip_walk.proofs.Turns.{linked-here, linked-one}
-use mathlib.Core.Path.{_≡_, refl, sym, ap, _∙_}
-use mathlib.Core.Bool.{Bool, true, false, cond}
-use mathlib.Core.List.{List, [], _∷_}
-use Prim.Native.Nat.{ℕ, suc, zero, _≤_, _<_, _-_, _+_}
-use native.Mathlib.Omega.{arith}
-use lib.ListN.{length, getD, drop, take}
+use Prim.Native.Nat.{_-_}
 use borrow.Author.Needs.{needs}
 use Rattle.trip_walk.proofs.is_linked.Statement.{statement}
 use Rattle.trip_walk.proofs.is_linked.Tie as tie
-use Rattle.trip_walk.proofs.is_linked.Reads as reads
-use Rattle.trip_walk.proofs.is_linked.Lts as lts
-use Rattle.trip_walk.proofs.line_at.Reads as line-at-reads
-use Rattle.trip_walk.proofs.same_trip.Reads as same-trip-reads
 
 sub-line-at : tie.Need-sub-line-at
 sub-line-at c = search needs

@@ -1,17 +1,9 @@
-use mathlib.Core.Path.{_≡_, refl, sym, ap, _∙_}
-use mathlib.Core.Bool.{Bool, true, false, cond}
-use mathlib.Core.List.{List, [], _∷_}
-use Prim.Native.Nat.{ℕ, suc, zero, _≤_, _<_, _-_, _+_}
-use native.Mathlib.Omega.{arith}
-use lib.ListN.{length, getD, drop, take}
+-- `trip_walk::is_open` meets its contract.
+use mathlib.Core.Path.{_∙_}
+use Prim.Native.Nat.{_-_}
 use borrow.Author.Needs.{needs}
 use Rattle.trip_walk.proofs.is_open.Statement.{statement}
 use Rattle.trip_walk.proofs.is_open.Tie as tie
-use Rattle.trip_walk.proofs.is_open.Reads as reads
-use Rattle.trip_walk.proofs.is_open.Lts as lts
-use Rattle.trip_walk.proofs.either.Reads as either-reads
-use Rattle.trip_walk.proofs.is_untimed.Reads as is-untimed-reads
-use Rattle.trip_walk.proofs.line_at.Reads as line-at-reads
 
 line-at-requires : tie.Need-line-at-requires
 line-at-requires c κs = search needs

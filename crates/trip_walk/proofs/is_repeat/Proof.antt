@@ -1,17 +1,9 @@
+-- `trip_walk::is_repeat` meets its contract.
 use Rattle.trip_walk.proofs.Turns.{repeats-here, repeats-not}
-use mathlib.Core.Path.{_≡_, refl, sym, ap, _∙_}
-use mathlib.Core.Bool.{Bool, true, false, cond}
-use mathlib.Core.List.{List, [], _∷_}
-use Prim.Native.Nat.{ℕ, suc, zero, _≤_, _<_, _-_, _+_}
-use native.Mathlib.Omega.{arith}
-use lib.ListN.{length, getD, drop, take}
+use Prim.Native.Nat.{_-_}
 use borrow.Author.Needs.{needs}
 use Rattle.trip_walk.proofs.is_repeat.Statement.{statement}
 use Rattle.trip_walk.proofs.is_repeat.Tie as tie
-use Rattle.trip_walk.proofs.is_repeat.Reads as reads
-use Rattle.trip_walk.proofs.is_repeat.Lts as lts
-use Rattle.rows.proofs.StopTimes.sequence_at.Reads as sequence-at-reads
-use Rattle.trip_walk.proofs.line_at.Reads as line-at-reads
 
 sub-line-at : tie.Need-sub-line-at
 sub-line-at c = search needs

@@ -1,20 +1,14 @@
+-- `trip_walk::is_steady` meets its contract.
 use borrow.Author.Tests.{not-true, not-false}
 use Rattle.meaning.proofs.ListLaws.{both}
 use Rattle.trip_walk.proofs.File.{Filing, file-start, file-turn, file-end, file-stop}
-use mathlib.Core.Path.{_≡_, refl, sym, ap, _∙_}
-use mathlib.Core.Bool.{Bool, true, false, cond}
-use mathlib.Core.List.{List, [], _∷_}
-use Prim.Native.Nat.{ℕ, suc, zero, _≤_, _<_, _-_, _+_}
+use mathlib.Core.Path.{_≡_, refl, sym}
+use mathlib.Core.Bool.{false}
+use Prim.Native.Nat.{_≤_, _-_}
 use native.Mathlib.Omega.{arith}
-use lib.ListN.{length, getD, drop, take}
 use borrow.Author.Needs.{needs}
 use Rattle.trip_walk.proofs.is_steady.Statement.{statement}
 use Rattle.trip_walk.proofs.is_steady.Tie as tie
-use Rattle.trip_walk.proofs.is_steady.Reads as reads
-use Rattle.trip_walk.proofs.is_steady.Lts as lts
-use Rattle.marks.proofs.mark.Reads as mark-reads
-use Rattle.rows.proofs.StopTimes.trip_at.Reads as trip-at-reads
-use Rattle.trip_walk.proofs.goes_on.Reads as goes-on-reads
 
 abbrev Inv-loop : tie.InvT-loop
 Inv-loop t n m₀ i₀ m i = (i ≤ n) × Filing t m₀ m i

@@ -1,7 +1,7 @@
-use mathlib.Core.Path.{_≡_, refl, sym, ap, _∙_}
-use Prim.Native.Nat.{ℕ, _≤_, _<_, _-_, _+_}
+-- `trip_walk::mark_times` meets its contract.
+use mathlib.Core.Path.{_∙_}
+use Prim.Native.Nat.{_-_}
 use native.Mathlib.Omega.{arith}
-use borrow.Author.Needs.{needs}
 use Rattle.trip_walk.proofs.Table.{told-kept}
 use Rattle.trip_walk.proofs.mark_times.Statement.{statement}
 use Rattle.trip_walk.proofs.mark_times.Tie as tie

@@ -1,19 +1,9 @@
-use mathlib.Core.Path.{_≡_, refl, sym, ap, _∙_}
-use mathlib.Core.Bool.{Bool, true, false, cond}
-use mathlib.Core.List.{List, [], _∷_}
-use Prim.Native.Nat.{ℕ, suc, zero, _≤_, _<_, _-_, _+_}
-use native.Mathlib.Omega.{arith}
-use lib.ListN.{length, getD, drop, take}
+-- `trip_walk::next` meets its contract.
+use mathlib.Core.Path.{refl, _∙_}
+use Prim.Native.Nat.{_-_}
 use borrow.Author.Needs.{needs}
 use Rattle.trip_walk.proofs.next.Statement.{statement}
 use Rattle.trip_walk.proofs.next.Tie as tie
-use Rattle.trip_walk.proofs.next.Reads as reads
-use Rattle.trip_walk.proofs.next.Lts as lts
-use Rattle.trip_walk.proofs.below_of.Reads as below-of-reads
-use Rattle.trip_walk.proofs.here_of.Reads as here-of-reads
-use Rattle.trip_walk.proofs.is_late.Reads as is-late-reads
-use Rattle.trip_walk.proofs.leaving.Reads as leaving-reads
-use Rattle.trip_walk.proofs.pick.Reads as pick-reads
 
 below-of-requires : tie.Need-below-of-requires
 below-of-requires c κs = search needs

@@ -1,8 +1,7 @@
-use mathlib.Core.Path.{_≡_, refl, sym, ap, _∙_}
-use Prim.Native.Nat.{ℕ, _≤_, _<_, _-_, _+_}
+-- `trip_walk::rank` meets its contract.
+use mathlib.Core.Path.{_∙_}
+use Prim.Native.Nat.{_-_}
 use native.Mathlib.Omega.{arith}
-use borrow.Author.Needs.{needs}
-use Rattle.ordering.specs.Cells.{RoomAt}
 use Rattle.ordering.proofs.Laws.{kept-trans}
 use Rattle.trip_walk.proofs.Ranks.{ranged-file, ranged-sorted}
 use Rattle.trip_walk.proofs.rank.Statement.{statement}

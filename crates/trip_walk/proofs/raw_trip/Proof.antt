@@ -1,17 +1,9 @@
+-- `trip_walk::raw_trip` meets its contract.
 use Rattle.trip_walk.proofs.Turns.{raw-is}
-use mathlib.Core.Path.{_≡_, refl, sym, ap, _∙_}
-use mathlib.Core.Bool.{Bool, true, false, cond}
-use mathlib.Core.List.{List, [], _∷_}
-use Prim.Native.Nat.{ℕ, suc, zero, _≤_, _<_, _-_, _+_}
-use native.Mathlib.Omega.{arith}
-use lib.ListN.{length, getD, drop, take}
+use Prim.Native.Nat.{_-_}
 use borrow.Author.Needs.{needs}
 use Rattle.trip_walk.proofs.raw_trip.Statement.{statement}
 use Rattle.trip_walk.proofs.raw_trip.Tie as tie
-use Rattle.trip_walk.proofs.raw_trip.Reads as reads
-use Rattle.trip_walk.proofs.raw_trip.Lts as lts
-use Rattle.ordering.proofs.part_of.Reads as part-of-reads
-use Rattle.rows.proofs.cells.nat_of.Reads as nat-of-reads
 
 nat-of-requires : tie.Need-nat-of-requires
 nat-of-requires c κs = search needs

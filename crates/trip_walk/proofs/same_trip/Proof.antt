@@ -1,18 +1,9 @@
+-- `trip_walk::same_trip` meets its contract.
 use Rattle.trip_walk.proofs.Turns.{trips-differ, trips-stand, trips-stray}
-use mathlib.Core.Path.{_≡_, refl, sym, ap, _∙_}
-use mathlib.Core.Bool.{Bool, true, false, cond}
-use mathlib.Core.List.{List, [], _∷_}
-use Prim.Native.Nat.{ℕ, suc, zero, _≤_, _<_, _-_, _+_}
-use native.Mathlib.Omega.{arith}
-use lib.ListN.{length, getD, drop, take}
+use Prim.Native.Nat.{_-_}
 use borrow.Author.Needs.{needs}
 use Rattle.trip_walk.proofs.same_trip.Statement.{statement}
 use Rattle.trip_walk.proofs.same_trip.Tie as tie
-use Rattle.trip_walk.proofs.same_trip.Reads as reads
-use Rattle.trip_walk.proofs.same_trip.Lts as lts
-use Rattle.rows.proofs.StopTimes.trip_at.Reads as trip-at-reads
-use Rattle.text.proofs.same_value.Reads as same-value-reads
-use Rattle.trip_walk.proofs.raw_trip.Reads as raw-trip-reads
 
 trip-at-requires : tie.Need-trip-at-requires
 trip-at-requires c κs = search needs

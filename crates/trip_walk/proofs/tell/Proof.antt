@@ -1,16 +1,10 @@
+-- `trip_walk::tell` meets its contract.
 use Rattle.trip_walk.proofs.Telling.{told-both}
-use mathlib.Core.Path.{_≡_, refl, sym, ap, _∙_}
-use mathlib.Core.Bool.{Bool, true, false, cond}
-use mathlib.Core.List.{List, [], _∷_}
-use Prim.Native.Nat.{ℕ, suc, zero, _≤_, _<_, _-_, _+_}
+use mathlib.Core.Path.{_∙_}
+use Prim.Native.Nat.{_-_}
 use native.Mathlib.Omega.{arith}
-use lib.ListN.{length, getD, drop, take}
-use borrow.Author.Needs.{needs}
 use Rattle.trip_walk.proofs.tell.Statement.{statement}
 use Rattle.trip_walk.proofs.tell.Tie as tie
-use Rattle.trip_walk.proofs.tell.Reads as reads
-use Rattle.trip_walk.proofs.tell.Lts as lts
-use Rattle.trip_walk.proofs.tell_one.Reads as tell-one-reads
 
 tell-one-requires : tie.Need-tell-one-requires
 tell-one-requires c κs = omega (arith, c .before .before .pre .0, c .before .before .pre .1)

@@ -1,16 +1,8 @@
+-- `trip_walk::tell_one` meets its contract.
 use Rattle.trip_walk.proofs.Telling.{told-yes, told-no}
-use mathlib.Core.Path.{_≡_, refl, sym, ap, _∙_}
-use mathlib.Core.Bool.{Bool, true, false, cond}
-use mathlib.Core.List.{List, [], _∷_}
-use Prim.Native.Nat.{ℕ, suc, zero, _≤_, _<_, _-_, _+_}
-use native.Mathlib.Omega.{arith}
-use lib.ListN.{length, getD, drop, take}
-use borrow.Author.Needs.{needs}
+use Prim.Native.Nat.{_-_}
 use Rattle.trip_walk.proofs.tell_one.Statement.{statement}
 use Rattle.trip_walk.proofs.tell_one.Tie as tie
-use Rattle.trip_walk.proofs.tell_one.Reads as reads
-use Rattle.trip_walk.proofs.tell_one.Lts as lts
-use Rattle.marks.proofs.mark.Reads as mark-reads
 
 mark-requires : tie.Need-mark-requires
 mark-requires c κs = c .before .before .before .pre

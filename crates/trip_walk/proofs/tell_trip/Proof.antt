@@ -1,19 +1,10 @@
+-- `trip_walk::tell_trip` meets its contract.
 use Rattle.trip_walk.proofs.Turns.{trip-told}
-use mathlib.Core.Path.{_≡_, refl, sym, ap, _∙_}
-use mathlib.Core.Bool.{Bool, true, false, cond}
-use mathlib.Core.List.{List, [], _∷_}
-use Prim.Native.Nat.{ℕ, suc, zero, _≤_, _<_, _-_, _+_}
+use Prim.Native.Nat.{_-_}
 use native.Mathlib.Omega.{arith}
-use lib.ListN.{length, getD, drop, take}
 use borrow.Author.Needs.{needs}
 use Rattle.trip_walk.proofs.tell_trip.Statement.{statement}
 use Rattle.trip_walk.proofs.tell_trip.Tie as tie
-use Rattle.trip_walk.proofs.tell_trip.Reads as reads
-use Rattle.trip_walk.proofs.tell_trip.Lts as lts
-use Rattle.rows.proofs.StopTimes.trip_at.Reads as trip-at-reads
-use Rattle.trip_walk.proofs.is_open.Reads as is-open-reads
-use Rattle.trip_walk.proofs.line_at.Reads as line-at-reads
-use Rattle.trip_walk.proofs.tell.Reads as tell-reads
 
 line-at-requires : tie.Need-line-at-requires
 line-at-requires c κs = search needs

@@ -1,20 +1,9 @@
+-- `trip_walk::times_at` meets its contract.
 use Rattle.trip_walk.specs.Table.{timedIn}
-use mathlib.Core.Path.{_≡_, refl, sym, ap, _∙_}
-use mathlib.Core.Bool.{Bool, true, false, cond}
-use mathlib.Core.List.{List, [], _∷_}
-use Prim.Native.Nat.{ℕ, suc, zero, _≤_, _<_, _-_, _+_}
-use native.Mathlib.Omega.{arith}
-use lib.ListN.{length, getD, drop, take}
+use Prim.Native.Nat.{_-_}
 use borrow.Author.Needs.{needs}
 use Rattle.trip_walk.proofs.times_at.Statement.{statement}
 use Rattle.trip_walk.proofs.times_at.Tie as tie
-use Rattle.trip_walk.proofs.times_at.Reads as reads
-use Rattle.trip_walk.proofs.times_at.Lts as lts
-use Rattle.rows.proofs.StopTimes.arrival_at.Reads as arrival-at-reads
-use Rattle.rows.proofs.StopTimes.departure_at.Reads as departure-at-reads
-use Rattle.trip_walk.proofs.both.Reads as both-reads
-use Rattle.trip_walk.proofs.is_given.Reads as is-given-reads
-use Rattle.trip_walk.proofs.seconds_of.Reads as seconds-of-reads
 
 arrival-at-requires : tie.Need-arrival-at-requires
 arrival-at-requires c κs = search needs

@@ -1,20 +1,9 @@
+-- `trip_walk::turn` meets its contract.
 use Rattle.trip_walk.proofs.Turns.{turned}
-use mathlib.Core.Path.{_≡_, refl, sym, ap, _∙_}
-use mathlib.Core.Bool.{Bool, true, false, cond}
-use mathlib.Core.List.{List, [], _∷_}
-use Prim.Native.Nat.{ℕ, suc, zero, _≤_, _<_, _-_, _+_}
-use native.Mathlib.Omega.{arith}
-use lib.ListN.{length, getD, drop, take}
+use Prim.Native.Nat.{_-_}
 use borrow.Author.Needs.{needs}
 use Rattle.trip_walk.proofs.turn.Statement.{statement}
 use Rattle.trip_walk.proofs.turn.Tie as tie
-use Rattle.trip_walk.proofs.turn.Reads as reads
-use Rattle.trip_walk.proofs.turn.Lts as lts
-use Rattle.trip_walk.proofs.is_linked.Reads as is-linked-reads
-use Rattle.trip_walk.proofs.is_repeat.Reads as is-repeat-reads
-use Rattle.trip_walk.proofs.line_at.Reads as line-at-reads
-use Rattle.trip_walk.proofs.next.Reads as next-reads
-use Rattle.trip_walk.proofs.times_at.Reads as times-at-reads
 
 is-linked-requires : tie.Need-is-linked-requires
 is-linked-requires c κs = search needs

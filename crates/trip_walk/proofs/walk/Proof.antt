@@ -1,22 +1,13 @@
+-- `trip_walk::walk` meets its contract.
 use Rattle.ordering.specs.Ids.{tripOf}
 use Rattle.trip_walk.specs.Table.{linesIn, cellsIn}
 use Rattle.trip_walk.proofs.Table.{trips-in, one-record, by-record}
 use Rattle.trip_walk.proofs.Walking.{Walking, walking-start, walking-turn, walking-end, all-lines, all-trips}
-use mathlib.Core.Path.{_≡_, refl, sym, ap, _∙_}
-use mathlib.Core.Bool.{Bool, true, false, cond}
-use mathlib.Core.List.{List, [], _∷_}
-use Prim.Native.Nat.{ℕ, suc, zero, _≤_, _<_, _-_, _+_}
+use Prim.Native.Nat.{_-_, _+_}
 use native.Mathlib.Omega.{arith}
-use lib.ListN.{length, getD, drop, take}
 use borrow.Author.Needs.{needs}
 use Rattle.trip_walk.proofs.walk.Statement.{statement}
 use Rattle.trip_walk.proofs.walk.Tie as tie
-use Rattle.trip_walk.proofs.walk.Reads as reads
-use Rattle.trip_walk.proofs.walk.Lts as lts
-use Rattle.trip_walk.proofs.close.Reads as close-reads
-use Rattle.trip_walk.proofs.line_at.Reads as line-at-reads
-use Rattle.trip_walk.proofs.tell.Reads as tell-reads
-use Rattle.trip_walk.proofs.turn.Reads as turn-reads
 
 abbrev Inv-loop : tie.InvT-loop
 Inv-loop s t n m₀ a₀ k₀ m a k = Walking (linesIn s t) (tripOf t 8) (cellsIn t) n k m₀ m (a .below) (a .here) (a .from) (a .begins)
