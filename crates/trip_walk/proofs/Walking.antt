@@ -16,7 +16,11 @@ use Rattle.trip_order.proofs.Tests.{Standing, below, level, over, standing}
 use Rattle.trip_order.proofs.Sequences.{rule28-cell, rule29-cell}
 use Rattle.trip_order.proofs.Steps.{walk-next}
 use Rattle.trip_order.proofs.Ends.{rule30-end, rule31-end, rule30-none, rule31-none}
-use Rattle.trip_walk.specs.Told.{ToldTwo, KeptMarks}
+use Rattle.ordering.specs.Ids.{tripOf}
+use lib.IntN.{ℤ}
+use Rattle.trip_walk.specs.Table.{linesIn, cellsIn, Ranged}
+use Rattle.trip_walk.proofs.Table.{trips-in, one-record, by-record}
+use Rattle.trip_walk.specs.Told.{Told, ToldTwo, KeptMarks}
 use Rattle.trip_walk.specs.Walk.{Turned, Closed}
 use Rattle.trip_walk.proofs.Telling.{Lined, lined-none, lined-as, lined-more, lined-all, Ended, ended-none, ended-as, ended-on, ended-more, ended-all}
 
@@ -44,7 +48,7 @@ pub record Walking (L : Lines) (trip f : ℕ → ℕ) (n k : ℕ) (old m : List 
 
 module _ (L : Lines) (trips : Trips L) (trip f : ℕ → ℕ) (n : ℕ) (g : Grouped L f n) (whole : Whole f n) (apart : Apart f n)
     (key : (x y : ℕ) → 0 < trip y → L .same x y ≡ eqb (trip x) (trip y)) where
-  pub walking-start : (m : List ℕ) (b h s r : ℕ) → ((c q : ℕ) → 9 ≤ c → c ≤ 12 → marked m c q ≡ false) → Walking L trip f n 1 m m b h s r
+  walking-start : (m : List ℕ) (b h s r : ℕ) → ((c q : ℕ) → 9 ≤ c → c ≤ 12 → marked m c q ≡ false) → Walking L trip f n 1 m m b h s r
   walking-start m b h s r blank = record {
     low = omega arith;
     high = omega arith;
@@ -64,11 +68,11 @@ module _ (L : Lines) (trips : Trips L) (trip f : ℕ → ℕ) (n : ℕ) (g : Gro
   -- ---- the group before cell k
 
   -- it ends with a cell that the next isn't linked to, and with the last cell
-  pub ends-before : (k : ℕ) (link : Bool) → 1 < k → k ≤ n → link ≡ linked L f k → ends L f n (k - 1) ≡ not link
+  ends-before : (k : ℕ) (link : Bool) → 1 < k → k ≤ n → link ≡ linked L f k → ends L f n (k - 1) ≡ not link
   unfolding ends
   ends-before k link l h e = let z : k - 1 + 1 ≡ k = omega arith in rw (lt-ltb (k - 1) n (omega arith), z, ← e)
 
-  pub ends-last : ends L f n (n + 1 - 1) ≡ true
+  ends-last : ends L f n (n + 1 - 1) ≡ true
   unfolding ends
   ends-last = rw (le-ltb (n + 1 - 1) n (omega arith))
 
@@ -105,7 +109,7 @@ module _ (L : Lines) (trips : Trips L) (trip f : ℕ → ℕ) (n : ℕ) (g : Gro
           (rw next (λ p i j. one .second i j ∙ sym (rule31-end L trips f n g whole (k - 1) (omega arith) (omega arith) (w l) last (λ y. eqb (trip y) (trip (f (k - 1)))) (own p))))
           (rw next (λ q i. one .other openMark q (λ x y. i y) (λ x y. i y)))
 
-      pub telling-ended : Telling L trip f n k (k - 1) old m′
+      telling-ended : Telling L trip f n k (k - 1) old m′
       telling-ended = record {
         kept = record { size = one .size ∙ d .kept .size; below = λ x q i. one .other x q (λ y z. omega arith) (λ y z. omega arith) ∙ d .kept .below x q i };
         equal = lined-as f n equalMark (rule28 L) k m m′ (λ q. one .other equalMark q (λ y z. omega arith) (λ y z. omega arith)) (d .equal);
@@ -126,7 +130,7 @@ module _ (L : Lines) (trips : Trips L) (trip f : ℕ → ℕ) (n : ℕ) (g : Gro
           opened = rw next at (ended-on L trips trip f n g key openMark (opens L trip n) (k - 2) m none (d .opened));
         }
 
-    pub telling-closed : 0 < k → Telling L trip f n k (k - 1) old m′
+    telling-closed : 0 < k → Telling L trip f n k (k - 1) old m′
     telling-closed low = go (standing k 1) link refl
       where
         go : Standing k 1 → (t : Bool) → link ≡ t → Telling L trip f n k (k - 1) old m′
@@ -149,7 +153,7 @@ module _ (L : Lines) (trips : Trips L) (trip f : ℕ → ℕ) (n : ℕ) (g : Gro
     fits : x < length u
     fits = let i = whole .within k (w .low) high in omega (arith, at, i .1, before .kept .size)
 
-    pub walking-turn : Walking L trip f n (k + 1) old v below here from begins
+    walking-turn : Walking L trip f n (k + 1) old v below here from begins
     walking-turn = record {
       low = omega arith;
       high = omega arith;
@@ -174,7 +178,7 @@ module _ (L : Lines) (trips : Trips L) (trip f : ℕ → ℕ) (n : ℕ) (g : Gro
 
   -- ---- the last cell
 
-  pub walking-end : (k : ℕ) (old m u : List ℕ) (b h s r : ℕ) → n < k → Walking L trip f n k old m b h s r → Closed L trip f (n + 1) s r false m u → Telling L trip f n (n + 1) n old u
+  walking-end : (k : ℕ) (old m u : List ℕ) (b h s r : ℕ) → n < k → Walking L trip f n k old m b h s r → Closed L trip f (n + 1) s r false m u → Telling L trip f n (n + 1) n old u
   walking-end k old m u b h s r past w c =
       let e : k ≡ n + 1 = omega (arith, w .high) in
       let last : n + 1 - 1 ≡ n = omega arith in
@@ -183,15 +187,50 @@ module _ (L : Lines) (trips : Trips L) (trip f : ℕ → ℕ) (n : ℕ) (g : Gro
       rw last at (telling-closed (n + 1) old m u false (omega arith) (λ l. ends-last) i c d (omega arith))
 
   -- each line and each trip is told of
-  pub all-lines : (old m : List ℕ) → Telling L trip f n (n + 1) n old m → (x : ℕ) → 0 < x → x ≤ n → (marked m equalMark x ≡ rule28 L x) × (marked m fallingMark x ≡ rule29 L n x)
+  all-lines : (old m : List ℕ) → Telling L trip f n (n + 1) n old m → (x : ℕ) → 0 < x → x ≤ n → (marked m equalMark x ≡ rule28 L x) × (marked m fallingMark x ≡ rule29 L n x)
   all-lines old m d x a e = (
     lined-all f n equalMark (rule28 L) whole (n + 1) m (omega arith) (d .equal) x a e,
     lined-all f n fallingMark (rule29 L n) whole (n + 1) m (omega arith) (d .falls) x a e,
   )
 
-  pub all-trips : ((x y : ℕ) → L .same x y ≡ true → trip x ≡ trip y) → (old m : List ℕ) → Telling L trip f n (n + 1) n old m
+  all-trips : ((x y : ℕ) → L .same x y ≡ true → trip x ≡ trip y) → (old m : List ℕ) → Telling L trip f n (n + 1) n old m
       → (r : ℕ) → 0 < r → r < length m → (marked m pairedMark r ≡ pairs trip n r) × (marked m openMark r ≡ opens L trip n r)
   all-trips one old m d r a e = (
     ended-all L trips trip f n g key pairedMark (pairs trip n) whole one m (d .paired) (λ q none. ap not (rule30-none L n (λ y. eqb (trip y) q) none)) r a e,
     ended-all L trips trip f n g key openMark (opens L trip n) whole one m (d .opened) (λ q none. rule31-none L n (λ y. eqb (trip y) q) none) r a e,
   )
+
+-- ---- over a table
+
+module _ (s : List ℕ) (t : List ℤ) (n : ℕ) (r : Ranged s t n) where
+  pub table-start : (m : List ℕ) → ((b q : ℕ) → 9 ≤ b → b ≤ 12 → marked m b q ≡ false) → Walking (linesIn s t) (tripOf t 8) (cellsIn t) n 1 m m 0 0 0 0
+  table-start m blank = walking-start (linesIn s t) (trips-in s t) (tripOf t 8) (cellsIn t) n (r .grouped) (r .whole) (r .apart) (by-record s t) m 0 0 0 0 blank
+
+  pub table-turn :
+      (k : ℕ) (old m u v : List ℕ) {b h f g below here from begins : ℕ} {link equal falls : Bool} (x : ℕ)
+      → Walking (linesIn s t) (tripOf t 8) (cellsIn t) n k old m b h f g
+      → k ≤ n
+      → n < length old
+      → Turned (linesIn s t) (cellsIn t) k b h f g below here from begins link equal falls
+      → Closed (linesIn s t) (tripOf t 8) (cellsIn t) k f g link m u
+      → x ≡ cellsIn t k
+      → ToldTwo u v equalMark equal fallingMark falls x
+      → Walking (linesIn s t) (tripOf t 8) (cellsIn t) n (k + 1) old v below here from begins
+  table-turn k old m u v x w high room z c at d =
+      walking-turn (linesIn s t) (trips-in s t) (tripOf t 8) (cellsIn t) n (r .grouped) (r .whole) (r .apart) (by-record s t) k old m u v _ _ _ _ _ _ _ _ _ _ _ w high room z c x at d
+
+  pub table-end : (k : ℕ) (old m u : List ℕ) {b h f g : ℕ} → n < k → Walking (linesIn s t) (tripOf t 8) (cellsIn t) n k old m b h f g
+      → Closed (linesIn s t) (tripOf t 8) (cellsIn t) (n + 1) f g false m u → Told s t n u × KeptMarks old u
+  table-end k old m u past w c = (
+    record { equal = λ x a b. lines x a b .0; falls = λ x a b. lines x a b .1; paired = λ x a b. groups x a b .0; opens = λ x a b. groups x a b .1 },
+    d .kept,
+  )
+    where
+      d : Telling (linesIn s t) (tripOf t 8) (cellsIn t) n (n + 1) n old u
+      d = walking-end (linesIn s t) (trips-in s t) (tripOf t 8) (cellsIn t) n (r .grouped) (r .whole) (r .apart) (by-record s t) k old m u _ _ _ _ past w c
+
+      lines : (x : ℕ) → 0 < x → x ≤ n → (marked u equalMark x ≡ rule28 (linesIn s t) x) × (marked u fallingMark x ≡ rule29 (linesIn s t) n x)
+      lines = all-lines (linesIn s t) (trips-in s t) (tripOf t 8) (cellsIn t) n (r .grouped) (r .whole) (r .apart) (by-record s t) old u d
+
+      groups : (x : ℕ) → 0 < x → x < length u → (marked u pairedMark x ≡ pairs (tripOf t 8) n x) × (marked u openMark x ≡ opens (linesIn s t) (tripOf t 8) n x)
+      groups = all-trips (linesIn s t) (trips-in s t) (tripOf t 8) (cellsIn t) n (r .grouped) (r .whole) (r .apart) (by-record s t) (one-record s t) old u d
