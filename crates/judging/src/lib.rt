@@ -1,8 +1,9 @@
 // What the stored numbers of one line, and a few tests of its values, say of each binding rule.
 ghost use mathlib.Core.Path.{_≡_};
-ghost use Rattle.meaning.specs.Rules.{given, secondsOf};
-ghost use Rattle.judging.specs.Judging.{loose, offKind, misplaced, bothGiven, halfTimed, sooner, stopJudged, routeJudged, serviceJudged, tripJudged, timeJudged};
+ghost use Rattle.meaning.specs.Rules.{given};
+ghost use Rattle.judging.specs.Judging.{loose, offKind, misplaced, halfTimed, sooner, stopJudged, routeJudged, serviceJudged, tripJudged, timeJudged};
 use meaning::Time;
+use rows::times;
 
 // 21: a reference that isn't empty has no record.
 fn is_loose(none: bool, at: usize) -> bool
@@ -25,48 +26,19 @@ fn is_misplaced(none: bool, parent: usize, kind: usize, parent_kind: usize) -> b
     (kind == 1) & !none | ((kind == 2) & none | is_off_kind(1, parent, parent_kind))
 }
 
-// Is a time given?
-fn is_given(x: Time) -> bool
-    ensures { λ r. ⌜ r ≡ given x ⌝ }
-{
-    match x {
-        Time::Seconds(_) => true,
-        Time::Untimed => false,
-        Time::NoTime => false,
-    }
-}
-
-// A line has both times.
-fn is_timed(arrival: Time, departure: Time) -> bool
-    ensures { λ r. ⌜ r ≡ bothGiven arrival departure ⌝ }
-{
-    is_given(arrival) & is_given(departure)
-}
-
-// A time's seconds; 0 where none is given.
-fn seconds_of(t: Time) -> u32
-    ensures { λ r. ⌜ r ≡ secondsOf t ⌝ }
-{
-    match t {
-        Time::Seconds(n) => n,
-        Time::Untimed => 0,
-        Time::NoTime => 0,
-    }
-}
-
 // 27: the first of two times comes before the second.
 fn is_sooner(a: Time, b: Time) -> bool
     ensures { λ r. ⌜ r ≡ sooner a b ⌝ }
 {
-    seconds_of(a) < seconds_of(b)
+    times::seconds_of(a) < times::seconds_of(b)
 }
 
 // 26: just one time given, or timepoint 1 without both.
 fn is_half_timed(arrival: Time, departure: Time, timepoint: usize) -> bool
     ensures { λ r. ⌜ r ≡ halfTimed arrival departure timepoint ⌝ }
 {
-    let one = is_given(arrival) | is_given(departure);
-    !is_timed(arrival, departure) & (one | (timepoint == 1))
+    let one = times::is_given(arrival) | times::is_given(departure);
+    !times::is_timed(arrival, departure) & (one | (timepoint == 1))
 }
 
 // Rules 20, 21 and 22 on a line of stops.txt.
@@ -140,7 +112,7 @@ pub fn judge_time(
         is_loose(false, trip) | is_loose(false, stop),
         is_off_kind(0, stop, stop_kind),
         is_half_timed(arrival, departure, timepoint),
-        is_timed(arrival, departure) & is_sooner(departure, arrival),
+        times::is_timed(arrival, departure) & is_sooner(departure, arrival),
         equal,
         falling,
     ]

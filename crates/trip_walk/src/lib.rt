@@ -6,9 +6,9 @@ ghost use Prim.Native.Nat.{ℕ, _+_, _*_, _-_, _^_, _<_, _≤_};
 ghost use lib.Dec.{eqb, ltb};
 ghost use lib.ListN.{length};
 ghost use Rattle.meaning.specs.Bytes.{part};
-ghost use Rattle.meaning.specs.Rules.{given, secondsOf};
+ghost use Rattle.meaning.specs.Rules.{secondsOf};
 ghost use Rattle.marks.specs.Marks.{marked, pairedMark, openMark, metMark};
-ghost use Rattle.rows.specs.Cells.{natAt, boundsAt, timeAt};
+ghost use Rattle.rows.specs.Cells.{boundsAt, timeAt};
 ghost use Rattle.ordering.specs.Cells.{KeptAt};
 ghost use Rattle.ordering.specs.Ids.{tripOf};
 ghost use Rattle.trip_order.specs.Cells.{Grouped, linked, repeats, larger};
@@ -21,10 +21,10 @@ use marks::FALLING;
 use marks::MET;
 use marks::OPEN;
 use marks::PAIRED;
-use meaning::Time;
 use ordering::By;
 use rows::StopTimes;
 use rows::TimeRow;
+use rows::times;
 
 // The number of a waiting record that holds a cell of the order.
 const CELL: usize = 7;
@@ -58,26 +58,6 @@ fn line_at(t: &[i32], k: usize) -> usize
     ensures { λ r. ⌜ r ≡ cellsIn (now (t .entry)) k ⌝ }
 {
     rows::cells::nat_of(t, k, StopTimes::WIDTH, CELL)
-}
-
-fn seconds_of(x: Time) -> usize
-    ensures { λ r. ⌜ r ≡ secondsOf x ⌝ }
-{
-    match x {
-        Time::Seconds(n) => n as usize,
-        Time::Untimed => 0,
-        Time::NoTime => 0,
-    }
-}
-
-fn is_given(x: Time) -> bool
-    ensures { λ r. ⌜ r ≡ given x ⌝ }
-{
-    match x {
-        Time::Seconds(_) => true,
-        Time::Untimed => false,
-        Time::NoTime => false,
-    }
 }
 
 fn both(a: bool, b: bool) -> bool
@@ -123,9 +103,9 @@ fn times_at(t: &[i32], x: usize) -> Times
     let a = StopTimes::arrival_at(t, TimeRow(x));
     let d = StopTimes::departure_at(t, TimeRow(x));
     Times {
-        timed: both(is_given(a), is_given(d)),
-        arrives: seconds_of(a),
-        departs: seconds_of(d),
+        timed: times::is_timed(a, d),
+        arrives: times::seconds_of(a),
+        departs: times::seconds_of(d),
     }
 }
 
