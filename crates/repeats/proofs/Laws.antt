@@ -19,7 +19,7 @@ use Rattle.rows.specs.Cells.{boundsAt}
 use Rattle.ranking.specs.Ranks.{before}
 use Rattle.ranking.proofs.Laws.{before-irreflexive}
 use Rattle.ordering.specs.Cells.{cell}
-use Rattle.ordering.specs.Ids.{idOf, noLater, inOrder, tieOf, Sorted, Stands, Whole, Apart, Arranged}
+use Rattle.ordering.specs.Ids.{idOf, noLater, inOrder, Sorted, Stands, Whole, Apart, Arranged}
 use Rattle.ordering.proofs.Laws.{Alike, yes, no, alike}
 use Rattle.seeking.specs.First.{Held}
 use Rattle.seeking.proofs.Laws.{earlier, tied}
@@ -123,7 +123,7 @@ id-held s t w ids held q l = held .at q l .equal
 module _ (s : List ℕ) (w n : ℕ) (t : List ℤ) (a : Arranged s w n t) where
   pub link-rule20 : (ids : List (List ℕ)) → Held s t w ids → n ≡ length ids → (i k : ℕ) → i < n → 0 < k → k ≤ n → cell t w k ≡ i + 1
       → linked (idOf s t w) (cell t w) k ≡ rule20 ids i
-  unfolding inOrder tieOf noLater rule20 stands
+  unfolding inOrder noLater rule20 stands
   link-rule20 ids held e i k h low high is = go (linked (idOf s t w) (cell t w) k) refl
     where
       v : List ℕ

@@ -18,7 +18,7 @@ use Rattle.ranking.specs.declared.Order.the-variants.{Less, Equal, Greater}
 use Rattle.ranking.specs.Ranks.{before, compare, ranked, settle}
 use Rattle.ranking.proofs.Laws.{compare-ranked, compare-equal, less-before, before-trans, before-irreflexive}
 use Rattle.ordering.specs.Cells.{cell, Kept}
-use Rattle.ordering.specs.Ids.{idOf, noLater, inOrder, tieOf, Sorted, Stands, Whole, Placed, Arranged}
+use Rattle.ordering.specs.Ids.{idOf, noLater, inOrder, Sorted, Stands, Whole, Placed, Arranged}
 use Rattle.ordering.proofs.Laws.{Alike, yes, no, alike, row-fits}
 use Rattle.num.specs.Signs.{natOf}
 use Rattle.seeking.specs.First.{First, idIs, valueIs, Held}
@@ -258,7 +258,7 @@ module _ (s : List ℕ) (w n : ℕ) (t u : List ℤ) (size : length u ≡ length
           rw (a, same3 r 1 (omega arith))
 
   pub arranged-as : Arranged s w n t → Arranged s w n u
-  unfolding inOrder tieOf noLater
+  unfolding inOrder noLater
   arranged-as a = record {
     room = record { wide = a .room .wide; narrow = a .room .narrow; rows = rw size (a .room .rows) };
     few = a .few;
