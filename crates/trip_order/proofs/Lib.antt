@@ -1,4 +1,12 @@
-pub mod Laws
-pub mod Marks
-pub mod Trips
-pub mod Walking
+-- Laws of lines in trip order.
+pub mod Tests
+pub mod Groups
+pub mod Greatest
+pub mod Sequences
+pub mod Steps
+pub mod Counts
+pub mod Firsts
+pub mod Ends
+pub mod Steady
+pub mod Sorted
+pub mod Examples

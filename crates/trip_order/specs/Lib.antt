@@ -1,5 +1,4 @@
--- Indexes of lines.
-pub mod Ones
-pub mod Marks
-pub mod Trips
-pub mod Nearest
+-- The lines of a trip in the order of their sequences.
+pub mod Lines
+pub mod Cells
+pub mod Steady
