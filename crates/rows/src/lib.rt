@@ -1,11 +1,12 @@
 // A type per file that knows its width and number, a row type per file, and the records that they place.
 ghost use mathlib.Core.Path.{_≡_};
 ghost use mathlib.Core.List.{_∷_, []};
-ghost use Prim.Native.Nat.{_+_, _*_, _^_, _<_, _≤_};
+ghost use Prim.Native.Nat.{ℕ, _+_, _*_, _^_, _<_, _≤_};
 ghost use lib.IntN.{pos};
 ghost use lib.ListN.{length, set};
 ghost use Rattle.meaning.specs.Tables.{widthOf};
 ghost use Rattle.rows.specs.Cells.{putAt, natAt, boundsAt, timeAt};
+ghost use Rattle.rows.specs.Waiting.{unmark, packed, settledAt};
 use meaning::Bounds;
 use meaning::Time;
 
@@ -307,6 +308,58 @@ impl StopTimes {
         cells::store(t, StopTimes::place(row), &r);
     }
 
+    // The record of a line that waits for its order: number 1 is packed, 5 and 6 are where its trip_id lies, 7 is for the order.
+    pub fn put_waiting(
+        t: &mut [i32],
+        row: TimeRow,
+        trip: TripRow,
+        stop: StopRow,
+        sequence: u32,
+        arrival: i32,
+        departure: i32,
+        pickup: u32,
+        drop_off: u32,
+        timepoint: i32,
+        place: Bounds,
+    )
+        requires { ⌜ row .0 * 8 + 8 ≤ length (now t) ⌝ }
+        requires { ⌜ (trip .0 < 2 ^ 31) × ((stop .0 < 2 ^ 25) × ((sequence < 2 ^ 31) × ((pickup < 4) × ((«drop_off» < 4)
+            × ((place .start < 2 ^ 31) × (place .end < 2 ^ 31)))))) ⌝ }
+        ensures { λ _. ⌜ ((m : ℕ) → m < 4 → timepoint ≡ unmark m → now (t .exit) ≡ putAt (now (t .entry)) (row .0 * 8)
+            (pos (trip .0) ∷ pos (packed (stop .0) pickup «drop_off» m) ∷ pos sequence ∷ arrival ∷ departure ∷ pos (place .start) ∷ pos (place .end) ∷ pos 0 ∷ [])) ⌝ }
+    {
+        let r = [
+            trip.0 as i32,
+            packed(stop.0, pickup, drop_off, mark_of(timepoint)),
+            sequence as i32,
+            arrival,
+            departure,
+            place.start as i32,
+            place.end as i32,
+            0,
+        ];
+        cells::store(t, StopTimes::place(row), &r);
+    }
+
+    // The last form of a record that waits.
+    pub fn settle(t: &mut [i32], row: TimeRow)
+        requires { ⌜ row .0 * 8 + 8 ≤ length (now t) ⌝ }
+        ensures { λ _. ⌜ now (t .exit) ≡ putAt (now (t .entry)) (row .0 * 8) (settledAt (now (t .entry)) (row .0 * 8)) ⌝ }
+    {
+        let n = num::nat(cells::number_of(t, row.0, StopTimes::WIDTH, 1));
+        let r = [
+            cells::number_of(t, row.0, StopTimes::WIDTH, 0),
+            (n / 64) as i32,
+            cells::number_of(t, row.0, StopTimes::WIDTH, 2),
+            cells::number_of(t, row.0, StopTimes::WIDTH, 3),
+            cells::number_of(t, row.0, StopTimes::WIDTH, 4),
+            (n / 16 % 4) as i32,
+            (n / 4 % 4) as i32,
+            unmarked(n % 4),
+        ];
+        cells::store(t, StopTimes::place(row), &r);
+    }
+
     pub fn trip_at(t: &[i32], row: TimeRow) -> TripRow
         ensures { λ r. ⌜ r .0 ≡ natAt (now (t .entry)) (row .0 * 8) ⌝ }
     {
@@ -343,6 +396,35 @@ impl StopTimes {
     {
         cells::nat_of(t, row.0, StopTimes::WIDTH, 7)
     }
+}
+
+// The mark of a timepoint, in two bits.
+fn mark_of(timepoint: i32) -> usize
+    ensures { λ r. ⌜ ((m : ℕ) → m < 4 → timepoint ≡ unmark m → r ≡ m) × (r < 4) ⌝ }
+{
+    if num::less(timepoint, 0) {
+        return 0;
+    }
+    (num::nat(timepoint) + 1) % 4
+}
+
+// The timepoint that a mark stands for.
+fn unmarked(mark: usize) -> i32
+    requires { ⌜ mark < 4 ⌝ }
+    ensures { λ r. ⌜ r ≡ unmark mark ⌝ }
+{
+    if mark == 0 {
+        return -1;
+    }
+    (mark - 1) as i32
+}
+
+// Four numbers in one, the last three in two bits each.
+fn packed(stop: usize, pickup: u32, drop_off: u32, mark: usize) -> i32
+    requires { ⌜ (stop < 2 ^ 25) × ((pickup < 4) × ((«drop_off» < 4) × (mark < 4))) ⌝ }
+    ensures { λ r. ⌜ r ≡ pos (packed stop pickup «drop_off» mark) ⌝ }
+{
+    (((stop * 4 + pickup as usize) * 4 + drop_off as usize) * 4 + mark) as i32
 }
 
 // The width of a file's table, by the file's number; 0 for a number that is no file's.

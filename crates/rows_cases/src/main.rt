@@ -128,6 +128,132 @@ fn stop_times() {
     );
 }
 
+// The order's cell of record 1 of stop_times is used.
+fn order(t: &mut [i32]) {
+    if 15 < t.len() {
+        t[15] = 9;
+    }
+}
+
+// A record that waits, with the largest stop and trip_id, no trip and no timepoint; settled, whatever stands in the order's cell. The record before and what follows stay.
+fn waiting_times() {
+    let mut t = [7i32; 17];
+    let field = Bounds {
+        start: 41,
+        end: 2147483647,
+    };
+    StopTimes::put_waiting(
+        &mut t,
+        TimeRow(1),
+        TripRow(0),
+        StopRow(33554431),
+        999999999,
+        -1,
+        359999,
+        3,
+        1,
+        -1,
+        field,
+    );
+    let waits = [
+        7,
+        7,
+        7,
+        7,
+        7,
+        7,
+        7,
+        7,
+        0,
+        2147483636,
+        999999999,
+        -1,
+        359999,
+        41,
+        2147483647,
+        0,
+        7,
+    ];
+    told(b"stop_times wait", same(&t, &waits));
+    order(&mut t);
+    StopTimes::settle(&mut t, TimeRow(1));
+    let settled = [
+        7,
+        7,
+        7,
+        7,
+        7,
+        7,
+        7,
+        7,
+        0,
+        33554431,
+        999999999,
+        -1,
+        359999,
+        3,
+        1,
+        -1,
+        7,
+    ];
+    told(b"stop_times settled", same(&t, &settled));
+}
+
+// Timepoints 0 and 1, in two records.
+fn timepoints() {
+    let mut t = [7i32; 16];
+    let field = Bounds { start: 0, end: 1 };
+    StopTimes::put_waiting(
+        &mut t,
+        TimeRow(0),
+        TripRow(1),
+        StopRow(2),
+        4,
+        28800,
+        -1,
+        1,
+        2,
+        1,
+        field,
+    );
+    StopTimes::put_waiting(
+        &mut t,
+        TimeRow(1),
+        TripRow(2147483647),
+        StopRow(0),
+        0,
+        0,
+        0,
+        0,
+        3,
+        0,
+        field,
+    );
+    let waits = [
+        1,
+        154,
+        4,
+        28800,
+        -1,
+        0,
+        1,
+        0,
+        2147483647,
+        13,
+        0,
+        0,
+        0,
+        0,
+        1,
+        0,
+    ];
+    told(b"timepoints wait", same(&t, &waits));
+    StopTimes::settle(&mut t, TimeRow(0));
+    StopTimes::settle(&mut t, TimeRow(1));
+    let settled = [1, 2, 4, 28800, -1, 1, 2, 1, 2147483647, 0, 0, 0, 0, 0, 3, 0];
+    told(b"timepoints settled", same(&t, &settled));
+}
+
 // A negative number is one past every file and every record.
 fn negative() {
     let t = [36, -1, -338674999, 1800000000, 2, -2147483648];
@@ -292,6 +418,8 @@ fn tables() {
     calendar();
     trips();
     stop_times();
+    waiting_times();
+    timepoints();
 }
 
 // All that is read back.
