@@ -10,3 +10,4 @@ pub mod Ends
 pub mod Steady
 pub mod Sorted
 pub mod Examples
+pub mod Feed

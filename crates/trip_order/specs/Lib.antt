@@ -2,3 +2,4 @@
 pub mod Lines
 pub mod Cells
 pub mod Steady
+pub mod Feed
