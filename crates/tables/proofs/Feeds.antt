@@ -139,6 +139,10 @@ module _ (a b c d e : List ℕ) where
   unfolding feedOf fileOf
   feed-trips = refl
 
+  pub feed-times : feedOf (a ∷ b ∷ c ∷ d ∷ e ∷ []) .stopTimes ≡ rowsOf 5 e
+  unfolding feedOf fileOf
+  feed-times = refl
+
 -- .. and so are their ids
 module _ (a b c d e : List ℕ) where
   pub stop-ids : stopIds (feedOf (a ∷ b ∷ c ∷ d ∷ e ∷ [])) ≡ idsOf 1 a

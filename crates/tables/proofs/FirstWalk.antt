@@ -115,6 +115,6 @@ module _ (f : ℕ) (low : 1 ≤ f) (four : f ≤ 4) (s : List ℕ) (t : List ℤ
     beyond =
         beyond-trans
         (rw is (laid-beyond (flat (placedOf f s)) t (countLf s * widthOf f) placed-count (rw (mul-comm (countLf s) (widthOf f)) (room .room))))
-        (rw count at (kept-beyond (widthOf f) n p u (three-wide f low four) kept));
+        (rw count at (kept-beyond 2 (widthOf f) n p u (three-wide f low four) kept));
     waits = wait-value p u n count is kept;
   }

@@ -7,6 +7,8 @@ pub mod Turns
 pub mod Ids
 pub mod FirstWalk
 pub mod SecondWalk
+pub mod Waits
+pub mod TripLines
 pub mod Settling
 pub mod Marking
 pub mod Feeds

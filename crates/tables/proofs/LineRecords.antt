@@ -7,15 +7,17 @@ use lib.IntN.{ℤ, pos}
 use lib.ListN.{length, getD, take, List·getD-map}
 use Rattle.meaning.specs.Columns.{fieldAt, rowOf}
 use Rattle.meaning.specs.Forms.{latitudeOf, longitudeOf, timeOf, dateOf, sequenceOf, routeTypeOf}
-use Rattle.meaning.specs.Tables.{Feed, degrees, day, number, seconds, picked, orZero, orMinus, refer, packedDays, stopIds, routeIds, serviceIds, tripIds, idPlace, idColumn, parentStation, widthOf, recordOf, numbersOf, stopNumbers, routeNumbers, serviceNumbers, tripNumbers, timeNumbers}
+use Rattle.meaning.specs.Tables.{Feed, degrees, day, number, seconds, picked, orZero, orMinus, refer, packedDays, stopIds, routeIds, serviceIds, tripIds, idPlace, idColumn, parentStation, widthOf, recordOf, numbersOf, stopNumbers, routeNumbers, serviceNumbers, tripNumbers}
 use Rattle.meaning.specs.Refusals.{maxBytes}
 use Rattle.rows.specs.Cells.{putAt}
+use Rattle.rows.specs.Waiting.{packed}
 use Rattle.columns.specs.Columns.{startsOf, endsOf}
 use Rattle.columns.proofs.Laws.{located-inside}
 use Rattle.values.specs.Located.{valueIn, Located, Within}
 use Rattle.values.proofs.Readings.{in-row}
 use Rattle.tables.specs.Fill.{line, Lies}
 use Rattle.tables.specs.Walk.{placing}
+use Rattle.tables.specs.Waiting.{marking, waitingOf}
 use Rattle.tables.proofs.Past.{put-last}
 
 module _ (ps l : List ℕ) (at : ℕ) (st en : List ℕ) (loc : Located l ps st en) where
@@ -83,8 +85,8 @@ module _ (ps l : List ℕ) (at : ℕ) (st en : List ℕ) (loc : Located l ps st 
   trip-record w a e route service wheelchair bikes direction p q r s x y z =
       rw (id-in 2 a e p q, in-row ps l st en loc 0, in-row ps l st en loc 1, in-row ps l st en loc 3, in-row ps l st en loc 4, in-row ps l st en loc 5, r, s, ← x, ← y, ← z)
 
-  pub time-record :
-      (w : Feed) (trip stop sequence pickup dropOff : ℕ) (arrival departure timepoint : ℤ)
+  pub waiting-record :
+      (w : Feed) (trip stop sequence pickup dropOff a e : ℕ) (arrival departure : ℤ)
       → trip ≡ refer (valueIn l st en 0) (tripIds w)
       → stop ≡ refer (valueIn l st en 3) (stopIds w)
       → pos sequence ≡ number (sequenceOf (valueIn l st en 4))
@@ -92,12 +94,13 @@ module _ (ps l : List ℕ) (at : ℕ) (st en : List ℕ) (loc : Located l ps st 
       → departure ≡ seconds (timeOf (valueIn l st en 2))
       → pos pickup ≡ orZero 3 (valueIn l st en 5)
       → pos dropOff ≡ orZero 3 (valueIn l st en 6)
-      → timepoint ≡ orMinus 1 (valueIn l st en 7)
-      → pos trip ∷ pos stop ∷ pos sequence ∷ arrival ∷ departure ∷ pos pickup ∷ pos dropOff ∷ timepoint ∷ []
-      ≡ recordOf 5 w ps (line at l)
-  unfolding recordOf idColumn numbersOf timeNumbers
-  time-record w trip stop sequence pickup dropOff arrival departure timepoint p q r a d x y z =
-      rw (in-row ps l st en loc 0, in-row ps l st en loc 1, in-row ps l st en loc 2, in-row ps l st en loc 3, in-row ps l st en loc 4, in-row ps l st en loc 5, in-row ps l st en loc 6, in-row ps l st en loc 7, p, q, ← r, a, d, ← x, ← y, ← z)
+      → a ≡ at + getD st 0 0
+      → e ≡ at + getD en 0 0
+      → pos trip ∷ pos (packed stop pickup dropOff (marking (orMinus 1 (valueIn l st en 7)))) ∷ pos sequence ∷ arrival ∷ departure ∷ pos a ∷ pos e ∷ pos 0 ∷ []
+      ≡ waitingOf w ps (line at l)
+  unfolding waitingOf
+  waiting-record w trip stop sequence pickup dropOff a e arrival departure p q r x y u v g h =
+      rw (id-in 0 a e g h, in-row ps l st en loc 0, in-row ps l st en loc 1, in-row ps l st en loc 2, in-row ps l st en loc 3, in-row ps l st en loc 4, in-row ps l st en loc 5, in-row ps l st en loc 6, in-row ps l st en loc 7, p, q, ← r, x, y, ← u, ← v)
 
 -- the fields that `locate` gives under columns
 module _ (l cs st en : List ℕ) (starts : st ≡ startsOf l cs) (ends : en ≡ endsOf l cs) where

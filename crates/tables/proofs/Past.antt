@@ -10,7 +10,7 @@ use lib.Seq.{ext-getD, getD-drop, getD-append-add, drop-cons}
 use Rattle.meaning.specs.Lists.{laid}
 use Rattle.rows.specs.Cells.{putAt}
 use Rattle.rows.proofs.Records.{laid-length}
-use Rattle.ordering.specs.Cells.{Kept}
+use Rattle.ordering.specs.Cells.{KeptAt}
 use Rattle.tables.specs.Walk.{Beyond, Settled}
 
 pub beyond-trans : {m : ℕ} {t u v : List ℤ} → Beyond m t u → Beyond m u v → Beyond m t v
@@ -44,8 +44,8 @@ within : {n w j : ℕ} → 0 < w → n * w ≤ j → n ≤ j / w
 within h k = le-div-iff-mul-le h .1 k
 
 -- an order leaves what is past its records
-pub kept-beyond : (w n : ℕ) (t u : List ℤ) → 2 < w → Kept w n t u → Beyond ((n + 1) * w) t u
-kept-beyond w n t u wide p = record { size = p .size; same = λ j h. rw (div-add-mod' j w) at (at j h) }
+pub kept-beyond : (o w n : ℕ) (t u : List ℤ) → o < w → KeptAt o w n t u → Beyond ((n + 1) * w) t u
+kept-beyond o w n t u wide p = record { size = p .size; same = λ j h. rw (div-add-mod' j w) at (at j h) }
   where
     at : (j : ℕ) → (n + 1) * w ≤ j → getD u (j / w * w + j % w) (pos 0) ≡ getD t (j / w * w + j % w) (pos 0)
     at j h =

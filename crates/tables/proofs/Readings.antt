@@ -5,11 +5,12 @@ use Prim.Native.Nat.{ℕ, _+_, _*_, _-_, _≤_}
 use native.Mathlib.Omega.{arith}
 use lib.IntN.{ℤ}
 use Rattle.meaning.specs.Bytes.{value, Line}
-use Rattle.meaning.specs.Tables.{Feed, widthOf, recordOf, refer}
+use Rattle.meaning.specs.Tables.{Feed, widthOf, refer}
 use Rattle.rows.specs.Cells.{putAt}
 use Rattle.seeking.specs.First.{First, names}
 use Rattle.seeking.proofs.First.{refer-held}
 use Rattle.tables.specs.Fill.{Lists}
+use Rattle.tables.specs.Waiting.{writtenOf}
 
 -- a reference that was looked up in a table that holds the ids
 pub referred :
@@ -33,8 +34,8 @@ file-room f k r n e h = rw e at h
 pub file-put :
     (f k r : ℕ) (w : Feed) (ps : List ℕ) (x : Line) (t t′ : List ℤ)
     → f ≡ k
-    → t′ ≡ putAt t (r * widthOf k) (recordOf k w ps x)
-    → t′ ≡ putAt t (r * widthOf f) (recordOf f w ps x)
+    → t′ ≡ putAt t (r * widthOf k) (writtenOf k w ps x)
+    → t′ ≡ putAt t (r * widthOf f) (writtenOf f w ps x)
 file-put f k r w ps x t t′ e p = rw e p
 
 pub fifth : (f : ℕ) → 1 ≤ f → f ≤ 5 → (f ≡ 1 → ⊥) → (f ≡ 2 → ⊥) → (f ≡ 3 → ⊥) → (f ≡ 4 → ⊥) → f ≡ 5

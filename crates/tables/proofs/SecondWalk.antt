@@ -15,37 +15,24 @@ use Rattle.tables.specs.Walk.{tabled, Beyond, Parents}
 use Rattle.tables.proofs.Past.{laid-rest, laid-past}
 use Rattle.tables.proofs.Turns.{wide, table-length}
 
-module _ (f : ℕ) (low : 1 ≤ f) (high : f ≤ 5) (w : Feed) (s : List ℕ) (some : 1 ≤ countLf s) where
-  by-record : Line → List ℤ
-  by-record = recordOf f w (places f (headerOf (linesOf s)))
-
-  by-width : (x : Line) → length (by-record x) ≡ widthOf f
-  unfolding by-record
-  by-width x = record-wide f w (places f (headerOf (linesOf s))) x low (omega arith)
-
+-- what g makes of each line, each as wide as the file's records
+module _ (f : ℕ) (s : List ℕ) (some : 1 ≤ countLf s) (g : Line → List ℤ) (long : (x : Line) → length (g x) ≡ widthOf f) where
   -- how many numbers the first k records have
-  taken-length : (k : ℕ) → k ≤ countLf s → length (flat (take k (recordsOf f w s))) ≡ k * widthOf f
-  unfolding recordsOf tabled by-record
+  pub taken-length : (k : ℕ) → k ≤ countLf s → length (flat (take k (tabled f g s))) ≡ k * widthOf f
   taken-length k h =
-      flat-length (widthOf f) (take k (tabled f by-record s)) (wide-take (widthOf f) k (tabled f by-record s) (wide f s by-record by-width))
-      ∙ ap (λ (n : ℕ). n * widthOf f) (length-take-le k (tabled f by-record s) (omega (arith, table-length f s by-record by-width some)))
+      flat-length (widthOf f) (take k (tabled f g s)) (wide-take (widthOf f) k (tabled f g s) (wide f s g long))
+      ∙ ap (λ (n : ℕ). n * widthOf f) (length-take-le k (tabled f g s) (omega (arith, table-length f s g long some)))
 
-  all-length : length (flat (recordsOf f w s)) ≡ countLf s * widthOf f
-  unfolding recordsOf tabled by-record
+  pub all-length : length (flat (tabled f g s)) ≡ countLf s * widthOf f
   all-length =
-      flat-length (widthOf f) (tabled f by-record s) (wide f s by-record by-width)
-      ∙ ap (λ (n : ℕ). n * widthOf f) (table-length f s by-record by-width some)
-
-  -- a table is filled the same, whatever stood where its records go
-  pub filled-beyond : (t u : List ℤ) → Beyond (countLf s * widthOf f) t u → filled f w s u ≡ filled f w s t
-  unfolding filled
-  filled-beyond t u p = laid-past (flat (recordsOf f w s)) t u (rw all-length p)
+      flat-length (widthOf f) (tabled f g s) (wide f s g long)
+      ∙ ap (λ (n : ℕ). n * widthOf f) (table-length f s g long some)
 
   -- number 5 of a stop's record is as it was lent until the walk has come there
   pub parent-here :
-      (lent t t₀ : List ℤ) (r : ℕ) (l : List ℕ)
-      → t ≡ laid (flat (take r (recordsOf f w s))) lent
-      → t₀ ≡ laid (flat (take 1 (recordsOf f w s))) lent
+      (w : Feed) (lent t t₀ : List ℤ) (r : ℕ) (l : List ℕ)
+      → t ≡ laid (flat (take r (tabled f g s))) lent
+      → t₀ ≡ laid (flat (take 1 (tabled f g s))) lent
       → Parents f w s t₀
       → 1 ≤ r
       → r < countLf s
@@ -53,10 +40,22 @@ module _ (f : ℕ) (low : 1 ≤ f) (high : f ≤ 5) (w : Feed) (s : List ℕ) (s
       → f ≡ 1
       → getD t (r * 6 + 5) (pos 0) ≡ pos (refer (parentStation (rowOf (places f (headerOf (linesOf s))) l)) (stopIds w))
   unfolding widthOf widths
-  parent-here lent t t₀ r l is first parents one-low inside row one =
+  parent-here w lent t t₀ r l is first parents one-low inside row one =
       let p : rowOf (places f (headerOf (linesOf s))) l ≡ getD (rowsOf 1 s) (r - 1) [] = row ∙ ap (λ (k : ℕ). getD (rowsOf k s) (r - 1) []) one in
-      let a : length (flat (take r (recordsOf f w s))) ≡ r * 6 = taken-length r (omega arith) ∙ ap (λ (k : ℕ). r * widthOf k) one in
-      let b : length (flat (take 1 (recordsOf f w s))) ≡ 1 * 6 = taken-length 1 some ∙ ap (λ (k : ℕ). 1 * widthOf k) one in
-      let x : getD t (r * 6 + 5) (pos 0) ≡ getD lent (r * 6 + 5) (pos 0) = rw is (laid-rest (flat (take r (recordsOf f w s))) lent (r * 6 + 5) (omega arith)) in
-      let y : getD t₀ (r * 6 + 5) (pos 0) ≡ getD lent (r * 6 + 5) (pos 0) = rw first (laid-rest (flat (take 1 (recordsOf f w s))) lent (r * 6 + 5) (omega arith)) in
+      let a : length (flat (take r (tabled f g s))) ≡ r * 6 = taken-length r (omega arith) ∙ ap (λ (k : ℕ). r * widthOf k) one in
+      let b : length (flat (take 1 (tabled f g s))) ≡ 1 * 6 = taken-length 1 some ∙ ap (λ (k : ℕ). 1 * widthOf k) one in
+      let x : getD t (r * 6 + 5) (pos 0) ≡ getD lent (r * 6 + 5) (pos 0) = rw is (laid-rest (flat (take r (tabled f g s))) lent (r * 6 + 5) (omega arith)) in
+      let y : getD t₀ (r * 6 + 5) (pos 0) ≡ getD lent (r * 6 + 5) (pos 0) = rw first (laid-rest (flat (take 1 (tabled f g s))) lent (r * 6 + 5) (omega arith)) in
       rw p (x ∙ sym y ∙ parents one r (omega arith) inside)
+
+-- a table is filled the same, whatever stood where its records go
+pub filled-beyond :
+    (f : ℕ) → 1 ≤ f → f ≤ 5 → (w : Feed) (s : List ℕ) → 1 ≤ countLf s → (t u : List ℤ)
+    → Beyond (countLf s * widthOf f) t u → filled f w s u ≡ filled f w s t
+unfolding filled recordsOf tabled
+filled-beyond f low high w s some t u p =
+    laid-past (flat (tabled f by-record s)) t u
+    (rw (all-length f s some by-record (λ x. record-wide f w (places f (headerOf (linesOf s))) x low (omega arith))) p)
+  where
+    by-record : Line → List ℤ
+    by-record = recordOf f w (places f (headerOf (linesOf s)))

@@ -2,7 +2,7 @@
 use Prim.Native.Nat.{ℕ, _+_, _≤_, _<_}
 use mathlib.Core.Path.{_≡_}
 use mathlib.Core.List.{List, []}
-use mathlib.Core.Bool.{Bool, false, not, cond, _&&_, _||_}
+use mathlib.Core.Bool.{Bool, true, false, not, cond, _&&_, _||_}
 use lib.ListN.{length, getD}
 use lib.Dec.{eqb}
 use Rattle.meaning.specs.Lists.{empty}
@@ -27,15 +27,15 @@ noteMark f = f + 6
 pub record Told (b : Bool) (k r : ℕ) (m m′ : List ℕ) : Type 0 where
   pub size : length m′ ≡ length m
   pub here : r < length m → marked m′ k r ≡ b || marked m k r
-  pub other : (c q : ℕ) → (c ≡ k → q ≡ r → ⊥) → marked m′ c q ≡ marked m c q
+  pub other : (c q : ℕ) → (c ≡ k → q ≡ r → b ≡ true → ⊥) → marked m′ c q ≡ marked m c q
 
 -- the same of all records from 1 to below r
 pub record Telling (b : ℕ → Bool) (k r : ℕ) (m m′ : List ℕ) : Type 0 where
   pub size : length m′ ≡ length m
   pub told : (i : ℕ) → 0 < i → i < r → i < length m → marked m′ k i ≡ b i || marked m k i
-  pub other : (c i : ℕ) → (c ≡ k → 0 < i → i < r → ⊥) → marked m′ c i ≡ marked m c i
+  pub other : (c i : ℕ) → (c ≡ k → 0 < i → i < r → b i ≡ true → ⊥) → marked m′ c i ≡ marked m c i
 
--- marks in which those of file f are set: the id repeats, and what is noted of the text
+-- marks in which those of file f are set: the id repeats, and what is noted of the text, which is nothing but for stops and routes
 pub record Marking (f : ℕ) (s m m′ : List ℕ) : Type 0 where
   pub size : length m′ ≡ length m
   pub repeats :
@@ -43,4 +43,4 @@ pub record Marking (f : ℕ) (s m m′ : List ℕ) : Type 0 where
   pub notes :
       ((i : ℕ) → marked m (noteMark f) i ≡ false)
       → countLf s ≤ length m → (i : ℕ) → i + 1 < countLf s → marked m′ (noteMark f) (i + 1) ≡ noted f (getD (rowsOf f s) i [])
-  pub other : (c i : ℕ) → (c ≡ f → ⊥) → (c ≡ noteMark f → ⊥) → marked m′ c i ≡ marked m c i
+  pub other : (c i : ℕ) → (c ≡ f → ⊥) → (c ≡ noteMark f → f ≤ 2 → ⊥) → marked m′ c i ≡ marked m c i

@@ -1,20 +1,21 @@
 // The five lent tables, filled from the five files.
 ghost use mathlib.Core.Path.{_≡_};
+ghost use mathlib.Core.Bool.{false};
 ghost use mathlib.Core.List.{List, [], _∷_};
 ghost use Prim.Native.Nat.{ℕ, _+_, _<_, _≤_};
 ghost use lib.IntN.{ℤ};
 ghost use lib.ListN.{length, take};
 ghost use Rattle.meaning.specs.Lists.{flat, laid};
 ghost use Rattle.meaning.specs.Bytes.{countLf};
-ghost use Rattle.meaning.specs.Tables.{Feed, feedOf, recordsOf, filled};
+ghost use Rattle.meaning.specs.Tables.{Feed, feedOf, filled};
 ghost use Rattle.meaning.specs.Refusals.{maxBytes, maxLines};
-ghost use Rattle.marks.specs.Marks.{Blank};
-ghost use Rattle.marks.specs.Noted.{Noted};
+ghost use Rattle.marks.specs.Marks.{marked, Blank};
+ghost use Rattle.marks.specs.Noted.{Noted, TripsNoted};
 ghost use Rattle.tables.specs.Fill.{Heading, Indexed, Refers, Room, Sought};
 ghost use Rattle.tables.specs.Walk.{Ordered, Parents};
+ghost use Rattle.tables.specs.Waiting.{writtenAll, written};
 use rows::Calendar;
 use rows::Routes;
-use rows::StopTimes;
 use rows::Stops;
 use rows::Trips;
 use text::LineStep;
@@ -22,6 +23,7 @@ use text::LineStep;
 mod records; // records.rt: the record of one located line, written into its table
 mod placing; // placing.rt: the first walk along files 1 to 4, and the order of their ids
 mod parents; // parents.rt: the parents of stops, once every stop's id is in the table
+mod times; // times.rt: the lines of stop_times, which wait in their table while they are put in trip order
 
 // What a file's header tells: the columns of its known names, and where the next line starts.
 struct Header {
@@ -48,7 +50,7 @@ fn read_header(f: usize, s: &[u8]) -> Header
     }
 }
 
-// The records of the lines from `at` on, the first of which is record 1.
+// The second walk from `at` on, where the line of record 1 starts; how many records there are.
 fn fill_lines(
     f: usize,
     s: &[u8],
@@ -63,7 +65,7 @@ fn fill_lines(
     b_table: &[i32],
     b_count: usize,
     b_memo: &mut [u32],
-)
+) -> usize
     requires { ⌜ (1 ≤ f) × ((f ≤ 5) × Room f (now s) (now t)) ⌝ }
     requires { ⌜ Heading f (now s) known at ⌝ }
     requires { ⌜ («a_count» ≤ maxBytes) × («b_count» ≤ maxBytes) ⌝ }
@@ -71,8 +73,9 @@ fn fill_lines(
     ensures { λ _. ⌜ ((w : Feed) (lent : List ℤ)
         → Refers f w (now (a .entry)) (now («a_table» .entry)) «a_count» (now (b .entry)) (now («b_table» .entry)) «b_count»
         → Parents f w (now (s .entry)) (now (t .entry))
-        → now (t .entry) ≡ laid (flat (take 1 (recordsOf f w (now (s .entry))))) lent
-        → now (t .exit) ≡ filled f w (now (s .entry)) lent) ⌝ }
+        → now (t .entry) ≡ laid (flat (take 1 (writtenAll f w (now (s .entry))))) lent
+        → now (t .exit) ≡ written f w (now (s .entry)) lent) ⌝ }
+    ensures { λ r. ⌜ r + 1 ≡ countLf (now (s .entry)) ⌝ }
 {
     let mut here = at;
     let mut r = 1;
@@ -99,13 +102,13 @@ fn fill_lines(
                 r += 1;
             }
             LineStep::Done => {
-                return;
+                return r - 1;
             }
         }
     }
 }
 
-// The records of a file, record 0 first; references go to the records of files a and b.
+// The records of a file as the second walk writes them, record 0 first; references go to those of files a and b. How many there are.
 fn fill(
     f: usize,
     s: &[u8],
@@ -116,14 +119,15 @@ fn fill(
     b: &[u8],
     b_table: &[i32],
     b_count: usize,
-)
+) -> usize
     requires { ⌜ (1 ≤ f) × ((f ≤ 5) × Room f (now s) (now t)) ⌝ }
     requires { ⌜ («a_count» ≤ maxBytes) × («b_count» ≤ maxBytes) ⌝ }
     requires { ⌜ Indexed f (now a) (now «a_table») «a_count» (now b) (now «b_table») «b_count» ⌝ }
     ensures { λ _. ⌜ ((w : Feed)
         → Refers f w (now (a .entry)) (now («a_table» .entry)) «a_count» (now (b .entry)) (now («b_table» .entry)) «b_count»
         → Parents f w (now (s .entry)) (now (t .entry))
-        → now (t .exit) ≡ filled f w (now (s .entry)) (now (t .entry))) ⌝ }
+        → now (t .exit) ≡ written f w (now (s .entry)) (now (t .entry))) ⌝ }
+    ensures { λ r. ⌜ r + 1 ≡ countLf (now (s .entry)) ⌝ }
 {
     let h = read_header(f, s);
     rows::cells::zero_record(t, rows::width_of(f));
@@ -145,7 +149,7 @@ fn fill(
         b_table,
         b_count,
         &mut b_memo,
-    );
+    )
 }
 
 // A table that refers to no other.
@@ -184,6 +188,7 @@ fn order_all(
     ensures { λ r. ⌜ Ordered 3 (now (calendar .entry)) (r .services) (now («calendar_table» .entry)) (now («calendar_table» .exit)) ⌝ }
     ensures { λ r. ⌜ Ordered 4 (now (trips .entry)) (r .trips) (now («trips_table» .entry)) (now («trips_table» .exit)) ⌝ }
     ensures { λ _. ⌜ ((e : List ℕ) → Noted (feedOf (now (stops .entry) ∷ now (routes .entry) ∷ now (calendar .entry) ∷ now (trips .entry) ∷ e ∷ [])) (now (marks .exit))) ⌝ }
+    ensures { λ _. ⌜ ((k i : ℕ) → 9 ≤ k → marked (now (marks .exit)) k i ≡ false) ⌝ }
 {
     Counts {
         stops: placing::order_file(Stops::FILE, stops, stops_table, marks),
@@ -224,6 +229,7 @@ pub fn fill_all(
     ensures { λ _. ⌜ now («stop_times_table» .exit) ≡ filled 5 (feedOf (now (stops .entry) ∷ now (routes .entry) ∷ now (calendar .entry) ∷ now (trips .entry) ∷ now («stop_times» .entry) ∷ []))
         (now («stop_times» .entry)) (now («stop_times_table» .entry)) ⌝ }
     ensures { λ _. ⌜ Noted (feedOf (now (stops .entry) ∷ now (routes .entry) ∷ now (calendar .entry) ∷ now (trips .entry) ∷ now («stop_times» .entry) ∷ [])) (now (marks .exit)) ⌝ }
+    ensures { λ _. ⌜ TripsNoted (feedOf (now (stops .entry) ∷ now (routes .entry) ∷ now (calendar .entry) ∷ now (trips .entry) ∷ now («stop_times» .entry) ∷ [])) (now (marks .exit)) ⌝ }
 {
     let n = order_all(
         stops,
@@ -237,8 +243,7 @@ pub fn fill_all(
         marks,
     );
     parents::settle_parents(stops, n.stops, stops_table);
-    fill(
-        StopTimes::FILE,
+    times::fill_times(
         stop_times,
         stop_times_table,
         trips,
@@ -247,6 +252,7 @@ pub fn fill_all(
         stops,
         stops_table,
         n.stops,
+        marks,
     );
     fill(
         Trips::FILE,

@@ -11,6 +11,7 @@ ghost use Rattle.rows.specs.Cells.{putAt};
 ghost use Rattle.memo.specs.Memo.{Ready};
 ghost use Rattle.values.specs.Located.{Located};
 ghost use Rattle.tables.specs.Fill.{line, Lies, Lists, Refers, Sought};
+ghost use Rattle.tables.specs.Waiting.{waitingOf, writtenOf};
 use columns::Cells;
 use meaning::Bounds;
 use rows::Calendar;
@@ -111,7 +112,7 @@ pub fn put_trip(
     Trips::put(t, row, id, route, service, direction, wheelchair, bikes);
 }
 
-// A stop time: a is trips.txt, b is stops.txt.
+// A stop time, which waits: a is trips.txt, b is stops.txt.
 pub fn put_time(
     l: &[u8],
     at: usize,
@@ -132,7 +133,7 @@ pub fn put_time(
     requires { ⌜ Ready (now a) (now «a_table») 7 «a_count» (now «a_memo») × Ready (now b) (now «b_table») 6 «b_count» (now «b_memo») ⌝ }
     ensures { λ _. ⌜ ((w : Feed) (ps : List ℕ) → Located (now (l .entry)) ps (q .start) (q .end)
         → Lists (now (a .entry)) (now («a_table» .entry)) 7 «a_count» (tripIds w) → Lists (now (b .entry)) (now («b_table» .entry)) 6 «b_count» (stopIds w)
-        → now (t .exit) ≡ putAt (now (t .entry)) (row .0 * 8) (recordOf 5 w ps (line at (now (l .entry))))) ⌝ }
+        → now (t .exit) ≡ putAt (now (t .entry)) (row .0 * 8) (waitingOf w ps (line at (now (l .entry))))) ⌝ }
     ensures { λ _. ⌜ Ready (now (a .entry)) (now («a_table» .entry)) 7 «a_count» (now («a_memo» .exit)) × Ready (now (b .entry)) (now («b_table» .entry)) 6 «b_count» (now («b_memo» .exit)) ⌝ }
 {
     let trip = resolve::find_trip(a, a_table, a_count, values::raw(l, q, 0), a_memo);
@@ -143,7 +144,8 @@ pub fn put_time(
     let pickup = values::choice_or_zero(l, q, 5, 3);
     let drop_off = values::choice_or_zero(l, q, 6, 3);
     let timepoint = values::choice_or_minus(l, q, 7, 1);
-    StopTimes::put(
+    let place = field_place(l, at, q, 0);
+    StopTimes::put_waiting(
         t,
         row,
         trip,
@@ -154,10 +156,11 @@ pub fn put_time(
         pickup,
         drop_off,
         timepoint,
+        place,
     );
 }
 
-// The record of a line of file f, with known columns in the columns `places`; a and b are the files that it refers to.
+// What the second walk writes for a line of file f, with known columns in the columns `places`; a and b are the files that it refers to.
 pub fn put_record(
     f: usize,
     l: &[u8],
@@ -181,7 +184,7 @@ pub fn put_record(
     ensures { λ _. ⌜ ((w : Feed) (ps : List ℕ) → ((k : ℕ) → getD places k 0 ≡ getD ps k 0)
         → Refers f w (now (a .entry)) (now («a_table» .entry)) «a_count» (now (b .entry)) (now («b_table» .entry)) «b_count»
         → (f ≡ 1 → getD (now (t .entry)) (r * 6 + 5) (pos 0) ≡ pos (refer (parentStation (rowOf ps (now (l .entry)))) (stopIds w)))
-        → now (t .exit) ≡ putAt (now (t .entry)) (r * widthOf f) (recordOf f w ps (line at (now (l .entry))))) ⌝ }
+        → now (t .exit) ≡ putAt (now (t .entry)) (r * widthOf f) (writtenOf f w ps (line at (now (l .entry))))) ⌝ }
     ensures { λ _. ⌜ Sought f (now (a .entry)) (now («a_table» .entry)) «a_count» (now («a_memo» .exit)) (now (b .entry)) (now («b_table» .entry)) «b_count» (now («b_memo» .exit)) ⌝ }
 {
     let q = columns::locate(l, places);

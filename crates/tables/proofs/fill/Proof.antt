@@ -1,8 +1,7 @@
 -- `tables::fill` meets its contract.
-use Rattle.meaning.specs.Tables.{recordsOf, recordOf}
 use Rattle.meaning.specs.Columns.{places, headerOf}
 use Rattle.meaning.specs.Bytes.{linesOf}
-use Rattle.tables.specs.Walk.{tabled}
+use Rattle.tables.specs.Waiting.{writtenOf}
 use Rattle.tables.proofs.Turns.{first-room, walk-first}
 use Rattle.tables.proofs.Feeds.{sought-blank, parents-zeroed}
 use Prim.Native.Nat.{_-_}
@@ -44,13 +43,15 @@ same-length : tie.Need-same-length
 same-length c = search needs
 
 returns : tie.Need-returns
-unfolding recordsOf tabled
 returns c =
     let s = c .before .before .before .before .before .before .before .before .before .before .before .before .before .before .before .before .before .before in
     let z = rw (c .before .before .before .before .before .before .before .before .before .before .before .before .width-of .ensures) at (c .before .before .before .before .before .before .before .before .before .before .before .zero-record .ensures) in
-    λ w refs parents.
-    c .before .before .before .fill-lines .ensures w (s .args .t .now) refs (parents-zeroed _ w _ _ _ z parents)
-    (walk-first (s .args .f) (recordOf (s .args .f) w (places (s .args .f) (headerOf (linesOf (s .args .s .now))))) (s .args .s .now) _ _ z)
+    let p = c .before .before .before .fill-lines .ensures in (
+      (λ w refs parents.
+          p .0 w (s .args .t .now) refs (parents-zeroed _ w _ _ _ z parents)
+          (walk-first (s .args .f) (writtenOf (s .args .f) w (places (s .args .f) (headerOf (linesOf (s .args .s .now))))) (s .args .s .now) _ _ z)),
+      p .1,
+    )
 
 pub fill-spec : {M : Type 1} → statement M
 fill-spec =

@@ -1,5 +1,7 @@
 -- `tables::fill_alone` meets its contract.
 use Rattle.tables.proofs.Feeds.{refers-none, indexed-none}
+use Rattle.tables.proofs.Written.{written-filled}
+use mathlib.Core.Path.{_∙_}
 use Prim.Native.Nat.{_-_}
 use native.Mathlib.Omega.{arith}
 use borrow.Author.Needs.{needs}
@@ -21,7 +23,7 @@ same-length : tie.Need-same-length
 same-length c = search needs
 
 returns : tie.Need-returns
-returns c = let s = c .before .before .before .before .before .before .pre in λ w parents. c .before .fill .ensures w (refers-none _ _ _ _ _ _ _ (s .1 .0) w) parents
+returns c = let s = c .before .before .before .before .before .before .pre in λ w parents. c .before .fill .ensures .0 w (refers-none _ _ _ _ _ _ _ (s .1 .0) w) parents ∙ written-filled _ (omega (arith, s .1 .0)) w _ _
 
 pub fill-alone-spec : {M : Type 1} → statement M
 fill-alone-spec =

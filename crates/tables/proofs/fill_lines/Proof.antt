@@ -2,13 +2,14 @@
 use Rattle.meaning.specs.Lists.{flat, laid}
 use Rattle.meaning.specs.Bytes.{part, countLf, linesFrom, linesOf}
 use Rattle.meaning.specs.Columns.{places, headerOf}
-use Rattle.meaning.specs.Tables.{Feed, widthOf, recordOf, recordsOf, filled}
+use Rattle.meaning.specs.Tables.{Feed, widthOf}
 use Rattle.text.proofs.Lines.{line-found, line-none}
 use Rattle.text.proofs.Walk.{line-next}
-use Rattle.rows.proofs.Records.{record-wide}
 use Rattle.tables.specs.Fill.{Refers, Sought}
-use Rattle.tables.specs.Walk.{tabled, Parents}
-use Rattle.tables.proofs.Turns.{two-wide, walk-inside, walk-room, walk-count, walk-size, walk-turn, walk-end}
+use Rattle.tables.specs.Walk.{Parents}
+use Rattle.tables.specs.Waiting.{writtenOf, writtenAll, written}
+use Rattle.tables.proofs.Written.{written-wide}
+use Rattle.tables.proofs.Turns.{two-wide, walk-inside, walk-room, walk-count, walk-size, walk-turn, walk-past, walk-end}
 use Rattle.tables.proofs.Ids.{row-here}
 use Rattle.tables.proofs.SecondWalk.{parent-here}
 use mathlib.Core.Path.{_≡_, refl, sym, _∙_}
@@ -22,7 +23,7 @@ use Rattle.tables.proofs.fill_lines.Statement.{statement}
 use Rattle.tables.proofs.fill_lines.Tie as tie
 
 abbrev Inv-loop : tie.InvT-loop
-Inv-loop f s at known t₀ a a-table a-count a-memo₀ b b-table b-count b-memo₀ here₀ r₀ t a-memo b-memo here r = ((1 ≤ r) × (r ≤ countLf s)) × ((linesFrom s here ≡ drop r (linesOf s)) × (((length t ≡ length t₀) × ((length a-memo ≡ length a-memo₀) × (length b-memo ≡ length b-memo₀))) × (Sought f a a-table a-count a-memo b b-table b-count b-memo × ((w : Feed) (lent : List ℤ) → Refers f w a a-table a-count b b-table b-count → Parents f w s t₀ → t₀ ≡ laid (flat (take 1 (recordsOf f w s))) lent → t ≡ laid (flat (take r (recordsOf f w s))) lent))))
+Inv-loop f s at known t₀ a a-table a-count a-memo₀ b b-table b-count b-memo₀ here₀ r₀ t a-memo b-memo here r = ((1 ≤ r) × (r ≤ countLf s)) × ((linesFrom s here ≡ drop r (linesOf s)) × (((length t ≡ length t₀) × ((length a-memo ≡ length a-memo₀) × (length b-memo ≡ length b-memo₀))) × (Sought f a a-table a-count a-memo b b-table b-count b-memo × ((w : Feed) (lent : List ℤ) → Refers f w a a-table a-count b b-table b-count → Parents f w s t₀ → t₀ ≡ laid (flat (take 1 (writtenAll f w s))) lent → t ≡ laid (flat (take r (writtenAll f w s))) lent))))
 
 abbrev μ-loop : tie.MeasureT-loop
 μ-loop f s at known t₀ a a-table a-count a-memo₀ b b-table b-count b-memo₀ here₀ r₀ t a-memo b-memo here r = length s - here
@@ -66,7 +67,7 @@ loop-less : tie.Need-loop-less Inv-loop μ-loop
 loop-less c = let h = line-found _ _ _ _ _ (sym (c .before .before .before .before .before .before .before .before .before .before .before .before .before .next-line .ensures) ∙ c .before .before .before .before .before .before .before .before .before .before .before .start .given .1) in omega (arith, h .starts, h .ordered, h .before, h .within)
 
 loop-again : tie.Need-loop-again Inv-loop μ-loop
-unfolding part recordsOf tabled
+unfolding part
 loop-again c =
     let s = c .before .before .before .before .before .before .before .before .before .before .before .before .before .before .before .before .before .before .before .before in
     let l = c .before .before .before .before .before .before .before .before .before .before .before .before .before .before .loop in
@@ -85,8 +86,8 @@ loop-again c =
             λ w lent refs parents e.
                 let is = l .inv .1 .1 .1 .1 w lent refs parents e in
                 let row = row-here f text (l .here) (l .r) (l .inv .1 .0) _ _ _ h (l .inv .0 .0) in
-                walk-turn text (l .here) (l .r) (l .inv .1 .0) _ _ _ h f (recordOf f w (places f (headerOf (linesOf text)))) (λ x. record-wide f w _ x (s .pre .0 .0) (omega (arith, s .pre .0 .1 .0))) _ _ lent (l .inv .0 .0) is
-                (p .0 w _ (s .pre .1 .0 .columns) refs (parent-here f (s .pre .0 .0) (s .pre .0 .1 .0) w text (s .pre .0 .1 .1 .lines) lent _ _ (l .r) _ is e parents (l .inv .0 .0) inside row)),
+                walk-turn text (l .here) (l .r) (l .inv .1 .0) _ _ _ h f (writtenOf f w (places f (headerOf (linesOf text)))) (written-wide f (s .pre .0 .0) (s .pre .0 .1 .0) w _) _ _ lent (l .inv .0 .0) is
+                (p .0 w _ (s .pre .1 .0 .columns) refs (parent-here f text (s .pre .0 .1 .1 .lines) (writtenOf f w (places f (headerOf (linesOf text)))) (written-wide f (s .pre .0 .0) (s .pre .0 .1 .0) w _) w lent _ _ (l .r) _ is e parents (l .inv .0 .0) inside row)),
           ),
         ),
       ),
@@ -94,6 +95,9 @@ loop-again c =
 
 enum-told : tie.Need-enum-told Inv-loop μ-loop
 enum-told c = search needs
+
+sub-result : tie.Need-sub-result Inv-loop μ-loop
+sub-result c = omega (arith, c .before .before .before .loop .inv .0 .0)
 
 same-length : tie.Need-same-length Inv-loop μ-loop
 same-length c = c .before .before .before .loop .inv .1 .1 .0 .0
@@ -105,14 +109,16 @@ same-length-3 : tie.Need-same-length-3 Inv-loop μ-loop
 same-length-3 c = c .before .before .before .loop .inv .1 .1 .0 .1 .1
 
 returns : tie.Need-returns Inv-loop μ-loop
-unfolding recordsOf tabled filled
+unfolding written
 returns c =
     let s = c .before .before .before .before .before .before .before .before .before in
     let l = c .before .before .before .loop in
     let f = s .args .f in
-    let none = line-none _ _ (sym (c .before .before .next-line .ensures) ∙ c .enum-told .given .1) in
-    λ w lent refs parents e.
-    walk-end (s .args .s .now) (l .here) (l .r) (l .inv .1 .0) f (recordOf f w (places f (headerOf (linesOf (s .args .s .now))))) (λ x. record-wide f w _ x (s .pre .0 .0) (omega (arith, s .pre .0 .1 .0))) _ lent (s .pre .0 .1 .1 .lines) none (l .inv .1 .1 .1 .1 w lent refs parents e)
+    let none = line-none _ _ (sym (c .before .before .next-line .ensures) ∙ c .enum-told .given .1) in (
+      (λ w lent refs parents e.
+          walk-end (s .args .s .now) (l .here) (l .r) (l .inv .1 .0) f (writtenOf f w (places f (headerOf (linesOf (s .args .s .now))))) (written-wide f (s .pre .0 .0) (s .pre .0 .1 .0) w _) _ lent (s .pre .0 .1 .1 .lines) none (l .inv .1 .1 .1 .1 w lent refs parents e)),
+      omega (arith, walk-past (s .args .s .now) (l .here) (l .r) (l .inv .1 .0) none, l .inv .0 .0, l .inv .0 .1),
+    )
 
 pub fill-lines-spec : {M : Type 1} → statement M
 fill-lines-spec =
@@ -131,6 +137,7 @@ fill-lines-spec =
     loop-less
     loop-again
     enum-told
+    sub-result
     same-length
     same-length-2
     same-length-3

@@ -1,5 +1,6 @@
 -- `tables::order_all` meets its contract.
-use Rattle.tables.proofs.Marking.{noted-all}
+use Rattle.tables.proofs.Marking.{noted-all, none-told}
+use mathlib.Core.List.{[]}
 use Prim.Native.Nat.{_-_}
 use native.Mathlib.Omega.{arith}
 use borrow.Author.Needs.{needs}
@@ -43,7 +44,16 @@ returns c =
       a .0,
       (
         b .0,
-        (d .0, (e .0, λ times. noted-all _ _ _ _ times _ _ _ _ _ (a .1) (b .1) (d .1) (e .1) (s .1 .0) (s .1 .1) (s .0 .0 .few, (s .0 .1 .0 .few, (s .0 .1 .1 .0 .few, s .0 .1 .1 .1 .few))))),
+        (
+          d .0,
+          (
+            e .0,
+            (
+              (λ times. noted-all _ _ _ _ times _ _ _ _ _ (a .1) (b .1) (d .1) (e .1) (s .1 .0) (s .1 .1) (s .0 .0 .few, (s .0 .1 .0 .few, (s .0 .1 .1 .0 .few, s .0 .1 .1 .1 .few)))),
+              none-told _ _ _ _ [] _ _ _ _ _ (a .1) (b .1) (d .1) (e .1) (s .1 .0) (s .1 .1) (s .0 .0 .few, (s .0 .1 .0 .few, (s .0 .1 .1 .0 .few, s .0 .1 .1 .1 .few))),
+            ),
+          ),
+        ),
       ),
     )
 

@@ -1,5 +1,6 @@
 -- `tables::records::put_record` meets its contract.
 use Rattle.meaning.specs.Tables.{widths, widthOf}
+use Rattle.tables.specs.Waiting.{writtenOf}
 use Rattle.tables.proofs.LineRecords.{located, lies}
 use Rattle.tables.proofs.Readings.{file-room, file-put, fifth}
 use Rattle.tables.proofs.Feeds.{sought-trips, sought-times}
@@ -22,7 +23,7 @@ same-length : tie.Need-same-length
 same-length c = search needs
 
 returns : tie.Need-returns
-unfolding widthOf widths
+unfolding widthOf widths writtenOf
 returns c =
     let s = c .before .before .before .before .before .before .before .before .before .before in
     let x = c .before .before .before .before .locate in
@@ -40,7 +41,7 @@ same-length-2 : tie.Need-same-length-2
 same-length-2 c = search needs
 
 returns-2 : tie.Need-returns-2
-unfolding widthOf widths
+unfolding widthOf widths writtenOf
 returns-2 c =
     let s = c .before .before .before .before .before .before .before .before .before .before .before in
     let x = c .before .before .before .before .before .locate in
@@ -58,7 +59,7 @@ same-length-3 : tie.Need-same-length-3
 same-length-3 c = search needs
 
 returns-3 : tie.Need-returns-3
-unfolding widthOf widths
+unfolding widthOf widths writtenOf
 returns-3 c =
     let s = c .before .before .before .before .before .before .before .before .before .before .before .before in
     let x = c .before .before .before .before .before .before .locate in
@@ -83,7 +84,7 @@ same-length-6 : tie.Need-same-length-6
 same-length-6 c = search needs
 
 returns-4 : tie.Need-returns-4
-unfolding widthOf widths
+unfolding widthOf widths writtenOf
 returns-4 c =
     let s = c .before .before .before .before .before .before .before .before .before .before .before .before .before .before .before .before .before .before .before in
     let x = c .before .before .before .before .before .before .before .before .before .before .before .before .before .locate in
@@ -109,7 +110,7 @@ same-length-9 : tie.Need-same-length-9
 same-length-9 c = search needs
 
 returns-5 : tie.Need-returns-5
-unfolding widthOf widths
+unfolding widthOf widths writtenOf
 returns-5 c =
     let s = c .before .before .before .before .before .before .before .before .before .before .before .before .before .before .before .before .before .before .before in
     let x = c .before .before .before .before .before .before .before .before .before .before .before .before .before .locate in

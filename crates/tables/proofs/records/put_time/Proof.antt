@@ -1,7 +1,10 @@
 -- `tables::records::put_time` meets its contract.
-use Rattle.tables.proofs.LineRecords.{time-record}
+use Rattle.tables.proofs.LineRecords.{waiting-record}
+use Rattle.tables.proofs.Waits.{timepoint-marked}
 use Rattle.tables.proofs.Readings.{put-as, referred}
+use Rattle.values.specs.Located.{valueIn}
 use Rattle.num.proofs.Laws.{kept-is}
+use mathlib.Core.Path.{sym, _∙_}
 use Prim.Native.Nat.{_-_}
 use native.Mathlib.Omega.{arith}
 use borrow.Author.Needs.{needs}
@@ -38,33 +41,39 @@ choice-or-zero-requires-2 c κs = (omega arith, c .before .before .before .befor
 choice-or-minus-requires : tie.Need-choice-or-minus-requires
 choice-or-minus-requires c κs = (omega arith, c .before .before .before .before .before .before .before .before .before .before .before .before .before .before .before .before .before .before .before .before .pre .0 .0 .0)
 
-put-requires : tie.Need-put-requires
-put-requires c κs =
-    let s = c .before .before .before .before .before .before .before .before .before .before .before .before .before .before .before .before .before .before .before .before .before .before .pre in
-    (s .0 .1, (omega (arith, c .before .before .before .before .before .before .before .before .before .before .before .before .before .before .find-trip .ensures .1 .0, s .1 .0 .0), (omega (arith, c .before .before .before .before .before .before .before .before .before .find-stop .ensures .1 .0, s .1 .0 .1), (omega (arith, c .before .before .before .before .before .before .sequence .ensures .1), (omega (arith, c .before .before .before .choice-or-zero .ensures .1), omega (arith, c .before .before .choice-or-zero2 .ensures .1))))))
+field-place-requires : tie.Need-field-place-requires
+field-place-requires c κs = (omega arith, c .before .before .before .before .before .before .before .before .before .before .before .before .before .before .before .before .before .before .before .before .before .pre .0 .0)
+
+put-waiting-requires : tie.Need-put-waiting-requires
+put-waiting-requires c κs =
+    let s = c .before .before .before .before .before .before .before .before .before .before .before .before .before .before .before .before .before .before .before .before .before .before .before .pre in
+    let place = c .before .field-place .ensures .1 in
+    (s .0 .1, (omega (arith, c .before .before .before .before .before .before .before .before .before .before .before .before .before .before .before .find-trip .ensures .1 .0, s .1 .0 .0), (omega (arith, c .before .before .before .before .before .before .before .before .before .before .find-stop .ensures .1 .0, s .1 .0 .1), (omega (arith, c .before .before .before .before .before .before .before .sequence .ensures .1), (omega (arith, c .before .before .before .before .choice-or-zero .ensures .1), (omega (arith, c .before .before .before .choice-or-zero2 .ensures .1), (omega (arith, place .0), omega (arith, place .1))))))))
 
 same-length : tie.Need-same-length
 same-length c = search needs
 
 same-length-2 : tie.Need-same-length-2
-same-length-2 c = search needs
+same-length-2 c = c .before .before .before .before .before .before .before .before .before .before .before .before .before .before .before .before .before .find-trip .kept .1 .1 .1 .1 .0
 
 same-length-3 : tie.Need-same-length-3
-same-length-3 c = search needs
+same-length-3 c = c .before .before .before .before .before .before .before .before .before .before .before .before .find-stop .kept .1 .1 .1 .1 .0
 
 returns : tie.Need-returns
 returns c =
-    let s = c .before .before .before .before .before .before .before .before .before .before .before .before .before .before .before .before .before .before .before .before .before .before .before .before .args in
-    let x = c .before .before .before .before .before .before .before .clock in
-    let y = c .before .before .before .before .before .before .clock2 in
-    let z = c .before .before .before .choice-or-minus in (
-      (λ w ps loc trips stops. put-as _ _ _ _ _ (c .before .put .ensures)
-          (time-record ps (s .l .now) _ (s .q .start) (s .q .end) loc w _ _ _ _ _ _ _ _
-          (referred _ _ _ _ _ _ _ _ trips (c .before .before .before .before .before .before .before .before .before .before .before .before .before .before .before .before .find-trip .ensures .0) (c .before .before .before .before .before .before .before .before .before .before .before .before .before .before .before .before .before .before .raw .ensures))
-          (referred _ _ _ _ _ _ _ _ stops (c .before .before .before .before .before .before .before .before .before .before .before .find-stop .ensures .0) (c .before .before .before .before .before .before .before .before .before .before .before .before .before .raw2 .ensures))
-          (c .before .before .before .before .before .before .before .before .sequence .ensures .0) (kept-is _ _ (x .ok) (x .ensures)) (kept-is _ _ (y .ok) (y .ensures))
-          (c .before .before .before .before .before .choice-or-zero .ensures .0) (c .before .before .before .before .choice-or-zero2 .ensures .0) (kept-is _ _ (z .ok) (z .ensures)))),
-      (c .before .before .before .before .before .before .before .before .before .before .before .before .before .before .before .before .find-trip .ensures .1 .1, c .before .before .before .before .before .before .before .before .before .before .before .find-stop .ensures .1 .1),
+    let s = c .before .before .before .before .before .before .before .before .before .before .before .before .before .before .before .before .before .before .before .before .before .before .before .before .before .args in
+    let x = c .before .before .before .before .before .before .before .before .clock in
+    let y = c .before .before .before .before .before .before .before .clock2 in
+    let z = c .before .before .before .before .choice-or-minus in
+    let m = timepoint-marked (valueIn (s .l .now) (s .q .start) (s .q .end) 7) in
+    let place = c .before .before .before .field-place .ensures .0 in (
+      (λ w ps loc trips stops. put-as _ _ _ _ _ (c .before .put-waiting .ensures _ (m .1) (kept-is _ _ (z .ok) (z .ensures) ∙ sym (m .0)))
+          (waiting-record ps (s .l .now) _ (s .q .start) (s .q .end) loc w _ _ _ _ _ _ _ _ _
+          (referred _ _ _ _ _ _ _ _ trips (c .before .before .before .before .before .before .before .before .before .before .before .before .before .before .before .before .before .find-trip .ensures .0) (c .before .before .before .before .before .before .before .before .before .before .before .before .before .before .before .before .before .before .before .raw .ensures))
+          (referred _ _ _ _ _ _ _ _ stops (c .before .before .before .before .before .before .before .before .before .before .before .before .find-stop .ensures .0) (c .before .before .before .before .before .before .before .before .before .before .before .before .before .before .raw2 .ensures))
+          (c .before .before .before .before .before .before .before .before .before .sequence .ensures .0) (kept-is _ _ (x .ok) (x .ensures)) (kept-is _ _ (y .ok) (y .ensures))
+          (c .before .before .before .before .before .before .choice-or-zero .ensures .0) (c .before .before .before .before .before .choice-or-zero2 .ensures .0) (place .0) (place .1))),
+      (c .before .before .before .before .before .before .before .before .before .before .before .before .before .before .before .before .before .find-trip .ensures .1 .1, c .before .before .before .before .before .before .before .before .before .before .before .before .find-stop .ensures .1 .1),
     )
 
 pub put-time-spec : {M : Type 1} → statement M
@@ -81,7 +90,8 @@ put-time-spec =
     choice-or-zero-requires
     choice-or-zero-requires-2
     choice-or-minus-requires
-    put-requires
+    field-place-requires
+    put-waiting-requires
     same-length
     same-length-2
     same-length-3

@@ -1,0 +1,45 @@
+-- What the second walk along a file writes: its records, but those of stop_times wait while their lines are put in trip order.
+use Prim.Native.Nat.{ℕ, _+_}
+use mathlib.Core.List.{List, [], _∷_, _++_}
+use mathlib.Core.Bool.{cond}
+use lib.Dec.{eqb}
+use lib.IntN.{ℤ, pos, negsuc}
+use lib.ListN.{getD}
+use Rattle.num.specs.Signs.{natOf}
+use Rattle.meaning.specs.Lists.{flat, laid}
+use Rattle.meaning.specs.Bytes.{Line, linesOf}
+use Rattle.meaning.specs.Columns.{places, rowOf, headerOf}
+use Rattle.meaning.specs.Forms.{timeOf, sequenceOf}
+use Rattle.meaning.specs.Tables.{Feed, number, seconds, orZero, orMinus, refer, tripIds, stopIds, idPlace, timeTrip, timeStop, stopSequence, arrivalTime, departureTime, pickupType, dropOffType, timepoint, recordOf}
+use Rattle.rows.specs.Waiting.{packed}
+use Rattle.tables.specs.Walk.{tabled}
+
+-- timepoint as it is packed: 0 is empty, n + 1 is n
+abbrev pub marking : ℤ → ℕ
+marking (pos n) = n + 1
+marking (negsuc n) = 0
+
+-- A line of stop_times that waits: its trip; stop, pickup, drop-off and timepoint in one; sequence, arrival, departure; the place of its trip_id; the cell of the order.
+unfoldable pub waitingOf : Feed → List ℕ → Line → List ℤ
+waitingOf w ps x =
+    let r = rowOf ps (x .text) in
+    let stop = refer (timeStop r) (stopIds w) in
+    pos (refer (timeTrip r) (tripIds w))
+    ∷ pos (packed stop (natOf (orZero 3 (pickupType r))) (natOf (orZero 3 (dropOffType r))) (marking (orMinus 1 (timepoint r))))
+    ∷ number (sequenceOf (stopSequence r))
+    ∷ seconds (timeOf (arrivalTime r))
+    ∷ seconds (timeOf (departureTime r))
+    ∷ idPlace (getD ps 0 0) x
+    ++ (pos 0 ∷ [])
+
+-- what the second walk writes for a line
+unfoldable pub writtenOf : ℕ → Feed → List ℕ → Line → List ℤ
+writtenOf f w ps x = cond (eqb f 5) (waitingOf w ps x) (recordOf f w ps x)
+
+-- .. and for a file
+abbrev pub writtenAll : ℕ → Feed → List ℕ → List (List ℤ)
+writtenAll f w s = tabled f (writtenOf f w (places f (headerOf (linesOf s)))) s
+
+-- a file's table after the second walk
+unfoldable pub written : ℕ → Feed → List ℕ → List ℤ → List ℤ
+written f w s lent = laid (flat (writtenAll f w s)) lent
