@@ -292,10 +292,7 @@ impl<'a> Facts<'a> {
         let sequence = self.number(SEQUENCE, line);
         About {
             words: format!("the trip has stop_sequence {sequence} on line {earlier} already"),
-            members: vec![
-                ("stop_sequence", Value::Number(sequence.into())),
-                ("earlier_line", Value::size(earlier)),
-            ],
+            members: vec![("stop_sequence", Value::Number(sequence.into())), ("earlier_line", Value::size(earlier))],
         }
     }
 

@@ -62,8 +62,11 @@ pub struct Parts {
 
 pub fn introduce(families: &[&Family]) {
     for family in families {
-        println!("{:>12}: {}", family.name, family.about);
+        let plain = if family.kind == Kind::Plain { " (a plain feed)" } else { "" };
+        println!("{:>12}: {}{plain}", family.name, family.about);
     }
+    println!("Every feed counts, those whose trips stand nowhere too. Aims: growth at most {GROWTH:.0} for four times");
+    println!("the lines; ratio at most {PLAIN_RATIO:.0} on plain feeds, at most {RATIO:.0} on any.");
     println!("Processor: {}.", processor());
     println!("Processor time of one call: the fastest of {RUNS}, or of as many as {SPENT} s allow.");
     println!("The lent list has room for {ROOM} findings. Growth: the check's time by that in the row above.\n");
@@ -135,7 +138,7 @@ fn misses(rows: &[&Row]) {
     feeds.retain(|(_, missed)| !missed.is_empty());
     let words = |(name, missed): &(&str, Vec<&str>)| format!("{name} ({})", distinct(missed).join(", "));
     match &feeds[..] {
-        [] => println!("Aims missed: none. Every feed counts, those whose trips stand nowhere too."),
+        [] => println!("Aims missed: none."),
         _ => println!("Aims missed: {}.", feeds.iter().map(words).collect::<Vec<_>>().join("; ")),
     }
 }
