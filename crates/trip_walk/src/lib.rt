@@ -36,21 +36,21 @@ const END: usize = 6;
 
 // What the walk carries along: the greatest departure in the group of smaller sequences, and of this one;
 // the first cell of the group, and of the run of equal sequences; and of this line: is it of the group before, and what is told of it.
-pub struct State {
-    pub below: usize,
-    pub here: usize,
-    pub from: usize,
-    pub begins: usize,
-    pub linked: bool,
-    pub equal: bool,
-    pub falls: bool,
+struct State {
+    below: usize,
+    here: usize,
+    from: usize,
+    begins: usize,
+    linked: bool,
+    equal: bool,
+    falls: bool,
 }
 
 // What a line's two times say.
-pub struct Times {
-    pub timed: bool,
-    pub arrives: usize,
-    pub departs: usize,
+struct Times {
+    timed: bool,
+    arrives: usize,
+    departs: usize,
 }
 
 // The line in cell k.
