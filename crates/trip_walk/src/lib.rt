@@ -60,24 +60,6 @@ fn line_at(t: &[i32], k: usize) -> usize
     rows::cells::nat_of(t, k, StopTimes::WIDTH, CELL)
 }
 
-fn both(a: bool, b: bool) -> bool
-    ensures { λ r. ⌜ r ≡ (a && b) ⌝ }
-{
-    if a {
-        return b;
-    }
-    false
-}
-
-fn either(a: bool, b: bool) -> bool
-    ensures { λ r. ⌜ r ≡ (a || b) ⌝ }
-{
-    if a {
-        return true;
-    }
-    b
-}
-
 fn pick(b: bool, x: usize, y: usize) -> usize
     ensures { λ r. ⌜ r ≡ cond b x y ⌝ }
 {
@@ -166,7 +148,7 @@ fn leaving(x: Times) -> usize
 fn is_late(x: Times, below: usize) -> bool
     ensures { λ r. ⌜ r ≡ (x .timed && ltb (x .arrives) below) ⌝ }
 {
-    both(x.timed, x.arrives < below)
+    x.timed & (x.arrives < below)
 }
 
 // The greatest departure of smaller sequences, carried on.
@@ -247,7 +229,7 @@ fn is_open(t: &[i32], a: State) -> bool
 {
     let first = is_untimed(t, line_at(t, a.from));
     let last = is_untimed(t, line_at(t, a.begins));
-    either(first, last)
+    first | last
 }
 
 // The trip of the group that ends with cell k: has it two lines, is its first or its last not timed?
@@ -306,7 +288,7 @@ fn is_after(t: &[i32], i: usize) -> bool
 {
     let before = StopTimes::trip_at(t, TimeRow(i)).0;
     let here = StopTimes::trip_at(t, TimeRow(i + 1)).0;
-    both(0 < i, before == here)
+    (0 < i) & (before == here)
 }
 
 // Does line i + 1 go on with a trip, or begin one that is not met yet?
@@ -315,7 +297,7 @@ fn goes_on(t: &[i32], m: &[u16], i: usize) -> bool
     ensures { λ r. ⌜ r ≡ goesBy (now (t .entry)) (now (m .entry)) i ⌝ }
 {
     let r = StopTimes::trip_at(t, TimeRow(i + 1)).0;
-    if both(0 < r, r < m.len()) {
+    if (0 < r) & (r < m.len()) {
         if is_after(t, i) {
             let x = StopTimes::sequence_at(t, TimeRow(i));
             let y = StopTimes::sequence_at(t, TimeRow(i + 1));
