@@ -1,21 +1,20 @@
 -- Lines of stop_times that wait in their table, and how they are settled one by one.
 use mathlib.Core.Path.{_≡_, refl, sym, ap, _∙_}
-use mathlib.Core.List.{List, [], _∷_}
-use Prim.Native.Nat.{ℕ, zero, suc, _+_, _*_, _/_, _%_, _≤_, _<_}
+use mathlib.Core.List.{List, []}
+use Prim.Native.Nat.{ℕ, _+_, _*_, _≤_, _<_}
 use native.Mathlib.Omega.{arith}
 use native.Mathlib.Numerals.{add-one}
 use native.Mathlib.Nat.{add-zero}
 use lib.Dec.{ltb}
 use lib.IntN.{ℤ, pos, negsuc}
-use lib.ListN.{length, getD, take, replicate}
+use lib.ListN.{length, getD, take}
 use lib.Seq.{ext-getD, take-all}
 use mathlib.Core.Bool.{Bool, true, false}
 use borrow.Author.Tests.{ltb-true, ltb-false}
-use Rattle.num.specs.Signs.{natOf}
 use Rattle.meaning.specs.Lists.{flat, laid}
 use Rattle.meaning.specs.Bytes.{Line, countLf, linesOf}
 use Rattle.meaning.specs.Columns.{Row, places, headerOf, rowOf}
-use Rattle.meaning.specs.Tables.{Feed, widths, widthOf, orZero, orMinus, idColumn, idPlace, numbersOf, timeNumbers, timepoint, pickupType, dropOffType, recordOf, recordsOf, filled}
+use Rattle.meaning.specs.Tables.{Feed, widths, widthOf, orMinus, idColumn, numbersOf, timeNumbers, timepoint, pickupType, dropOffType, recordOf, recordsOf, filled}
 use Rattle.rows.specs.Cells.{putAt}
 use Rattle.rows.specs.Waiting.{unmark, settledAt}
 use Rattle.rows.proofs.Waiting.{settled-back}

@@ -1,16 +1,16 @@
 -- A choice as it is stored: none, or a number up to the largest.
-use mathlib.Core.Path.{_≡_, refl, sym, ap, _∙_}
+use mathlib.Core.Path.{_≡_, refl}
 use mathlib.Core.Bool.{Bool, true, false, cond}
 use mathlib.Core.List.{List}
-use Prim.Native.Nat.{ℕ, _≤_, _<_}
+use Prim.Native.Nat.{ℕ, _≤_}
 use native.Mathlib.Omega.{arith}
-use lib.IntN.{ℤ, pos, negsuc}
+use lib.IntN.{ℤ, pos}
 use Rattle.num.specs.Signs.{natOf}
 use Rattle.meaning.specs.declared.Choice.{Choice}
 use Rattle.meaning.specs.declared.Choice.the-variants.{Picked, NoChoice}
 use Rattle.meaning.specs.Lists.{empty}
 use Rattle.meaning.specs.Forms.{noMark, formed, digitText, choiceOf}
-use Rattle.meaning.specs.Tables.{picked, choiceOr, orZero, orMinus}
+use Rattle.meaning.specs.Tables.{picked, choiceOr, orZero}
 use Rattle.forms.specs.Bounds.{ChoiceFits}
 use Rattle.forms.proofs.Laws.{choice-fits, no-choice}
 

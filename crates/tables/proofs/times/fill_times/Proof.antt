@@ -4,7 +4,6 @@ use Rattle.tables.proofs.TripLines.{trip-count, trips-noted}
 use mathlib.Core.Path.{refl, _∙_}
 use Prim.Native.Nat.{_-_}
 use native.Mathlib.Omega.{arith}
-use borrow.Author.Needs.{needs}
 use Rattle.tables.proofs.times.fill_times.Statement.{statement}
 use Rattle.tables.proofs.times.fill_times.Tie as tie
 
