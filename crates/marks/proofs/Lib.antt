@@ -1,2 +1,3 @@
 -- Laws of marks.
 pub mod Bits
+pub mod Tests

@@ -2,7 +2,7 @@
 use Prim.Native.Nat.{ℕ, _/_, _%_, _^_, _<_}
 use mathlib.Core.Path.{_≡_}
 use mathlib.Core.List.{List}
-use mathlib.Core.Bool.{Bool, true, false}
+use mathlib.Core.Bool.{Bool, true, false, _||_}
 use lib.ListN.{length, getD}
 use lib.Dec.{eqb}
 
@@ -19,6 +19,12 @@ pub record OneMore (m m′ : List ℕ) (b r : ℕ) : Type 0 where
   pub size : length m′ ≡ length m
   pub here : r < length m → marked m′ b r ≡ true
   pub other : (c q : ℕ) → (c ≡ b → q ≡ r → ⊥) → marked m′ c q ≡ marked m c q
+
+-- the same where p holds
+pub record MarkedIf (p : Bool) (m m′ : List ℕ) (b r : ℕ) : Type 0 where
+  pub size : length m′ ≡ length m
+  pub here : r < length m → marked m′ b r ≡ p || marked m b r
+  pub other : (c q : ℕ) → (c ≡ b → q ≡ r → p ≡ true → ⊥) → marked m′ c q ≡ marked m c q
 
 -- mark f, for files 1 to 6, is that the id of the line repeats an earlier one of file f; 7, that the stop has a parent; 8, that both names of the route are empty
 abbrev pub parentMark : ℕ

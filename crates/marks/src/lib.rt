@@ -1,7 +1,7 @@
 // Marks: what only a line's text or the order of its file's ids can tell of a record, a bit each in one array that all files share.
 ghost use mathlib.Core.Path.{_≡_};
 ghost use Prim.Native.Nat.{_<_};
-ghost use Rattle.marks.specs.Marks.{marked, Blank, OneMore};
+ghost use Rattle.marks.specs.Marks.{marked, Blank, OneMore, MarkedIf};
 use meaning::MAX_LINES;
 
 // Mark f, of files 1 to 6: the id of the line stands on an earlier one of file f. The marks from 7 on have names.
@@ -46,5 +46,15 @@ pub fn mark(m: &mut [u16], b: usize, r: usize)
 {
     if r < m.len() {
         m[r] = m[r] | (1u16 << b);
+    }
+}
+
+// Record r gets mark b where p holds, if it has an entry.
+pub fn mark_if(m: &mut [u16], b: usize, r: usize, p: bool)
+    requires { ⌜ b < 16 ⌝ }
+    ensures { λ _. ⌜ MarkedIf p (now (m .entry)) (now (m .exit)) b r ⌝ }
+{
+    if p {
+        mark(m, b, r);
     }
 }

@@ -15,20 +15,14 @@ use Rattle.meaning.specs.Tables.{Feed, feedOf, fileOf, widthOf, idColumn, stopI
 use Rattle.meaning.specs.Rules.{row, rule20, rule25, recordCount, recordCounts}
 use Rattle.meaning.specs.Refusals.{maxLines}
 use Rattle.meaning.proofs.ListLaws.{both}
-use Rattle.marks.specs.Marks.{marked, Blank, OneMore, parentMark, namelessMark}
+use Rattle.marks.specs.Marks.{marked, Blank, parentMark, namelessMark, MarkedIf}
 use Rattle.marks.specs.Noted.{idsIn, Noted}
 use Rattle.repeats.specs.Repeats.{Marking as Repeated}
 use Rattle.seeking.specs.First.{Held}
 use Rattle.ordering.proofs.Laws.{Alike, yes, no, alike}
-use Rattle.tables.specs.Noting.{noted, noteMark, Told, Telling, Marking}
+use Rattle.tables.specs.Noting.{noted, noteMark, Telling, Marking}
 use Rattle.tables.specs.Walk.{idsOf}
 use Rattle.tables.proofs.Ids.{rows-count}
-
-pub told-yes : (k r : ℕ) (m m′ : List ℕ) (b : Bool) → b ≡ true → OneMore m m′ k r → Told b k r m m′
-told-yes k r m m′ b e p = record { size = p .size; here = λ h. rw e (p .here h); other = λ c q free. p .other c q (λ x y. free x y e) }
-
-pub told-no : (k r : ℕ) (m : List ℕ) (b : Bool) → b ≡ false → Told b k r m m
-told-no k r m b e = record { size = refl; here = λ h. rw e; other = λ c q free. refl }
 
 module _ (b : ℕ → Bool) (k : ℕ) (m : List ℕ) where
   pub telling-start : Telling b k 1 m m
@@ -37,7 +31,7 @@ module _ (b : ℕ → Bool) (k : ℕ) (m : List ℕ) where
       none : (i : ℕ) → 0 < i → i < 1 → ⊥
       none i a l = omega arith
 
-  pub telling-turn : (r : ℕ) (m′ m″ : List ℕ) → 0 < r → Telling b k r m m′ → Told (b r) k r m′ m″ → Telling b k (r + 1) m m″
+  pub telling-turn : (r : ℕ) (m′ m″ : List ℕ) → 0 < r → Telling b k r m m′ → MarkedIf (b r) m′ m″ k r → Telling b k (r + 1) m m″
   telling-turn r m′ m″ above p q = record {
     size = q .size ∙ p .size;
     told = λ i a l h. at i (alike i r) a l h;

@@ -23,13 +23,7 @@ noted f r =
 abbrev pub noteMark : ℕ → ℕ
 noteMark f = f + 6
 
--- mark k of record r is set where b says so, and nothing else changes
-pub record Told (b : Bool) (k r : ℕ) (m m′ : List ℕ) : Type 0 where
-  pub size : length m′ ≡ length m
-  pub here : r < length m → marked m′ k r ≡ b || marked m k r
-  pub other : (c q : ℕ) → (c ≡ k → q ≡ r → b ≡ true → ⊥) → marked m′ c q ≡ marked m c q
-
--- the same of all records from 1 to below r
+-- mark k is set for each record from 1 to below r of which b says so, and nothing else changes
 pub record Telling (b : ℕ → Bool) (k r : ℕ) (m m′ : List ℕ) : Type 0 where
   pub size : length m′ ≡ length m
   pub told : (i : ℕ) → 0 < i → i < r → i < length m → marked m′ k i ≡ b i || marked m k i

@@ -9,10 +9,11 @@ ghost use Rattle.meaning.specs.Bytes.{countLf};
 ghost use Rattle.meaning.specs.Columns.{rowOf, rowsOf};
 ghost use Rattle.meaning.specs.Tables.{under, widthOf, idColumn};
 ghost use Rattle.meaning.specs.Refusals.{maxBytes};
+ghost use Rattle.marks.specs.Marks.{MarkedIf};
 ghost use Rattle.rows.specs.Cells.{putAt};
 ghost use Rattle.values.specs.Located.{Within, Located};
 ghost use Rattle.tables.specs.Fill.{line, Lies, Heading, Room};
-ghost use Rattle.tables.specs.Noting.{noted, noteMark, Told, Telling, Marking};
+ghost use Rattle.tables.specs.Noting.{noted, noteMark, Telling, Marking};
 ghost use Rattle.tables.specs.Walk.{placing, placedOf, Ordered};
 use crate::records;
 use columns::Cells;
@@ -67,16 +68,6 @@ fn is_noted(f: usize, l: &[u8], q: Cells) -> bool
     false
 }
 
-// Mark k of record r where b says so.
-fn mark_if(b: bool, m: &mut [u16], k: usize, r: usize)
-    requires { ⌜ k < 16 ⌝ }
-    ensures { λ _. ⌜ Told b k r (now (m .entry)) (now (m .exit)) ⌝ }
-{
-    if b {
-        marks::mark(m, k, r);
-    }
-}
-
 // What the first walk does with a line of file f, whose record is r.
 fn place_line(
     f: usize,
@@ -90,11 +81,12 @@ fn place_line(
     requires { ⌜ (f ≤ 4) × ((at + length (now l) ≤ maxBytes) × (r * widthOf f + widthOf f ≤ length (now t))) ⌝ }
     ensures { λ _. ⌜ ((ps : List ℕ) → ((k : ℕ) → getD places k 0 ≡ getD ps k 0)
         → (now (t .exit) ≡ putAt (now (t .entry)) (r * widthOf f) (placing f ps (line at (now (l .entry)))))
-        × Told (noted f (rowOf ps (now (l .entry)))) (noteMark f) r (now (m .entry)) (now (m .exit))) ⌝ }
+        × MarkedIf (noted f (rowOf ps (now (l .entry)))) (now (m .entry)) (now (m .exit)) (noteMark f) r) ⌝ }
 {
     let q = columns::locate(l, places);
     put_places(f, l, at, q, t, r);
-    mark_if(is_noted(f, l, q), m, f + 6, r);
+    let noted = is_noted(f, l, q);
+    marks::mark_if(m, f + 6, r, noted);
 }
 
 // The lines from `at` on, the first of which has record 1; how many records there are.

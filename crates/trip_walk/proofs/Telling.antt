@@ -3,36 +3,34 @@ use Prim.Native.Nat.{ℕ, _+_, _-_, _≤_, _<_}
 use native.Mathlib.Omega.{arith}
 use mathlib.Core.Path.{_≡_, refl, sym, ap, _∙_}
 use mathlib.Core.List.{List}
-use mathlib.Core.Bool.{Bool, true, false}
+use mathlib.Core.Bool.{Bool, true, false, _||_}
 use lib.Dec.{eqb}
 use lib.ListN.{length}
 use borrow.Author.Tests.{eqb-true, eq-eqb}
 use Rattle.meaning.specs.Lists.{some}
 use Rattle.meaning.proofs.ListLaws.{both}
 use Rattle.meaning.proofs.Readable.{some-none}
-use Rattle.marks.specs.Marks.{marked, OneMore}
+use Rattle.marks.specs.Marks.{marked, MarkedIf}
 use Rattle.ordering.specs.Ids.{Whole, Apart}
 use Rattle.ordering.proofs.Laws.{Alike, yes, no, alike}
 use Rattle.trip_order.specs.Lines.{Lines, Trips}
 use Rattle.trip_order.specs.Cells.{Grouped, ends}
 use Rattle.trip_order.proofs.Tests.{Found, some-found, below}
 use Rattle.trip_order.proofs.Ends.{past-end, end-of}
-use Rattle.trip_walk.specs.Told.{ToldOne, ToldTwo}
+use Rattle.trip_walk.specs.Told.{ToldTwo}
 
--- ---- one mark, and two
+-- ---- two marks
 
-pub told-yes : (m m′ : List ℕ) (b r : ℕ) (p : Bool) → p ≡ true → OneMore m m′ b r → ToldOne m m′ b r p
-told-yes m m′ b r p e one = record { size = one .size; here = λ l z. one .here l ∙ sym e; other = one .other }
+or-none : (p q : Bool) → q ≡ false → (p || q) ≡ p
+or-none true q e = refl
+or-none false q e = e
 
-pub told-no : (m : List ℕ) (b r : ℕ) (p : Bool) → p ≡ false → ToldOne m m b r p
-told-no m b r p e = record { size = refl; here = λ l z. z ∙ sym e; other = λ c q z. refl }
-
-pub told-both : (m u v : List ℕ) (b c r : ℕ) (p q : Bool) → b < c → ToldOne m u b r p → ToldOne u v c r q → ToldTwo m v b p c q r
+pub told-both : (m u v : List ℕ) (b c r : ℕ) (p q : Bool) → b < c → MarkedIf p m u b r → MarkedIf q u v c r → ToldTwo m v b p c q r
 told-both m u v b c r p q l d e = record {
   size = e .size ∙ d .size;
-  first = λ h z. e .other b r (λ i j. differ i) ∙ d .here h z;
-  second = λ h z. e .here (rw (d .size) h) (d .other c r (λ i j. differ (sym i)) ∙ z);
-  other = λ k x i j. e .other k x j ∙ d .other k x i;
+  first = λ h z. e .other b r (λ i j k. differ i) ∙ d .here h ∙ or-none p _ z;
+  second = λ h z. e .here (rw (d .size) h) ∙ or-none q _ (d .other c r (λ i j k. differ (sym i)) ∙ z);
+  other = λ k x i j. e .other k x (λ y z t. j y z) ∙ d .other k x (λ y z t. i y z);
 }
   where
     differ : b ≡ c → ⊥

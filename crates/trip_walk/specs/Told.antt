@@ -27,13 +27,7 @@ pub record KeptMarks (m m′ : List ℕ) : Type 0 where
   pub size : length m′ ≡ length m
   pub below : (b r : ℕ) → b < 9 → marked m′ b r ≡ marked m b r
 
--- of marks that were not set, b of record r is set where p holds, and no other changes
-pub record ToldOne (m m′ : List ℕ) (b r : ℕ) (p : Bool) : Type 0 where
-  pub size : length m′ ≡ length m
-  pub here : r < length m → marked m b r ≡ false → marked m′ b r ≡ p
-  pub other : (c q : ℕ) → (c ≡ b → q ≡ r → ⊥) → marked m′ c q ≡ marked m c q
-
--- the same of two marks of one record
+-- of marks that were not set, b of record r is set where p holds, c where q does, and no other changes
 pub record ToldTwo (m m′ : List ℕ) (b : ℕ) (p : Bool) (c : ℕ) (q : Bool) (r : ℕ) : Type 0 where
   pub size : length m′ ≡ length m
   pub first : r < length m → marked m b r ≡ false → marked m′ b r ≡ p

@@ -14,7 +14,7 @@ ghost use Rattle.ordering.specs.Ids.{tripOf};
 ghost use Rattle.trip_order.specs.Cells.{Grouped, linked, repeats, larger};
 ghost use Rattle.trip_order.specs.Steady.{steady};
 ghost use Rattle.trip_walk.specs.Table.{sameIn, timedIn, linesIn, cellsIn, Ranged};
-ghost use Rattle.trip_walk.specs.Told.{Told, Untold, KeptMarks, ToldOne, ToldTwo, OnlyMet};
+ghost use Rattle.trip_walk.specs.Told.{Told, Untold, KeptMarks, ToldTwo, OnlyMet};
 ghost use Rattle.trip_walk.specs.Walk.{Turned, Closed, goesBy};
 use marks::EQUAL;
 use marks::FALLING;
@@ -196,23 +196,13 @@ fn turn(s: &[u8], t: &[i32], k: usize, a: State) -> State
     next(a, k, link, equal, x)
 }
 
-// Mark b of record r, where p holds.
-fn tell_one(m: &mut [u16], b: usize, p: bool, r: usize)
-    requires { ⌜ b < 16 ⌝ }
-    ensures { λ _. ⌜ ToldOne (now (m .entry)) (now (m .exit)) b r p ⌝ }
-{
-    if p {
-        marks::mark(m, b, r);
-    }
-}
-
 // Marks b and c of record r, where p and q hold.
 fn tell(m: &mut [u16], b: usize, p: bool, c: usize, q: bool, r: usize)
     requires { ⌜ (b < c) × (c < 16) ⌝ }
     ensures { λ _. ⌜ ToldTwo (now (m .entry)) (now (m .exit)) b p c q r ⌝ }
 {
-    tell_one(m, b, p, r);
-    tell_one(m, c, q, r);
+    marks::mark_if(m, b, r, p);
+    marks::mark_if(m, c, r, q);
 }
 
 // Is a line not timed?

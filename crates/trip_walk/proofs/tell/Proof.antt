@@ -6,17 +6,17 @@ use native.Mathlib.Omega.{arith}
 use Rattle.trip_walk.proofs.tell.Statement.{statement}
 use Rattle.trip_walk.proofs.tell.Tie as tie
 
-tell-one-requires : tie.Need-tell-one-requires
-tell-one-requires c κs = omega (arith, c .before .before .pre .0, c .before .before .pre .1)
+mark-if-requires : tie.Need-mark-if-requires
+mark-if-requires c κs = omega (arith, c .before .before .pre .0, c .before .before .pre .1)
 
-tell-one-requires-2 : tie.Need-tell-one-requires-2
-tell-one-requires-2 c κs = c .before .before .before .before .before .before .pre .1
+mark-if-requires-2 : tie.Need-mark-if-requires-2
+mark-if-requires-2 c κs = c .before .before .before .before .before .before .pre .1
 
 same-length : tie.Need-same-length
-same-length c = c .before .before .tell-one2 .ensures .size ∙ c .before .before .before .before .before .before .tell-one .ensures .size
+same-length c = c .before .before .mark-if2 .ensures .size ∙ c .before .before .before .before .before .before .mark-if .ensures .size
 
 returns : tie.Need-returns
-returns c = told-both _ _ _ _ _ _ _ _ (c .before .before .before .before .before .before .before .before .before .pre .0) (c .before .before .before .before .before .before .tell-one .ensures) (c .before .before .tell-one2 .ensures)
+returns c = told-both _ _ _ _ _ _ _ _ (c .before .before .before .before .before .before .before .before .before .pre .0) (c .before .before .before .before .before .before .mark-if .ensures) (c .before .before .mark-if2 .ensures)
 
 pub tell-spec : {M : Type 1} → statement M
-tell-spec = tie.close (tie.spec tell-one-requires tell-one-requires-2 same-length returns)
+tell-spec = tie.close (tie.spec mark-if-requires mark-if-requires-2 same-length returns)
