@@ -1,4 +1,3 @@
--- Laws of the findings of files 1 to 4.
+-- Laws of the findings of a file.
 pub mod Seen
 pub mod Walk
-pub mod Marks

@@ -1,19 +1,20 @@
 -- Laws of a walk along the records of a file that hands out what each line breaks.
-use Prim.Native.Nat.{ℕ, zero, suc, _+_, _-_, _≤_, _<_}
+use Prim.Native.Nat.{ℕ, zero, suc, _+_, _*_, _-_, _≤_, _<_}
 use mathlib.Core.Path.{_≡_, refl, sym, _∙_}
 use mathlib.Core.List.{List}
 use mathlib.Core.Bool.{Bool}
 use native.Mathlib.Omega.{arith}
+use native.Mathlib.Nat.{mul-suc, mul-le-mul-left, mul-le-mul-right}
 use lib.IntN.{ℤ}
 use lib.ListN.{length}
 use Rattle.meaning.specs.declared.Place.{Place}
 use Rattle.meaning.specs.Tables.{Feed}
-use Rattle.meaning.specs.Refusals.{Test, onLine}
+use Rattle.meaning.specs.Refusals.{onLine}
 use Rattle.meaning.specs.Rules.{recordCounts, recordCount, rulesOf, onRecords, bindingsOf}
 use Rattle.listing.specs.Handing.{State, noting}
-use Rattle.listing.proofs.Laws.{noting-append}
+use Rattle.listing.proofs.Laws.{noting-line, noting-end}
 use Rattle.judging.specs.Judging.{testsFrom}
-use Rattle.file_rules.specs.Lines.{rowsIn, ruleNumbers, ruleCount, Stands, Ready}
+use Rattle.file_rules.specs.Lines.{rowsIn, ruleNumbers, ruleCount, Judges, Ready}
 
 -- a file has as many rows as records
 pub rows-records : (w : Feed) (f : ℕ) → length (rowsIn w f) ≡ recordCount w f
@@ -34,35 +35,45 @@ pub left-first : (p : Place) (f : ℕ) (w : Feed) (x : State) → Left p f w 0 x
 unfolding bindingsOf
 left-first p f w x = let e : recordCount w f - 0 ≡ recordCount w f = omega arith in rw e
 
-left-turn :
-    (p : Place) (f : ℕ) (rules : ℕ → List Test) (i n : ℕ) (x y : State)
-    → i < n
-    → y ≡ noting p (onLine f (i + 2) (rules i)) x
-    → noting p (onRecords f rules (i + 1) (n - (i + 1))) y ≡ noting p (onRecords f rules i (n - i)) x
-unfolding onRecords
-left-turn p f rules i n x y h e =
-    let m : n - i ≡ suc (n - (i + 1)) = omega arith in
-    rw (m, e) (sym (noting-append p (onLine f (i + 2) (rules i)) (onRecords f rules (i + 1) (n - (i + 1))) x))
-
-module _ (f n : ℕ) (w : Feed) (t : List ℤ) (marks : List ℕ) (times : List ℤ) (first last : List ℕ) (h : Ready f n w t marks times first last) where
+module _ (f n : ℕ) (w : Feed) (t stops : List ℤ) (marks : List ℕ) (h : Ready f n w t stops marks) where
   -- what line i breaks is noted
   pub left-next :
       (i : ℕ) → i < n
       → (numbers : List ℕ) (broken : List Bool) (rules : ℕ)
       → numbers ≡ ruleNumbers f
       → rules ≡ ruleCount f
-      → (Stands f w (rowsIn w f) t marks i → testsFrom (ruleNumbers f) broken (ruleCount f) ≡ rulesOf w f i)
+      → Judges f w i broken
       → (p : Place) (x x₀ y : State)
       → y ≡ noting p (onLine f (i + 2) (testsFrom numbers broken rules)) x
       → Left p f w i x x₀
       → Left p f w (i + 1) y x₀
   left-next i inside numbers broken rules u v judged p x x₀ y g inv =
-      let here : Stands f w (rowsIn w f) t marks i = record { file = h .file; table = h .table; noted = h .noted; inside = omega (arith, rows-records w f, h .all) } in
-      let k : testsFrom numbers broken rules ≡ rulesOf w f i = rw (u, v) (judged here) in
-      left-turn p f (rulesOf w f) i (recordCount w f) x y (omega (arith, h .all)) (rw k at g) ∙ inv
+      let k : testsFrom numbers broken rules ≡ rulesOf w f i = rw (u, v) judged in
+      rw (rw k at g) (sym (noting-line p f (rulesOf w f) (recordCount w f) x i (omega (arith, h .all))) ∙ inv)
 
   -- no line is left
   pub left-last : (i : ℕ) → n ≤ i → (p : Place) (x x₀ : State) → Left p f w i x x₀ → x ≡ noting p (bindingsOf w f) x₀
-  unfolding onRecords noting
   left-last i past p x x₀ inv =
-      let z : recordCount w f - i ≡ 0 = omega (arith, h .all) in rw z at inv
+      sym (noting-end p f (rulesOf w f) (recordCount w f) x i (omega (arith, h .all))) ∙ inv
+
+-- ---- how many there are at most, c on each line
+
+pub count-first : (k c : ℕ) → k ≤ k + c * 0
+count-first k c = omega arith
+
+pub count-next : (k c i total more : ℕ) → total ≤ k + c * i → more ≤ total + c → more ≤ k + c * (i + 1)
+count-next k c i total more h g =
+    let one : i + 1 ≡ suc i = omega arith in
+    let e : c * suc i ≡ c * i + c = mul-suc c i in
+    rw one (omega arith)
+
+pub count-last : (k c i n total : ℕ) → total ≤ k + c * i → i ≤ n → total ≤ k + c * n
+count-last k c i n total h g =
+    let m : c * i ≤ c * n = mul-le-mul-left {m = i} {n = n} c g in
+    omega arith
+
+-- a line has no more than six rules
+pub count-small : (k c i total : ℕ) → total ≤ k + c * i → c ≤ 6 → total ≤ k + 6 * i
+count-small k c i total h g =
+    let m : c * i ≤ 6 * i = mul-le-mul-right {m = c} {n = 6} i g in
+    omega arith

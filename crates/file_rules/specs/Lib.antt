@@ -1,2 +1,2 @@
--- What the findings of files 1 to 4 rest on.
+-- What the findings of a file rest on.
 pub mod Lines

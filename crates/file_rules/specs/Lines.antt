@@ -1,24 +1,23 @@
--- A line whose table is filled and whose marks are set, and what its findings rest on.
+-- A file whose table is filled in a feed whose marks are set, and what the rules of its lines say.
 use Prim.Native.Nat.{ℕ, _<_}
 use mathlib.Core.Path.{_≡_}
 use mathlib.Core.List.{List, [], _∷_}
-use mathlib.Core.Bool.{true, false}
+use mathlib.Core.Bool.{Bool, false}
 use lib.IntN.{ℤ}
 use lib.ListN.{length, getD}
 use Rattle.meaning.specs.Lists.{empty}
 use Rattle.meaning.specs.Columns.{Row}
-use Rattle.meaning.specs.Tables.{Feed, tripRoute, tripService, tripId}
-use Rattle.meaning.specs.Rules.{row, recordCount}
-use Rattle.marks.specs.Noted.{Noted}
+use Rattle.meaning.specs.Tables.{Feed, tripRoute, tripService, tripId, timeTrip, timeStop}
+use Rattle.meaning.specs.Rules.{row, recordCount, rulesOf}
+use Rattle.marks.specs.Noted.{Noted, TripsNoted}
 use Rattle.held.specs.Held.{Filled}
-use Rattle.trip_order.specs.Trips.{tripAt}
-use Rattle.trip_order.specs.Marks.{LastLines, FirstLines}
+use Rattle.judging.specs.Judging.{testsFrom}
 
 -- the rows of file f
 unfoldable pub rowsIn : Feed → ℕ → List Row
 rowsIn w f = getD ([] ∷ w .stops ∷ w .routes ∷ w .calendar ∷ w .trips ∷ w .stopTimes ∷ []) f []
 
--- the numbers of the rules of a line of files 1 to 4, filled up by 0, and how many they are
+-- the numbers of the rules of a line of file f, filled up by 0, and how many they are
 unfoldable pub ruleNumbers : ℕ → List ℕ
 ruleNumbers f =
     getD
@@ -27,40 +26,33 @@ ruleNumbers f =
     ∷ (20 ∷ 25 ∷ 0 ∷ 0 ∷ 0 ∷ 0 ∷ [])
     ∷ (20 ∷ 24 ∷ 0 ∷ 0 ∷ 0 ∷ 0 ∷ [])
     ∷ (20 ∷ 21 ∷ 30 ∷ 31 ∷ 0 ∷ 0 ∷ [])
+    ∷ (21 ∷ 23 ∷ 26 ∷ 27 ∷ 28 ∷ 29 ∷ [])
     ∷ [])
     f
     []
 
 unfoldable pub ruleCount : ℕ → ℕ
-ruleCount f = getD (0 ∷ 3 ∷ 2 ∷ 2 ∷ 4 ∷ []) f 0
+ruleCount f = getD (0 ∷ 3 ∷ 2 ∷ 2 ∷ 4 ∷ 6 ∷ []) f 0
 
--- no line of trips leaves its route, its service or its own id empty
-pub record NamedTrips (w : Feed) : Type 0 where
+-- what was judged of the line with index i of file f is what its rules say
+abbrev pub Judges : ℕ → Feed → ℕ → List Bool → Type 0
+Judges f w i broken = testsFrom (ruleNumbers f) broken (ruleCount f) ≡ rulesOf w f i
+
+-- no line of trips leaves its route, its service or its own id empty, no line of stop_times its trip or its stop
+pub record Named (w : Feed) : Type 0 where
   pub routes : (i : ℕ) → i < length (w .trips) → empty (tripRoute (row (w .trips) i)) ≡ false
   pub services : (i : ℕ) → i < length (w .trips) → empty (tripService (row (w .trips) i)) ≡ false
   pub ids : (i : ℕ) → i < length (w .trips) → empty (tripId (row (w .trips) i)) ≡ false
+  pub trips : (i : ℕ) → i < length (w .stopTimes) → empty (timeTrip (row (w .stopTimes) i)) ≡ false
+  pub stops : (i : ℕ) → i < length (w .stopTimes) → empty (timeStop (row (w .stopTimes) i)) ≡ false
 
--- the line with index i of a file whose table is filled, in a feed whose marks are set
-pub record Stands (f : ℕ) (w : Feed) (rows : List Row) (t : List ℤ) (marks : List ℕ) (i : ℕ) : Type 0 where
-  pub file : List ℕ
-  pub table : Filled f w rows file t
-  pub noted : Noted w marks
-  pub inside : i < length rows
-
--- the filled table of stop_times, and the first and the last line of each trip that stands on a line of trips, where no reference and no id is empty
-pub record Marked (w : Feed) (times : List ℤ) (first last : List ℕ) : Type 0 where
-  pub file : List ℕ
-  pub table : Filled 5 w (w .stopTimes) file times
-  pub firsts : FirstLines (tripAt w) first (length (w .stopTimes))
-  pub lasts : LastLines (tripAt w) (λ j. true) last (length (w .stopTimes))
-  pub first-long : length (w .trips) < length first
-  pub last-long : length (w .trips) < length last
-  pub named : NamedTrips w
-
--- all that the findings of file f, which has n records, rest on
-pub record Ready (f n : ℕ) (w : Feed) (t : List ℤ) (marks : List ℕ) (times : List ℤ) (first last : List ℕ) : Type 0 where
+-- all that the findings of file f, which has n records, rest on: its table and that of stops, the marks, and what rule 12 says
+pub record Ready (f n : ℕ) (w : Feed) (t stops : List ℤ) (marks : List ℕ) : Type 0 where
   pub file : List ℕ
   pub table : Filled f w (rowsIn w f) file t
+  pub stops-file : List ℕ
+  pub stops-table : Filled 1 w (w .stops) stops-file stops
   pub all : n ≡ recordCount w f
   pub noted : Noted w marks
-  pub ends : f ≡ 4 → Marked w times first last
+  pub trips-noted : TripsNoted w marks
+  pub named : Named w

@@ -1,14 +1,12 @@
-// The findings of files 1 to 4, line by line, from tables and marks alone, handed out.
+// The findings of each file, line by line, from tables and marks alone, handed out.
 ghost use mathlib.Core.Path.{_≡_};
-ghost use Prim.Native.Nat.{_+_, _*_, _^_, _<_, _≤_};
-ghost use lib.ListN.{length, getD};
+ghost use mathlib.Core.List.{List};
+ghost use Prim.Native.Nat.{ℕ, _+_, _*_, _^_, _<_, _≤_};
+ghost use lib.IntN.{ℤ};
 ghost use Rattle.meaning.specs.Tables.{Feed};
-ghost use Rattle.meaning.specs.Rules.{stopRules, routeRules, serviceRules, tripRules, rulesOf, bindingsOf};
-ghost use Rattle.marks.specs.Noted.{Noted};
-ghost use Rattle.rows.specs.Cells.{timeAt};
+ghost use Rattle.meaning.specs.Rules.{bindingsOf};
 ghost use Rattle.listing.specs.Handing.{state, noting};
-ghost use Rattle.judging.specs.Judging.{bothGiven, testsFrom};
-ghost use Rattle.file_rules.specs.Lines.{rowsIn, ruleNumbers, ruleCount, Stands, Marked, Ready};
+ghost use Rattle.file_rules.specs.Lines.{ruleNumbers, ruleCount, Judges, Ready};
 use listing::Sink;
 use meaning::Place;
 use rows::Calendar;
@@ -24,8 +22,7 @@ use rows::Trips;
 // What the line with index i of stops.txt breaks.
 fn stop_line(t: &[i32], marks: &[u16], i: usize) -> [bool; 6]
     requires { ⌜ i < 2 ^ 31 ⌝ }
-    ensures { λ r. ⌜ ((w : Feed) → Stands 1 w (w .stops) (now (t .entry)) (now (marks .entry)) i
-        → testsFrom (ruleNumbers 1) r (ruleCount 1) ≡ stopRules w i) ⌝ }
+    ensures { λ r. ⌜ ((w : Feed) (n : ℕ) (stops : List ℤ) → Ready 1 n w (now (t .entry)) stops (now (marks .entry)) → i < n → Judges 1 w i r) ⌝ }
 {
     let row = i + 1;
     let repeats = marks::is_marked(marks, Stops::FILE, row);
@@ -43,8 +40,7 @@ fn stop_line(t: &[i32], marks: &[u16], i: usize) -> [bool; 6]
 // What a line of routes.txt breaks.
 fn route_line(marks: &[u16], i: usize) -> [bool; 6]
     requires { ⌜ i < 2 ^ 31 ⌝ }
-    ensures { λ r. ⌜ ((w : Feed) → Noted w (now (marks .entry)) → i < length (w .routes)
-        → testsFrom (ruleNumbers 2) r (ruleCount 2) ≡ routeRules w i) ⌝ }
+    ensures { λ r. ⌜ ((w : Feed) (n : ℕ) (t stops : List ℤ) → Ready 2 n w t stops (now (marks .entry)) → i < n → Judges 2 w i r) ⌝ }
 {
     let row = i + 1;
     judging::judge_route(
@@ -56,8 +52,7 @@ fn route_line(marks: &[u16], i: usize) -> [bool; 6]
 // What a line of calendar.txt breaks.
 fn service_line(t: &[i32], marks: &[u16], i: usize) -> [bool; 6]
     requires { ⌜ i < 2 ^ 31 ⌝ }
-    ensures { λ r. ⌜ ((w : Feed) → Stands 3 w (w .calendar) (now (t .entry)) (now (marks .entry)) i
-        → testsFrom (ruleNumbers 3) r (ruleCount 3) ≡ serviceRules w i) ⌝ }
+    ensures { λ r. ⌜ ((w : Feed) (n : ℕ) (stops : List ℤ) → Ready 3 n w (now (t .entry)) stops (now (marks .entry)) → i < n → Judges 3 w i r) ⌝ }
 {
     let row = i + 1;
     judging::judge_service(
@@ -67,142 +62,104 @@ fn service_line(t: &[i32], marks: &[u16], i: usize) -> [bool; 6]
     )
 }
 
-// Has the record of a line of stop_times both times?
-fn is_timed(times: &[i32], row: TimeRow) -> bool
-    ensures { λ r. ⌜ r ≡ bothGiven (timeAt (now (times .entry)) (row .0 * 8 + 3)) (timeAt (now (times .entry)) (row .0 * 8 + 4)) ⌝ }
+// What a line of trips.txt breaks.
+fn trip_line(t: &[i32], marks: &[u16], i: usize) -> [bool; 6]
+    requires { ⌜ i < 2 ^ 31 ⌝ }
+    ensures { λ r. ⌜ ((w : Feed) (n : ℕ) (stops : List ℤ) → Ready 4 n w (now (t .entry)) stops (now (marks .entry)) → i < n → Judges 4 w i r) ⌝ }
 {
-    judging::is_timed(
-        StopTimes::arrival_at(times, row),
-        StopTimes::departure_at(times, row),
+    let row = i + 1;
+    judging::judge_trip(
+        marks::is_marked(marks, Trips::FILE, row),
+        Trips::route_at(t, TripRow(row)).0,
+        Trips::service_at(t, TripRow(row)).0,
+        marks::is_marked(marks, marks::PAIRED, row),
+        marks::is_marked(marks, marks::OPEN, row),
     )
 }
 
-// The first and the last line of a trip, 0 where there is none, and whether each is timed.
-struct Ends {
-    first: usize,
-    last: usize,
-    first_timed: bool,
-    last_timed: bool,
-}
-
-// The ends that are marked for a trip.
-fn ends_of(times: &[i32], first: &[u32], last: &[u32], trip: TripRow) -> Ends
-    ensures { λ r. ⌜ (r .first ≡ getD (now (first .entry)) (trip .0) 0) × (r .last ≡ getD (now (last .entry)) (trip .0) 0) ⌝ }
-    ensures { λ r. ⌜ r .«first_timed» ≡ bothGiven (timeAt (now (times .entry)) (r .first * 8 + 3)) (timeAt (now (times .entry)) (r .first * 8 + 4)) ⌝ }
-    ensures { λ r. ⌜ r .«last_timed» ≡ bothGiven (timeAt (now (times .entry)) (r .last * 8 + 3)) (timeAt (now (times .entry)) (r .last * 8 + 4)) ⌝ }
-{
-    let a = trip_order::marked(first, trip);
-    let e = trip_order::marked(last, trip);
-    Ends {
-        first: a,
-        last: e,
-        first_timed: is_timed(times, TimeRow(a)),
-        last_timed: is_timed(times, TimeRow(e)),
-    }
-}
-
-// What a line of trips.txt breaks.
-fn trip_line(
-    t: &[i32],
-    marks: &[u16],
-    i: usize,
-    times: &[i32],
-    first: &[u32],
-    last: &[u32],
-) -> [bool; 6]
+// What a line of stop_times.txt breaks; rule 23 asks the table of stops.
+fn time_line(t: &[i32], stops: &[i32], marks: &[u16], i: usize) -> [bool; 6]
     requires { ⌜ i < 2 ^ 31 ⌝ }
-    ensures { λ r. ⌜ ((w : Feed) → Stands 4 w (w .trips) (now (t .entry)) (now (marks .entry)) i
-        → Marked w (now (times .entry)) (now (first .entry)) (now (last .entry))
-        → testsFrom (ruleNumbers 4) r (ruleCount 4) ≡ tripRules w i) ⌝ }
+    ensures { λ r. ⌜ ((w : Feed) (n : ℕ) → Ready 5 n w (now (t .entry)) (now (stops .entry)) (now (marks .entry)) → i < n → Judges 5 w i r) ⌝ }
 {
     let row = i + 1;
-    let repeats = marks::is_marked(marks, Trips::FILE, row);
-    let ends = ends_of(times, first, last, TripRow(row));
-    judging::judge_trip(
-        repeats,
-        Trips::route_at(t, TripRow(row)).0,
-        Trips::service_at(t, TripRow(row)).0,
-        ends.first,
-        ends.last,
-        ends.first_timed,
-        ends.last_timed,
+    let stop = StopTimes::stop_at(t, TimeRow(row)).0;
+    judging::judge_time(
+        StopTimes::trip_at(t, TimeRow(row)).0,
+        stop,
+        Stops::kind_at(stops, StopRow(stop)),
+        StopTimes::arrival_at(t, TimeRow(row)),
+        StopTimes::departure_at(t, TimeRow(row)),
+        StopTimes::timepoint_at(t, TimeRow(row)),
+        marks::is_marked(marks, marks::EQUAL, row),
+        marks::is_marked(marks, marks::FALLING, row),
     )
 }
 
 // The numbers of a file's rules, filled up by 0.
 fn numbers_of(f: usize) -> [u8; 6]
-    requires { ⌜ (1 ≤ f) × (f ≤ 4) ⌝ }
+    requires { ⌜ (1 ≤ f) × (f ≤ 5) ⌝ }
     ensures { λ r. ⌜ r ≡ ruleNumbers f ⌝ }
 {
     match f {
         Stops::FILE => [20, 21, 22, 0, 0, 0],
         Routes::FILE => [20, 25, 0, 0, 0, 0],
         Calendar::FILE => [20, 24, 0, 0, 0, 0],
-        _ => [20, 21, 30, 31, 0, 0],
+        Trips::FILE => [20, 21, 30, 31, 0, 0],
+        _ => [21, 23, 26, 27, 28, 29],
     }
 }
 
 // How many rules a line of a file has.
 fn count_of(f: usize) -> usize
-    requires { ⌜ (1 ≤ f) × (f ≤ 4) ⌝ }
-    ensures { λ r. ⌜ (r ≡ ruleCount f) × (r ≤ 4) ⌝ }
+    requires { ⌜ (1 ≤ f) × (f ≤ 5) ⌝ }
+    ensures { λ r. ⌜ (r ≡ ruleCount f) × (r ≤ 6) ⌝ }
 {
     match f {
         Stops::FILE => 3,
         Routes::FILE => 2,
         Calendar::FILE => 2,
-        _ => 4,
+        Trips::FILE => 4,
+        _ => 6,
     }
 }
 
-// What a line of files 1 to 4 breaks.
-fn judge_line(
-    f: usize,
-    t: &[i32],
-    marks: &[u16],
-    i: usize,
-    times: &[i32],
-    first: &[u32],
-    last: &[u32],
-) -> [bool; 6]
-    requires { ⌜ (1 ≤ f) × ((f ≤ 4) × (i < 2 ^ 31)) ⌝ }
-    ensures { λ r. ⌜ ((w : Feed)
-        → Stands f w (rowsIn w f) (now (t .entry)) (now (marks .entry)) i
-        → (f ≡ 4 → Marked w (now (times .entry)) (now (first .entry)) (now (last .entry)))
-        → testsFrom (ruleNumbers f) r (ruleCount f) ≡ rulesOf w f i) ⌝ }
+// What a line of a file breaks.
+fn judge_line(f: usize, t: &[i32], stops: &[i32], marks: &[u16], i: usize) -> [bool; 6]
+    requires { ⌜ (1 ≤ f) × ((f ≤ 5) × (i < 2 ^ 31)) ⌝ }
+    ensures { λ r. ⌜ ((w : Feed) (n : ℕ) → Ready f n w (now (t .entry)) (now (stops .entry)) (now (marks .entry)) → i < n → Judges f w i r) ⌝ }
 {
     match f {
         Stops::FILE => stop_line(t, marks, i),
         Routes::FILE => route_line(marks, i),
         Calendar::FILE => service_line(t, marks, i),
-        _ => trip_line(t, marks, i, times, first, last),
+        Trips::FILE => trip_line(t, marks, i),
+        _ => time_line(t, stops, marks, i),
     }
 }
 
-// The findings of a file that has n records, in the order of its lines and rules.
+// The findings of a file that has n records, in the order of its lines and rules; `stops` is the table of stops.
 pub fn list_file(
     f: usize,
     n: usize,
     t: &[i32],
+    stops: &[i32],
     marks: &[u16],
-    times: &[i32],
-    first: &[u32],
-    last: &[u32],
     out: &mut [i32],
     k: Sink,
     p: Place,
 ) -> Sink
-    requires { ⌜ (1 ≤ f) × ((f ≤ 4) × ((n < 2 ^ 30) × (k .total ≤ 2 ^ 61))) ⌝ }
-    ensures { λ r. ⌜ ((w : Feed) → Ready f n w (now (t .entry)) (now (marks .entry)) (now (times .entry)) (now (first .entry)) (now (last .entry))
+    requires { ⌜ (1 ≤ f) × ((f ≤ 5) × ((n < 2 ^ 30) × (k .total ≤ 2 ^ 61))) ⌝ }
+    ensures { λ r. ⌜ ((w : Feed) → Ready f n w (now (t .entry)) (now (stops .entry)) (now (marks .entry))
         → state (now (out .exit)) r ≡ noting p (bindingsOf w f) (state (now (out .entry)) k)) ⌝ }
-    ensures { λ r. ⌜ r .total ≤ k .total + 4 * n ⌝ }
+    ensures { λ r. ⌜ r .total ≤ k .total + ruleCount f * n ⌝ }
 {
     let numbers = numbers_of(f);
     let rules = count_of(f);
     let mut sink = k;
     let mut i = 0;
     while i < n {
-        let broken = judge_line(f, t, marks, i, times, first, last);
+        let broken = judge_line(f, t, stops, marks, i);
         sink = noting::note_line(out, sink, p, f, i + 2, numbers, broken, rules);
         i += 1;
     }

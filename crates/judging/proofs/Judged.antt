@@ -1,28 +1,28 @@
 -- Laws: judged by what its tables hold, a line breaks exactly the rules that the definitions say.
-use Prim.Native.Nat.{ℕ, _-_, _≤_, _<_}
+use Prim.Native.Nat.{ℕ, _-_}
 use mathlib.Core.Path.{_≡_, refl, sym, ap, _∙_}
 use mathlib.Core.List.{List, [], _∷_}
-use mathlib.Core.Bool.{Bool, true, false, not, _&&_, _||_}
-use native.Mathlib.Omega.{arith}
+use mathlib.Core.Bool.{Bool, true, false, not, _&&_}
 use lib.ListN.{length}
-use lib.Dec.{leb, ltb, eqb}
+use lib.Dec.{ltb, eqb}
 use borrow.Author.Tests.{eqb-false}
 use Rattle.num.specs.Signs.{natOf}
 use Rattle.meaning.specs.declared.Time.{Time}
-use Rattle.meaning.specs.Lists.{firstHas, lastHas}
 use Rattle.meaning.specs.Columns.{Row}
 use Rattle.meaning.specs.Forms.{timeOf, dateOf}
-use Rattle.meaning.specs.Tables.{Feed, stopIds, refer, parentStation, startDate, endDate, tripId, timeTrip, arrivalTime, departureTime, timeStop, timepoint, orMinus}
-use Rattle.meaning.specs.Rules.{row, dangling, rule21·stops, rule21·trips, rule21·times, kindOf, otherKind, rule22, rule23, rule24, given, secondsOf, timed, untimed, arrives, departs, rule26, rule27, sequence, rule28, rule29, ofTrip, ofTripLine, firstOfTrip, rule30, rule31, stopRules, routeRules, serviceRules, tripRules, timeRules}
+use Rattle.meaning.specs.Tables.{Feed, stopIds, refer, parentStation, startDate, endDate, tripId, arrivalTime, departureTime, timeStop, timepoint, orMinus}
+use Rattle.meaning.specs.Rules.{row, dangling, rule21·stops, rule21·trips, rule21·times, kindOf, otherKind, rule22, rule23, rule24, given, secondsOf, timed, untimed, arrives, departs, rule26, rule27, ofTripLine, firstOfTrip, rule30, openEnded, rule31, stopRules, routeRules, serviceRules, tripRules, timeRules}
 use Rattle.meaning.proofs.References.{dangling-refer}
-use Rattle.trip_order.specs.Trips.{timedAt, nearLine, nearTimed}
-use Rattle.trip_order.proofs.Laws.{atOne}
-use Rattle.trip_order.proofs.Trips.{rule28-near, rule29-near, few-lines, first-line, last-line}
-use Rattle.judging.specs.Judging.{loose, offKind, openEnd, bothGiven, halfTimed, notAbove, sooner, overtakes, stopJudged, routeJudged, serviceJudged, tripJudged, timeJudged, testsFrom}
-use Rattle.judging.proofs.Stored.{kind-number, one-number, day-number, sequence-number, given-stored, seconds-stored}
-use Rattle.judging.proofs.Seen.{Refers, KindAt, IsTime, IsSequence, SequenceAt, DepartsAt, StopSeen, RouteSeen, ServiceSeen, TripLines, TripSeen, TimeSeen}
+use Rattle.judging.specs.Judging.{loose, offKind, bothGiven, halfTimed, sooner, stopJudged, routeJudged, serviceJudged, tripJudged, timeJudged, testsFrom}
+use Rattle.judging.proofs.Stored.{kind-number, one-number, day-number, given-stored, seconds-stored}
+use Rattle.judging.proofs.Seen.{Refers, KindAt, IsTime, StopSeen, RouteSeen, ServiceSeen, TripSeen, TimeSeen}
 
 -- ---- one rule
+
+-- what is not not so is so
+pub twice-not : (b : Bool) → not (not b) ≡ b
+twice-not true = refl
+twice-not false = refl
 
 -- a test that is asked only where another doesn't hold
 unless : (t b c : Bool) → (t ≡ false → b ≡ c) → (not t && b) ≡ (not t && c)
@@ -48,32 +48,10 @@ given-is v t e = rw e (sym (given-stored (timeOf v)))
 seconds-is : (v : List ℕ) (t : Time) → IsTime v t → secondsOf (timeOf v) ≡ secondsOf t
 seconds-is v t e = rw e (sym (seconds-stored (timeOf v)))
 
--- ---- rules 30 and 31
-
-module _ (w : Feed) (k : ℕ) (b : Bool) (h : (k ≡ 0 → ⊥) → b ≡ timedAt w (k - 1)) where
-  open-end-is : atOne untimed [] (w .stopTimes) k ≡ openEnd k b
-  unfolding atOne untimed timedAt
-  open-end-is = asked k _ _ (λ z. ap not (sym (h z)))
-
-module _ {w : Feed} {v : List ℕ} {firstLine lastLine : ℕ} {firstTimed lastTimed : Bool} (s : TripLines w v firstLine lastLine firstTimed lastTimed) where
-  few-is : ltb (length (ofTrip v (w .stopTimes))) 2 ≡ eqb firstLine lastLine
-  few-is = rw (s .firsts, s .lasts) (few-lines w v)
-
-  ends-are : (firstHas untimed (ofTrip v (w .stopTimes)) || lastHas untimed (ofTrip v (w .stopTimes))) ≡ (openEnd firstLine firstTimed || openEnd lastLine lastTimed)
-  ends-are =
-      rw (
-        first-line w v untimed,
-        last-line w v untimed,
-        ← s .firsts,
-        ← s .lasts,
-        open-end-is w firstLine firstTimed (s .firsts-timed),
-        open-end-is w lastLine lastTimed (s .lasts-timed),
-      )
-
--- ---- rules 26 to 29
+-- ---- rules 26 and 27
 
 module _ (r : Row) (arrival departure : Time) (a : IsTime (arrivalTime r) arrival) (d : IsTime (departureTime r) departure) where
-  pub timed-is : timed r ≡ bothGiven arrival departure
+  timed-is : timed r ≡ bothGiven arrival departure
   unfolding timed
   timed-is = rw (given-is (arrivalTime r) arrival a, given-is (departureTime r) departure d)
 
@@ -99,26 +77,6 @@ module _ (w : Feed) (i : ℕ) (arrival departure : Time) (a : IsTime (arrivalTim
         seconds-is (arrivalTime r) arrival a,
         seconds-is (departureTime r) departure d,
       )
-
-  overtakes-is : (k : ℕ) (t : Time) → i ≤ length (w .stopTimes) → k ≡ nearTimed w (timeTrip (row (w .stopTimes) i)) i → DepartsAt w k t → rule29 w i ≡ overtakes arrival departure k t
-  unfolding atOne arrives departs
-  overtakes-is k t h e g =
-      let r = row (w .stopTimes) i in
-      rw (
-        rule29-near w i h,
-        timed-is r arrival departure a d,
-        seconds-is (arrivalTime r) arrival a,
-        ← e,
-      )
-      (ap (λ b. bothGiven arrival departure && b)
-      (asked k _ _ (λ z. ap (λ n. ltb (secondsOf arrival) n) (seconds-is (departureTime (row (w .stopTimes) (k - 1))) t (g z)))))
-
-not-above-is : (w : Feed) (i n k m : ℕ) → i ≤ length (w .stopTimes) → IsSequence (row (w .stopTimes) i) n → k ≡ nearLine w (timeTrip (row (w .stopTimes) i)) i → SequenceAt w k m → rule28 w i ≡ notAbove k n m
-unfolding atOne
-not-above-is w i n k m h s e g =
-    let r = row (w .stopTimes) i in
-    rw (rule28-near w i h, ← e, s, sequence-number r)
-    (asked k _ _ (λ z. ap (λ l. leb (sequence r) l) (sym (g z ∙ sequence-number (row (w .stopTimes) (k - 1))))))
 
 -- ---- one line of each file
 
@@ -156,27 +114,26 @@ module _ {w : Feed} {i : ℕ} where
       rw (← s .again, s .starts, s .ends, day-number (dateOf (startDate r)), day-number (dateOf (endDate r)))
 
   pub trip-judged :
-      {repeats : Bool} {route service firstLine lastLine : ℕ} {firstTimed lastTimed : Bool}
-      → TripSeen w i repeats route service firstLine lastLine firstTimed lastTimed
-      → tripRules w i ≡ testsFrom (20 ∷ 21 ∷ 30 ∷ 31 ∷ 0 ∷ 0 ∷ []) (tripJudged repeats route service firstLine lastLine firstTimed lastTimed) 4
-  unfolding tripRules testsFrom tripJudged rule21·trips rule30 rule31 firstOfTrip ofTripLine
-  trip-judged {repeats} {route} {service} {firstLine} {lastLine} {firstTimed} {lastTimed} s =
-      let rs = ofTrip (tripId (row (w .trips) i)) (w .stopTimes) in
+      {repeats : Bool} {route service : ℕ} {paired openEnd : Bool}
+      → TripSeen w i repeats route service paired openEnd
+      → tripRules w i ≡ testsFrom (20 ∷ 21 ∷ 30 ∷ 31 ∷ 0 ∷ 0 ∷ []) (tripJudged repeats route service paired openEnd) 4
+  unfolding tripRules testsFrom tripJudged rule21·trips rule30 rule31 firstOfTrip
+  trip-judged {repeats} {route} {service} {paired} {openEnd} s =
+      let few = ltb (length (ofTripLine w i)) 2 in
       rw (
         ← s .again,
         loose-is (s .routed),
         loose-is (s .served),
-        unless repeats (ltb (length rs) 2) (eqb firstLine lastLine) (λ e. few-is (s .lines e)),
-        unless repeats (firstHas untimed rs || lastHas untimed rs) (openEnd firstLine firstTimed || openEnd lastLine lastTimed) (λ e. ends-are (s .lines e)),
+        unless repeats few (not paired) (λ e. sym (ap not (s .pairs e) ∙ twice-not few)),
+        unless repeats (openEnded w (tripId (row (w .trips) i))) openEnd (λ e. sym (s .ends e)),
       )
 
   pub time-judged :
-      {noTrip : Bool} {trip : ℕ} {noStop : Bool} {stop stopKind : ℕ} {arrival departure : Time} {point sequenced near nearSequence timedNear : ℕ} {nearDeparture : Time}
-      → i < length (w .stopTimes)
-      → TimeSeen w i noTrip trip noStop stop stopKind arrival departure point sequenced near nearSequence timedNear nearDeparture
-      → timeRules w i ≡ testsFrom (21 ∷ 23 ∷ 26 ∷ 27 ∷ 28 ∷ 29 ∷ []) (timeJudged noTrip trip noStop stop stopKind arrival departure point sequenced near nearSequence timedNear nearDeparture) 6
+      {trip stop stopKind : ℕ} {arrival departure : Time} {point : ℕ} {equal falling : Bool}
+      → TimeSeen w i trip stop stopKind arrival departure point equal falling
+      → timeRules w i ≡ testsFrom (21 ∷ 23 ∷ 26 ∷ 27 ∷ 28 ∷ 29 ∷ []) (timeJudged trip stop stopKind arrival departure point equal falling) 6
   unfolding timeRules testsFrom timeJudged rule21·times rule23
-  time-judged {noTrip} {trip} {noStop} {stop} {stopKind} {arrival} {departure} {point} {sequenced} {near} {nearSequence} {timedNear} {nearDeparture} h s =
+  time-judged {trip} {stop} {stopKind} {arrival} {departure} {point} {equal} {falling} s =
       let r = row (w .stopTimes) i in
       rw (
         loose-is (s .trips),
@@ -184,6 +141,6 @@ module _ {w : Feed} {i : ℕ} where
         off-kind-is w 0 (timeStop r) stop stopKind (s .halts .resolves) (s .kinds),
         half-is w i arrival departure (s .arrived) (s .departed) point (s .points),
         backward-is w i arrival departure (s .arrived) (s .departed),
-        not-above-is w i sequenced near nearSequence (omega arith) (s .sequences) (s .nears) (s .near-sequences),
-        overtakes-is w i arrival departure (s .arrived) (s .departed) timedNear nearDeparture (omega arith) (s .nears-timed) (s .near-departed),
+        ← s .equals,
+        ← s .falls,
       )

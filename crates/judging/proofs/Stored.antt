@@ -8,8 +8,6 @@ use lib.Dec.{eqb}
 use lib.IntN.{ℤ}
 use borrow.Author.Tests.{eqb-true}
 use Rattle.num.specs.Signs.{natOf}
-use Rattle.meaning.specs.declared.Number.{Number}
-use Rattle.meaning.specs.declared.Number.the-variants.{Value, NoNumber}
 use Rattle.meaning.specs.declared.Time.{Time}
 use Rattle.meaning.specs.declared.Time.the-variants.{Seconds, Untimed, NoTime}
 use Rattle.meaning.specs.declared.Date.{Date}
@@ -18,9 +16,9 @@ use Rattle.meaning.specs.declared.Choice.{Choice}
 use Rattle.meaning.specs.declared.Choice.the-variants.{Picked, NoChoice}
 use Rattle.meaning.specs.Lists.{empty}
 use Rattle.meaning.specs.Columns.{Row}
-use Rattle.meaning.specs.Forms.{noMark, formed, digitText, choiceOf, sequenceOf}
-use Rattle.meaning.specs.Tables.{locationType, stopSequence, seconds, day, number, picked, choiceOr, orZero, orMinus, oneIf}
-use Rattle.meaning.specs.Rules.{kindOf, dayOf, given, secondsOf, isOne, valueOf, sequence}
+use Rattle.meaning.specs.Forms.{noMark, formed, digitText, choiceOf}
+use Rattle.meaning.specs.Tables.{locationType, seconds, day, picked, choiceOr, orZero, orMinus, oneIf}
+use Rattle.meaning.specs.Rules.{kindOf, dayOf, given, secondsOf, isOne}
 use Rattle.rows.specs.Cells.{timeIn}
 
 -- ---- choices
@@ -70,19 +68,11 @@ one-number m v = stored _ m v (λ z. eqb (natOf z) 1) isOne go refl
     go (Picked n) = refl
     go NoChoice = refl
 
--- ---- days, sequences, times
+-- ---- days, times
 
 pub day-number : (d : Date) → natOf (day d) ≡ dayOf d
 day-number (Day n) = refl
 day-number NoDate = refl
-
-pub value-number : (n : Number) → natOf (number n) ≡ valueOf n
-value-number (Value n) = refl
-value-number NoNumber = refl
-
-pub sequence-number : (r : Row) → natOf (number (sequenceOf (stopSequence r))) ≡ sequence r
-unfolding sequence
-sequence-number r = value-number (sequenceOf (stopSequence r))
 
 pub given-stored : (t : Time) → given (timeIn (seconds t)) ≡ given t
 given-stored (Seconds n) = refl

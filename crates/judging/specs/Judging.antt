@@ -3,7 +3,7 @@ use Prim.Native.Nat.{ℕ, zero, suc}
 use mathlib.Core.List.{List, [], _∷_, _++_}
 use mathlib.Core.Bool.{Bool, false, not, _&&_, _||_}
 use lib.ListN.{getD}
-use lib.Dec.{leb, ltb, eqb}
+use lib.Dec.{ltb, eqb}
 use Rattle.meaning.specs.declared.Time.{Time}
 use Rattle.meaning.specs.Refusals.{Test, test}
 use Rattle.meaning.specs.Rules.{given, secondsOf}
@@ -23,10 +23,6 @@ abbrev pub misplaced : Bool → ℕ → ℕ → ℕ → Bool
 misplaced none parent kind parentKind =
     eqb kind 1 && not none || (eqb kind 2 && none || offKind 1 parent parentKind)
 
--- 31: there is a line, and it isn't timed
-abbrev pub openEnd : ℕ → Bool → Bool
-openEnd line timed = not (eqb line 0) && not timed
-
 -- a line has both times
 abbrev pub bothGiven : Time → Time → Bool
 bothGiven arrival departure = given arrival && given departure
@@ -36,18 +32,9 @@ abbrev pub halfTimed : Time → Time → ℕ → Bool
 halfTimed arrival departure timepoint =
     not (bothGiven arrival departure) && ((given arrival || given departure) || eqb timepoint 1)
 
--- 27, 29: the first of two times comes before the second
+-- 27: the first of two times comes before the second
 abbrev pub sooner : Time → Time → Bool
 sooner a b = ltb (secondsOf a) (secondsOf b)
-
--- 28: the nearest line's sequence isn't below this one's
-abbrev pub notAbove : ℕ → ℕ → ℕ → Bool
-notAbove near sequence nearSequence = not (eqb near 0) && leb sequence nearSequence
-
--- 29: a timed line arrives before the nearest timed one departs
-abbrev pub overtakes : Time → Time → ℕ → Time → Bool
-overtakes arrival departure nearTimed nearDeparture =
-    bothGiven arrival departure && (not (eqb nearTimed 0) && sooner arrival nearDeparture)
 
 -- ---- the rules of a line of each file, in the order of their numbers; unused places are false
 
@@ -68,25 +55,25 @@ routeJudged repeats nameless = repeats ∷ nameless ∷ false ∷ false ∷ fals
 unfoldable pub serviceJudged : Bool → ℕ → ℕ → List Bool
 serviceJudged repeats start end = repeats ∷ ltb end start ∷ false ∷ false ∷ false ∷ false ∷ []
 
--- neither reference is empty, by rule 12
-unfoldable pub tripJudged : Bool → ℕ → ℕ → ℕ → ℕ → Bool → Bool → List Bool
-tripJudged repeats route service firstLine lastLine firstTimed lastTimed =
+-- neither reference of a line of trips or of stop_times is empty, by rule 12; 28 to 31 are judged by marks: equal, falling, paired, open-ended
+unfoldable pub tripJudged : Bool → ℕ → ℕ → Bool → Bool → List Bool
+tripJudged repeats route service paired openEnded =
     repeats
     ∷ (loose false route || loose false service)
-    ∷ (not repeats && eqb firstLine lastLine)
-    ∷ (not repeats && (openEnd firstLine firstTimed || openEnd lastLine lastTimed))
+    ∷ (not repeats && not paired)
+    ∷ (not repeats && openEnded)
     ∷ false
     ∷ false
     ∷ []
 
-unfoldable pub timeJudged : Bool → ℕ → Bool → ℕ → ℕ → Time → Time → ℕ → ℕ → ℕ → ℕ → ℕ → Time → List Bool
-timeJudged noTrip trip noStop stop stopKind arrival departure timepoint sequence near nearSequence nearTimed nearDeparture =
-    (loose noTrip trip || loose noStop stop)
+unfoldable pub timeJudged : ℕ → ℕ → ℕ → Time → Time → ℕ → Bool → Bool → List Bool
+timeJudged trip stop stopKind arrival departure timepoint equal falling =
+    (loose false trip || loose false stop)
     ∷ offKind 0 stop stopKind
     ∷ halfTimed arrival departure timepoint
     ∷ (bothGiven arrival departure && sooner departure arrival)
-    ∷ notAbove near sequence nearSequence
-    ∷ overtakes arrival departure nearTimed nearDeparture
+    ∷ equal
+    ∷ falling
     ∷ []
 
 -- the first n rules of a line, by their numbers, with what was judged of them

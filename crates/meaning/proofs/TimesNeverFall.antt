@@ -1,5 +1,5 @@
 -- Demand 2: in a feed with no finding, times never fall between any two timed lines of one trip, and no two lines of it share a sequence.
-use Prim.Native.Nat.{ℕ, _+_, _≤_, _<_}
+use Prim.Native.Nat.{ℕ, _+_, _<_}
 use native.Mathlib.Omega.{arith}
 use native.Mathlib.Nat.{add-sub-cancel}
 use mathlib.Core.Path.{_≡_, refl}

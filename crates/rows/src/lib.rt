@@ -11,6 +11,7 @@ use meaning::Bounds;
 use meaning::Time;
 
 pub mod cells; // cells.rt: whole records written and single numbers read, for any width
+pub mod times; // times.rt: what stored times say
 
 // The record number of a stop.
 pub struct StopRow(pub usize);

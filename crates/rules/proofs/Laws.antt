@@ -1,107 +1,78 @@
--- Laws: the marks of a whole file, and the findings of all five.
+-- Laws: what the findings of each file rest on, and those of all five together.
 use Prim.Native.Nat.{ℕ, _+_, _*_, _-_, _≤_}
 use mathlib.Core.Path.{_≡_, sym, ap, _∙_}
-use mathlib.Core.List.{List, _++_, append-assoc}
-use mathlib.Core.Bool.{true}
+use mathlib.Core.List.{List, _++_}
 use native.Mathlib.Omega.{arith}
+use native.Mathlib.Nat.{mul-le-mul-left}
 use lib.IntN.{ℤ}
-use lib.ListN.{length, getD}
 use Rattle.meaning.specs.declared.Place.{Place}
 use Rattle.meaning.specs.Bytes.{countLf}
 use Rattle.meaning.specs.Tables.{Feed}
 use Rattle.meaning.specs.Refusals.{Claim, maxLines}
 use Rattle.meaning.specs.Rules.{bindings, bindingsOf}
 use Rattle.meaning.specs.Findings.{findingsOf}
-use Rattle.rows.specs.Cells.{natAt}
 use Rattle.listing.specs.Handing.{State, lentOnly, noting, handedOut}
 use Rattle.listing.proofs.Laws.{noting-all, noting-append}
-use Rattle.trip_order.specs.Marks.{LastLines, FirstLines}
-use Rattle.trip_order.proofs.Marks.{none-last, none-first}
 use Rattle.held.specs.Held.{Filled}
 use Rattle.held.proofs.Numbers.{lines-held}
-use Rattle.file_rules.specs.Lines.{rowsIn, Ready, Marked}
+use Rattle.file_rules.specs.Lines.{rowsIn, ruleCount, Ready}
 use Rattle.file_rules.proofs.Walk.{rows-records}
-use Rattle.file_rules.proofs.Marks.{firsts-of, lasts-of}
 use Rattle.rules.specs.Tabled.{Tabled}
 
+-- what the findings of each file rest on, which has a record for each line but the header
 module _ (w : Feed) (s₁ s₂ s₃ s₄ s₅ : List ℕ) (t₁ t₂ t₃ t₄ t₅ : List ℤ) (marks : List ℕ) (h : Tabled w s₁ s₂ s₃ s₄ s₅ t₁ t₂ t₃ t₄ t₅ marks) where
-  -- the marks that one walk along stop_times has set are those of the feed's trips
-  pub all-marked :
-      (n : ℕ) (a b first last : List ℕ)
-      → n ≡ countLf s₅ - 1
-      → ((k : ℕ) → getD a k 0 ≡ 0)
-      → ((k : ℕ) → getD b k 0 ≡ 0)
-      → (FirstLines (λ j. natAt t₅ ((j + 1) * 8)) a 0 → FirstLines (λ j. natAt t₅ ((j + 1) * 8)) first n)
-      → (LastLines (λ j. natAt t₅ ((j + 1) * 8)) (λ j. true) b 0 → LastLines (λ j. natAt t₅ ((j + 1) * 8)) (λ j. true) last n)
-      → length first ≡ maxLines
-      → length last ≡ maxLines
-      → Marked w t₅ first last
-  all-marked n a b first last e za zb f l p q =
-      let lines : n ≡ length (w .stopTimes) = omega (arith, lines-held 5 (omega arith) (omega arith) w (w .stopTimes) s₅ t₅ (h .times)) in
-      record {
-        file = s₅;
-        table = h .times;
-        firsts = firsts-of w s₅ t₅ (h .times) first (rw lines at (f (none-first _ a za)));
-        lasts = lasts-of w s₅ t₅ (h .times) last (rw lines at (l (none-last _ (λ j. true) b zb)));
-        first-long = omega (arith, h .few);
-        last-long = omega (arith, h .few);
-        named = h .named;
-      }
+  ready : (f : ℕ) → 1 ≤ f → f ≤ 5 → (s : List ℕ) (t : List ℤ) → Filled f w (rowsIn w f) s t → Ready f (countLf s - 1) w t t₁ marks
+  ready f low high s t k = record {
+    file = s;
+    table = k;
+    stops-file = s₁;
+    stops-table = h .stops;
+    all = omega (arith, lines-held f low high w (rowsIn w f) s t k, rows-records w f);
+    noted = h .noted;
+    trips-noted = h .trips-noted;
+    named = h .named;
+  }
 
-  -- what the findings of each of files 1 to 4 rest on, which has a record for each line but the header
-  module _ (first last : List ℕ) (m : Marked w t₅ first last) (n : ℕ) where
-    ready :
-        (f : ℕ) → 1 ≤ f → f ≤ 4 → (s : List ℕ) (t : List ℤ)
-        → Filled f w (rowsIn w f) s t
-        → n ≡ countLf s - 1
-        → Ready f n w t marks t₅ first last
-    ready f low four s t k e = record {
-      file = s;
-      table = k;
-      all = omega (arith, lines-held f low (omega arith) w (rowsIn w f) s t k, rows-records w f);
-      noted = h .noted;
-      ends = λ is. m;
-    }
+  pub stops-ready : Ready 1 (countLf s₁ - 1) w t₁ t₁ marks
+  unfolding rowsIn
+  stops-ready = ready 1 (omega arith) (omega arith) s₁ t₁ (h .stops)
 
-    pub stops-ready : n ≡ countLf s₁ - 1 → Ready 1 n w t₁ marks t₅ first last
-    unfolding rowsIn
-    stops-ready e = ready 1 (omega arith) (omega arith) s₁ t₁ (h .stops) e
+  pub routes-ready : Ready 2 (countLf s₂ - 1) w t₂ t₁ marks
+  unfolding rowsIn
+  routes-ready = ready 2 (omega arith) (omega arith) s₂ t₂ (h .routes)
 
-    pub routes-ready : n ≡ countLf s₂ - 1 → Ready 2 n w t₂ marks t₅ first last
-    unfolding rowsIn
-    routes-ready e = ready 2 (omega arith) (omega arith) s₂ t₂ (h .routes) e
+  pub calendar-ready : Ready 3 (countLf s₃ - 1) w t₃ t₁ marks
+  unfolding rowsIn
+  calendar-ready = ready 3 (omega arith) (omega arith) s₃ t₃ (h .calendar)
 
-    pub calendar-ready : n ≡ countLf s₃ - 1 → Ready 3 n w t₃ marks t₅ first last
-    unfolding rowsIn
-    calendar-ready e = ready 3 (omega arith) (omega arith) s₃ t₃ (h .calendar) e
+  pub trips-ready : Ready 4 (countLf s₄ - 1) w t₄ t₁ marks
+  unfolding rowsIn
+  trips-ready = ready 4 (omega arith) (omega arith) s₄ t₄ (h .trips)
 
-    pub trips-ready : n ≡ countLf s₄ - 1 → Ready 4 n w t₄ marks t₅ first last
-    unfolding rowsIn
-    trips-ready e = ready 4 (omega arith) (omega arith) s₄ t₄ (h .trips) e
+  pub times-ready : Ready 5 (countLf s₅ - 1) w t₅ t₁ marks
+  unfolding rowsIn
+  times-ready = ready 5 (omega arith) (omega arith) s₅ t₅ (h .times)
 
--- the findings of four files, one file after the other
-pub four-noted :
-    (p : Place) (a b c d : List Claim) (s₀ s₁ s₂ s₃ s₄ : State)
-    → s₁ ≡ noting p a s₀
-    → s₂ ≡ noting p b s₁
-    → s₃ ≡ noting p c s₂
-    → s₄ ≡ noting p d s₃
-    → s₄ ≡ noting p (a ++ (b ++ (c ++ d))) s₀
-four-noted p a b c d s₀ s₁ s₂ s₃ s₄ e f g h =
-    rw (noting-append p a (b ++ (c ++ d)) s₀, noting-append p b (c ++ d) (noting p a s₀), noting-append p c d (noting p b (noting p a s₀)), ← e, ← f, ← g) h
-
--- the findings of files 1 to 4, then those of file 5
+-- the findings of five files, one file after the other
 pub all-noted :
-    (w : Feed) (p : Place) (lent : List ℤ) (four five : State)
-    → four ≡ noting p (bindingsOf w 1 ++ (bindingsOf w 2 ++ (bindingsOf w 3 ++ bindingsOf w 4))) (lentOnly lent)
-    → five ≡ noting p (bindingsOf w 5) four
-    → five ≡ handedOut p (findingsOf w) lent
+    (w : Feed) (p : Place) (lent : List ℤ) (x₁ x₂ x₃ x₄ x₅ : State)
+    → x₁ ≡ noting p (bindingsOf w 1) (lentOnly lent)
+    → x₂ ≡ noting p (bindingsOf w 2) x₁
+    → x₃ ≡ noting p (bindingsOf w 3) x₂
+    → x₄ ≡ noting p (bindingsOf w 4) x₃
+    → x₅ ≡ noting p (bindingsOf w 5) x₄
+    → x₅ ≡ handedOut p (findingsOf w) lent
 unfolding findingsOf bindings
-all-noted w p lent four five a b =
-    let cs = bindingsOf w 1 ++ (bindingsOf w 2 ++ (bindingsOf w 3 ++ bindingsOf w 4)) in
-    let e : cs ++ bindingsOf w 5 ≡ bindings w = simp append-assoc in
-    b ∙ ap (noting p (bindingsOf w 5)) a ∙ sym (noting-append p cs (bindingsOf w 5) (lentOnly lent)) ∙ ap (λ l. noting p l (lentOnly lent)) e ∙ noting-all p (bindings w) lent
+all-noted w p lent x₁ x₂ x₃ x₄ x₅ a b c d e =
+    after 1 (lentOnly lent) x₁ _ a (after 2 x₁ x₂ _ b (after 3 x₂ x₃ _ c (after 4 x₃ x₄ (bindingsOf w 5) d e)))
+    ∙ noting-all p (bindings w) lent
+  where
+    -- one file before those that follow
+    after : (f : ℕ) (x y : State) (rest : List Claim) → y ≡ noting p (bindingsOf w f) x → x₅ ≡ noting p rest y → x₅ ≡ noting p (bindingsOf w f ++ rest) x
+    after f x y rest g k = k ∙ ap (noting p rest) g ∙ sym (noting-append p (bindingsOf w f) rest x)
 
--- a file of at most 65,536 lines adds at most so many findings to at most m
-pub total-more : (r k n l m : ℕ) → r ≤ k + 4 * n → n ≡ l - 1 → l ≤ maxLines → k ≤ m → r ≤ m + 4 * maxLines
-total-more r k n l m e a h g = omega arith
+-- a file of at most 65,536 lines has at most so many findings
+pub total-most : (f r k n l : ℕ) → r ≤ k + ruleCount f * n → n ≡ l - 1 → l ≤ maxLines → r ≤ k + ruleCount f * maxLines
+total-most f r k n l h e g =
+    let m : ruleCount f * n ≤ ruleCount f * maxLines = mul-le-mul-left {m = n} {n = maxLines} (ruleCount f) (omega arith) in
+    omega arith

@@ -19,7 +19,7 @@ use Rattle.trip_order.proofs.Steady.{met-none, met-more, met-goes, steady-step,
 use Rattle.trip_walk.specs.Table.{linesIn}
 use Rattle.trip_walk.specs.Told.{OnlyMet}
 use Rattle.trip_walk.specs.Walk.{goesBy}
-use Rattle.trip_walk.proofs.Table.{trips-in, by-record}
+use Rattle.trip_walk.proofs.Table.{trip-is, trips-in, by-record}
 
 -- what is known once lines 1 to i have gone on
 pub record Filing (t : List ℤ) (old m : List ℕ) (i : ℕ) : Type 0 where
@@ -48,10 +48,6 @@ module _ (t : List ℤ) where
       let c = and-both (ltb 0 (tripOf t 8 (i + 1))) (ltb (tripOf t 8 (i + 1)) (length m)) (b .0) in
       (ltb-true 0 (tripOf t 8 (i + 1)) (c .0), (ltb-true (tripOf t 8 (i + 1)) (length m) (c .1), b .1))
 
-  is-trip : (x r : ℕ) → r ≡ natAt t (x * 8) → tripOf t 8 x ≡ r
-  unfolding tripOf
-  is-trip x r e = sym e
-
   pub file-start : (m : List ℕ) → ((r : ℕ) → marked m metMark r ≡ false) → Filing t m m 0
   unfolding steady
   file-start m blank = record { kept = record { size = refl; other = λ b r e. refl }; met = met-none (tripOf t 8) m blank; goes = λ s. refl }
@@ -59,7 +55,7 @@ module _ (t : List ℤ) where
   pub file-turn : (old m m′ : List ℕ) (i r : ℕ) (b : Bool) → Filing t old m i → b ≡ goesBy t m i → b ≡ true → r ≡ natAt t ((i + 1) * 8) → OneMore m m′ metMark r → Filing t old m′ (i + 1)
   file-turn old m m′ i r b f e h q one =
       let p = parts m i (sym e ∙ h) in
-      let z : tripOf t 8 (i + 1) ≡ r = is-trip (i + 1) r q in
+      let z : tripOf t 8 (i + 1) ≡ r = trip-is t (i + 1) r q in
       record {
         kept = record { size = one .size ∙ f .kept .size; other = λ c x n. one .other c x (λ k l. n k) ∙ f .kept .other c x n };
         met = met-more (tripOf t 8) m m′ i (rw z one) (f .met);
@@ -91,19 +87,19 @@ module _ (t : List ℤ) where
   -- ---- what the test of one line hands on
 
   pub after-is : (i x y : ℕ) (b : Bool) → x ≡ natAt t (i * 8) → y ≡ natAt t ((i + 1) * 8) → b ≡ (ltb 0 i && eqb x y) → b ≡ (ltb 0 i && eqb (tripOf t 8 i) (tripOf t 8 (i + 1)))
-  after-is i x y b p q e = rw (is-trip i x p, is-trip (i + 1) y q) e
+  after-is i x y b p q e = rw (trip-is t i x p, trip-is t (i + 1) y q) e
 
   module _ (m : List ℕ) (i r : ℕ) (b : Bool) (q : r ≡ natAt t ((i + 1) * 8)) (e : b ≡ (ltb 0 r && ltb r (length m))) where
     pub goes-linked : (x y : ℕ) (c : Bool) → b ≡ true → c ≡ (ltb 0 i && eqb (tripOf t 8 i) (tripOf t 8 (i + 1))) → c ≡ true
         → x ≡ natAt t (i * 8 + 2) → y ≡ natAt t ((i + 1) * 8 + 2) → leb x y ≡ goesBy t m i
     unfolding goesBy keyOf
-    goes-linked x y c h d k u v = rw (← d, k, is-trip (i + 1) r q, ← e, h, u, v)
+    goes-linked x y c h d k u v = rw (← d, k, trip-is t (i + 1) r q, ← e, h, u, v)
 
     pub goes-fresh : (x c : Bool) → b ≡ true → c ≡ (ltb 0 i && eqb (tripOf t 8 i) (tripOf t 8 (i + 1))) → c ≡ false
         → x ≡ marked m metMark r → not x ≡ goesBy t m i
     unfolding goesBy
-    goes-fresh x c h d k u = rw (← d, k, is-trip (i + 1) r q, ← e, h, u)
+    goes-fresh x c h d k u = rw (← d, k, trip-is t (i + 1) r q, ← e, h, u)
 
     pub goes-out : b ≡ false → false ≡ goesBy t m i
     unfolding goesBy
-    goes-out h = rw (is-trip (i + 1) r q, ← e, h)
+    goes-out h = rw (trip-is t (i + 1) r q, ← e, h)

@@ -5,3 +5,4 @@ pub mod Turns
 pub mod Walking
 pub mod File
 pub mod Ranks
+pub mod Examples

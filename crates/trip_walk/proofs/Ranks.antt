@@ -1,10 +1,9 @@
 -- Two orders of lines in which trips stand together and rise: the file's own, where it will do, and the sorted one.
-use Prim.Native.Nat.{ℕ, _+_, _*_, _^_, _≤_, _<_}
+use Prim.Native.Nat.{ℕ, _≤_, _<_}
 use native.Mathlib.Omega.{arith}
 use mathlib.Core.Path.{_≡_, sym, subst}
 use mathlib.Core.List.{List}
 use lib.IntN.{ℤ}
-use lib.ListN.{length}
 use Rattle.ordering.specs.declared.By.the-variants.{TripAndSequence}
 use Rattle.ordering.specs.Cells.{KeptAt, Moved}
 use Rattle.ordering.specs.Ids.{inOrder, Sorted}
@@ -29,12 +28,10 @@ grouped-as L f n e g = record {
   tied = λ a b x y z h k. let p = e a x (omega arith) in let q = e b (omega arith) z in rw (p, q) (g .tied a b x y z (rw (p, q) at h) (rw (p, q) at k));
 }
 
-module _ (s : List ℕ) (n : ℕ) (t u : List ℤ) (room : (n + 1) * 8 ≤ length t) (few : n < 2 ^ 31) (k : KeptAt 7 8 n t u) (l : Listed 7 8 n u) where
+module _ (s : List ℕ) (n : ℕ) (u : List ℤ) (l : Listed 7 8 n u) where
   pub ranged-file : Grouped (linesIn s u) (λ i. i) n → Ranged s u n
   unfolding Listed
   ranged-file g = record {
-    room = rw (k .size) room;
-    few = few;
     whole = listed-whole 7 8 n u l;
     apart = listed-apart 7 8 n u l;
     grouped = grouped-as (linesIn s u) (cellsIn u) n l g;
@@ -42,8 +39,6 @@ module _ (s : List ℕ) (n : ℕ) (t u : List ℤ) (room : (n + 1) * 8 ≤ lengt
 
   pub ranged-sorted : (v : List ℤ) → Sorted (inOrder TripAndSequence s u 8) (cellsIn v) n → Moved n (cellsIn u) (cellsIn v) → KeptAt 7 8 n u v → Ranged s v n
   ranged-sorted v sorted moved j = record {
-    room = rw (j .size, k .size) room;
-    few = few;
     whole = moved-whole moved (listed-whole 7 8 n u l);
     apart = moved-apart moved (listed-apart 7 8 n u l);
     grouped = subst (λ (d : Lines). Grouped d (cellsIn v) n) (sym (lines-kept s j))

@@ -11,7 +11,7 @@ use Rattle.meaning.specs.declared.Time.{Time}
 use Rattle.meaning.specs.Lists.{same}
 use Rattle.meaning.specs.Rules.{given, secondsOf}
 use Rattle.meaning.proofs.ListLaws.{and-both, same-equal, same-self}
-use Rattle.rows.specs.Cells.{timeIn, timeAt}
+use Rattle.rows.specs.Cells.{natAt, timeIn, timeAt}
 use Rattle.ordering.specs.declared.By.the-variants.{TripAndSequence}
 use Rattle.ordering.specs.Cells.{KeptAt}
 use Rattle.ordering.specs.Ids.{tripOf, keyOf, strayId, inOrder}
@@ -24,6 +24,11 @@ use Rattle.trip_walk.specs.Table.{sameIn, timedIn, linesIn}
 use Rattle.trip_walk.specs.Told.{Told}
 
 -- ---- lines of one trip
+
+-- a line's trip as it is read
+pub trip-is : (t : List ℤ) (x r : ℕ) → r ≡ natAt t (x * 8) → tripOf t 8 x ≡ r
+unfolding tripOf
+trip-is t x r e = sym e
 
 module _ (s : List ℕ) (t : List ℤ) where
   same-is : (x y : ℕ) → sameIn s t x y ≡ true → (tripOf t 8 x ≡ tripOf t 8 y) × (strayId s t 8 x ≡ strayId s t 8 y)

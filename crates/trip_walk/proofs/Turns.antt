@@ -18,6 +18,7 @@ use Rattle.trip_order.specs.Cells.{linked, repeats, leaves, larger, nextLower, 
 use Rattle.trip_walk.specs.Table.{sameIn, timedIn, linesIn, cellsIn}
 use Rattle.trip_walk.specs.Told.{ToldTwo}
 use Rattle.trip_walk.specs.Walk.{Turned, Closed}
+use Rattle.trip_walk.proofs.Table.{trip-is}
 
 -- ---- lines of one trip
 
@@ -25,26 +26,22 @@ pub raw-is : (s : List ℕ) (t : List ℤ) (x a e : ℕ) (q : List ℕ) → a �
 raw-is s t x a e q p r i = let n : x * 8 + 5 + 1 ≡ x * 8 + 6 = omega arith in i ∙ rw (p, r, n)
 
 module _ (s : List ℕ) (t : List ℤ) (x y a b : ℕ) (p : a ≡ natAt t (x * 8)) (q : b ≡ natAt t (y * 8)) where
-  is-trip : (z c : ℕ) → c ≡ natAt t (z * 8) → tripOf t 8 z ≡ c
-  unfolding tripOf
-  is-trip z c e = sym e
-
   pub trips-differ : (a ≡ b → ⊥) → false ≡ sameIn s t x y
   unfolding sameIn
-  trips-differ n = rw (is-trip x a p, is-trip y b q, ne-eqb a b n)
+  trips-differ n = rw (trip-is t x a p, trip-is t y b q, ne-eqb a b n)
 
   pub trips-stand : a ≡ b → (a ≡ 0 → ⊥) → true ≡ sameIn s t x y
   unfolding sameIn strayId
   trips-stand i n =
       let z : eqb b 0 ≡ false = ne-eqb b 0 (λ k. n (i ∙ k)) in
-      rw (is-trip x a p, is-trip y b q, eq-eqb a b i, ne-eqb a 0 n, z) (sym (same-self []))
+      rw (trip-is t x a p, trip-is t y b q, eq-eqb a b i, ne-eqb a 0 n, z) (sym (same-self []))
 
   pub trips-stray : (u v : List ℕ) (r : Bool) → a ≡ b → a ≡ 0 → u ≡ part s (boundsAt t (x * 8 + 5)) → v ≡ part s (boundsAt t (y * 8 + 5))
       → r ≡ same (value u) (value v) → r ≡ sameIn s t x y
   unfolding sameIn strayId
   trips-stray u v r i z k l m =
       let z′ : eqb b 0 ≡ true = eq-eqb b 0 (sym i ∙ z) in
-      m ∙ rw (is-trip x a p, is-trip y b q, eq-eqb a b i, eq-eqb a 0 z, z′, k, l)
+      m ∙ rw (trip-is t x a p, trip-is t y b q, eq-eqb a b i, eq-eqb a 0 z, z′, k, l)
 
 -- ---- a cell and the one before
 

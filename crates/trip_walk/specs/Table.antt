@@ -1,10 +1,9 @@
 -- The lines of stop_times as their records wait in a table, and the cells of their order.
-use Prim.Native.Nat.{ℕ, _+_, _*_, _^_, _<_, _≤_}
+use Prim.Native.Nat.{ℕ, _+_, _*_}
 use mathlib.Core.List.{List}
 use mathlib.Core.Bool.{Bool, _&&_}
 use lib.Dec.{eqb}
 use lib.IntN.{ℤ}
-use lib.ListN.{length}
 use Rattle.meaning.specs.Lists.{same}
 use Rattle.meaning.specs.Rules.{given, secondsOf}
 use Rattle.rows.specs.Cells.{timeAt}
@@ -21,6 +20,7 @@ sameIn s t x y = eqb (tripOf t 8 x) (tripOf t 8 y) && same (strayId s t 8 x) (st
 unfoldable pub timedIn : List ℤ → ℕ → Bool
 timedIn t x = given (timeAt t (x * 8 + 3)) && given (timeAt t (x * 8 + 4))
 
+-- the lines of a table, by what stands in their records
 abbrev pub linesIn : List ℕ → List ℤ → Lines
 linesIn s t = record {
   same = sameIn s t;
@@ -36,8 +36,6 @@ cellsIn t = cellAt 7 t 8
 
 -- the cells hold each of n lines once, the lines of a trip together and rising
 pub record Ranged (s : List ℕ) (t : List ℤ) (n : ℕ) : Type 0 where
-  pub room : (n + 1) * 8 ≤ length t
-  pub few : n < 2 ^ 31
   pub whole : Whole (cellsIn t) n
   pub apart : Apart (cellsIn t) n
   pub grouped : Grouped (linesIn s t) (cellsIn t) n

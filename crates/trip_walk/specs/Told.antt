@@ -11,6 +11,7 @@ use Rattle.ordering.specs.Ids.{tripOf}
 use Rattle.trip_order.specs.Lines.{rule28, rule29, rule30, rule31}
 use Rattle.trip_walk.specs.Table.{linesIn}
 
+-- the marks say which of n lines break 28 and 29, and which trips don't break 30 and do break 31
 pub record Told (s : List ℕ) (t : List ℤ) (n : ℕ) (m : List ℕ) : Type 0 where
   pub equal : (x : ℕ) → 0 < x → x ≤ n → marked m equalMark x ≡ rule28 (linesIn s t) x
   pub falls : (x : ℕ) → 0 < x → x ≤ n → marked m fallingMark x ≡ rule29 (linesIn s t) n x

@@ -6,9 +6,9 @@ ghost use Prim.Native.Nat.{ℕ, _+_, _*_, _-_, _^_, _<_, _≤_};
 ghost use lib.Dec.{eqb, ltb};
 ghost use lib.ListN.{length};
 ghost use Rattle.meaning.specs.Bytes.{part};
-ghost use Rattle.meaning.specs.Rules.{given, secondsOf};
+ghost use Rattle.meaning.specs.Rules.{secondsOf};
 ghost use Rattle.marks.specs.Marks.{marked, pairedMark, openMark, metMark};
-ghost use Rattle.rows.specs.Cells.{natAt, boundsAt, timeAt};
+ghost use Rattle.rows.specs.Cells.{boundsAt, timeAt};
 ghost use Rattle.ordering.specs.Cells.{KeptAt};
 ghost use Rattle.ordering.specs.Ids.{tripOf};
 ghost use Rattle.trip_order.specs.Cells.{Grouped, linked, repeats, larger};
@@ -21,10 +21,10 @@ use marks::FALLING;
 use marks::MET;
 use marks::OPEN;
 use marks::PAIRED;
-use meaning::Time;
 use ordering::By;
 use rows::StopTimes;
 use rows::TimeRow;
+use rows::times;
 
 // The number of a waiting record that holds a cell of the order.
 const CELL: usize = 7;
@@ -36,21 +36,21 @@ const END: usize = 6;
 
 // What the walk carries along: the greatest departure in the group of smaller sequences, and of this one;
 // the first cell of the group, and of the run of equal sequences; and of this line: is it of the group before, and what is told of it.
-pub struct State {
-    pub below: usize,
-    pub here: usize,
-    pub from: usize,
-    pub begins: usize,
-    pub linked: bool,
-    pub equal: bool,
-    pub falls: bool,
+struct State {
+    below: usize,
+    here: usize,
+    from: usize,
+    begins: usize,
+    linked: bool,
+    equal: bool,
+    falls: bool,
 }
 
 // What a line's two times say.
-pub struct Times {
-    pub timed: bool,
-    pub arrives: usize,
-    pub departs: usize,
+struct Times {
+    timed: bool,
+    arrives: usize,
+    departs: usize,
 }
 
 // The line in cell k.
@@ -58,44 +58,6 @@ fn line_at(t: &[i32], k: usize) -> usize
     ensures { λ r. ⌜ r ≡ cellsIn (now (t .entry)) k ⌝ }
 {
     rows::cells::nat_of(t, k, StopTimes::WIDTH, CELL)
-}
-
-fn seconds_of(x: Time) -> usize
-    ensures { λ r. ⌜ r ≡ secondsOf x ⌝ }
-{
-    match x {
-        Time::Seconds(n) => n as usize,
-        Time::Untimed => 0,
-        Time::NoTime => 0,
-    }
-}
-
-fn is_given(x: Time) -> bool
-    ensures { λ r. ⌜ r ≡ given x ⌝ }
-{
-    match x {
-        Time::Seconds(_) => true,
-        Time::Untimed => false,
-        Time::NoTime => false,
-    }
-}
-
-fn both(a: bool, b: bool) -> bool
-    ensures { λ r. ⌜ r ≡ (a && b) ⌝ }
-{
-    if a {
-        return b;
-    }
-    false
-}
-
-fn either(a: bool, b: bool) -> bool
-    ensures { λ r. ⌜ r ≡ (a || b) ⌝ }
-{
-    if a {
-        return true;
-    }
-    b
 }
 
 fn pick(b: bool, x: usize, y: usize) -> usize
@@ -123,9 +85,9 @@ fn times_at(t: &[i32], x: usize) -> Times
     let a = StopTimes::arrival_at(t, TimeRow(x));
     let d = StopTimes::departure_at(t, TimeRow(x));
     Times {
-        timed: both(is_given(a), is_given(d)),
-        arrives: seconds_of(a),
-        departs: seconds_of(d),
+        timed: times::is_timed(a, d),
+        arrives: times::seconds_of(a),
+        departs: times::seconds_of(d),
     }
 }
 
@@ -186,7 +148,7 @@ fn leaving(x: Times) -> usize
 fn is_late(x: Times, below: usize) -> bool
     ensures { λ r. ⌜ r ≡ (x .timed && ltb (x .arrives) below) ⌝ }
 {
-    both(x.timed, x.arrives < below)
+    x.timed & (x.arrives < below)
 }
 
 // The greatest departure of smaller sequences, carried on.
@@ -267,7 +229,7 @@ fn is_open(t: &[i32], a: State) -> bool
 {
     let first = is_untimed(t, line_at(t, a.from));
     let last = is_untimed(t, line_at(t, a.begins));
-    either(first, last)
+    first | last
 }
 
 // The trip of the group that ends with cell k: has it two lines, is its first or its last not timed?
@@ -326,7 +288,7 @@ fn is_after(t: &[i32], i: usize) -> bool
 {
     let before = StopTimes::trip_at(t, TimeRow(i)).0;
     let here = StopTimes::trip_at(t, TimeRow(i + 1)).0;
-    both(0 < i, before == here)
+    (0 < i) & (before == here)
 }
 
 // Does line i + 1 go on with a trip, or begin one that is not met yet?
@@ -335,7 +297,7 @@ fn goes_on(t: &[i32], m: &[u16], i: usize) -> bool
     ensures { λ r. ⌜ r ≡ goesBy (now (t .entry)) (now (m .entry)) i ⌝ }
 {
     let r = StopTimes::trip_at(t, TimeRow(i + 1)).0;
-    if both(0 < r, r < m.len()) {
+    if (0 < r) & (r < m.len()) {
         if is_after(t, i) {
             let x = StopTimes::sequence_at(t, TimeRow(i));
             let y = StopTimes::sequence_at(t, TimeRow(i + 1));

@@ -13,20 +13,19 @@ use Rattle.meaning.specs.declared.Place.{Place}
 use Rattle.meaning.specs.declared.Answer.{Answer}
 use Rattle.meaning.specs.declared.Answer.the-variants.{Accepted, Findings, Refused}
 use Rattle.meaning.specs.Bytes.{countLf}
-use Rattle.meaning.specs.Columns.{rowsOf, schemas, schema, knownAt, columnOf, countOf, tripsColumns}
+use Rattle.meaning.specs.Columns.{rowsOf, schemas, schema, knownAt, columnOf, countOf, tripsColumns, stopTimesColumns}
 use Rattle.meaning.specs.Tables.{Feed, fileOf, feedOf, filled}
 use Rattle.meaning.specs.Refusals.{verdictOf, blank, maxLines}
 use Rattle.meaning.specs.Findings.{findingsOf, answerOf, handed, page, roomOf}
 use Rattle.meaning.specs.Outcome.{Outcome, readOutcome, filledFrom, outcome}
 use Rattle.meaning.proofs.Readable.{whole-kept, values-kept}
-use Rattle.marks.specs.Noted.{Noted}
+use Rattle.marks.specs.Noted.{Noted, TripsNoted}
 use Rattle.tables.specs.Fill.{Room}
 use Rattle.tables.proofs.Feeds.{room-kept}
-use Rattle.tables.proofs.Ids.{rows-count}
 use Rattle.listing.specs.Handing.{State, state, handedOut}
 use Rattle.listing.specs.declared.Sink.{Sink}
 use Rattle.held.specs.Held.{Filled}
-use Rattle.file_rules.specs.Lines.{NamedTrips}
+use Rattle.file_rules.specs.Lines.{Named}
 use Rattle.rules.specs.Tabled.{Tabled}
 
 filled-of : (f : ℕ) (w : Feed) (s : List ℕ) (t t′ : List ℤ) → Room f s t → t′ ≡ filled f w s t → Filled f w (rowsOf f s) s t′
@@ -66,15 +65,18 @@ module _ (s₁ s₂ s₃ s₄ s₅ : List ℕ) (t₁ t₂ t₃ t₄ t₅ : List 
   pub few-kept : (countLf s₁ ≤ maxLines) × ((countLf s₂ ≤ maxLines) × ((countLf s₃ ≤ maxLines) × ((countLf s₄ ≤ maxLines) × (countLf s₅ ≤ maxLines))))
   few-kept = (stops-kept .few, (routes-kept .few, (calendar-kept .few, (trips-kept .few, times-kept .few))))
 
-  -- rule 12: a readable feed has no trip without a route, a service or an id
-  named-trips : NamedTrips (feedOf files)
-  unfolding feedOf fileOf blank columnOf knownAt schema schemas countOf tripsColumns
-  named-trips =
-      let there = values-kept files rooms read 4 (omega arith) (omega arith) in
+  -- rule 12: a readable feed has no trip without a route, a service or an id, and no line of stop_times without a trip or a stop
+  named : Named (feedOf files)
+  unfolding feedOf fileOf blank columnOf knownAt schema schemas countOf tripsColumns stopTimesColumns
+  named =
+      let trips = values-kept files rooms read 4 (omega arith) (omega arith) in
+      let times = values-kept files rooms read 5 (omega arith) (omega arith) in
       record {
-        routes = λ i h. there i h 0 (omega arith) .there;
-        services = λ i h. there i h 1 (omega arith) .there;
-        ids = λ i h. there i h 2 (omega arith) .there;
+        routes = λ i h. trips i h 0 (omega arith) .there;
+        services = λ i h. trips i h 1 (omega arith) .there;
+        ids = λ i h. trips i h 2 (omega arith) .there;
+        trips = λ i h. times i h 0 (omega arith) .there;
+        stops = λ i h. times i h 3 (omega arith) .there;
       }
 
   -- once its tables are filled and its marks set, the rules can be judged
@@ -86,17 +88,18 @@ module _ (s₁ s₂ s₃ s₄ s₅ : List ℕ) (t₁ t₂ t₃ t₄ t₅ : List 
       → u₄ ≡ filled 4 (feedOf files) s₄ t₄
       → u₅ ≡ filled 5 (feedOf files) s₅ t₅
       → Noted (feedOf files) marks
+      → TripsNoted (feedOf files) marks
       → Tabled (feedOf files) s₁ s₂ s₃ s₄ s₅ u₁ u₂ u₃ u₄ u₅ marks
   unfolding feedOf fileOf
-  tabled u₁ u₂ u₃ u₄ u₅ marks a b c d e m = record {
+  tabled u₁ u₂ u₃ u₄ u₅ marks a b c d e m o = record {
     stops = filled-of 1 (feedOf files) s₁ t₁ u₁ stops-kept a;
     routes = filled-of 2 (feedOf files) s₂ t₂ u₂ routes-kept b;
     calendar = filled-of 3 (feedOf files) s₃ t₃ u₃ calendar-kept c;
     trips = filled-of 4 (feedOf files) s₄ t₄ u₄ trips-kept d;
     times = filled-of 5 (feedOf files) s₅ t₅ u₅ times-kept e;
     noted = m;
-    named = named-trips;
-    few = omega (arith, rows-count 4 s₄, trips-kept .few, trips-kept .lines);
+    trips-noted = o;
+    named = named;
   }
 
   -- and the outcome is what is answered and held

@@ -1,6 +1,6 @@
-//! Edge cases, each tried everywhere: every raw field under every known column, every odd file in every place.
+//! Edge cases, each tried everywhere: every raw field under every known column, every odd file in every place, every small order of lines.
 
-use crate::Case;
+use crate::{orders, Case};
 use model::columns::{COLUMNS, WIDTHS};
 use model::fields::line_ends;
 
@@ -235,6 +235,7 @@ pub fn cases() -> Vec<Case> {
             cases.extend(header_cases(file, column));
         }
     }
+    cases.extend(orders::stop_times().into_iter().map(|file| with_file(4, file.into_bytes()).swap_remove(0)));
     cases
 }
 

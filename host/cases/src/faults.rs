@@ -16,7 +16,7 @@ const REFERENCES: [(usize, &str, usize, &str); 5] = [
 
 /// Breaks something, usually, at a random place.
 pub fn break_one(feed: &mut Feed, random: &mut Random) {
-    match random.below(14) {
+    match random.below(19) {
         0 | 1 => repeat_id(feed, random),
         2 | 3 => lose_reference(feed, random),
         4 => move_reference(feed, random),
@@ -28,6 +28,10 @@ pub fn break_one(feed: &mut Feed, random: &mut Random) {
         10 => edit(feed, random, 4, "timepoint", |_| "1".to_string()),
         11 => move_time(feed, random),
         12 => move_sequence(feed, random),
+        13 | 14 => repeat_sequence(feed, random),
+        15 => random.shuffle(&mut feed[4].rows),
+        16 => lose_trip(feed, random),
+        17 => share_lines(feed, random),
         _ => move_lines(feed, random),
     }
 }
@@ -139,6 +143,40 @@ fn move_sequence(feed: &mut Feed, random: &mut Random) {
     let sequence = random.below(most);
     let text = sequence_text(random, sequence);
     feed[4].set(row, "stop_sequence", text);
+}
+
+/// A sequence that another line of the trip has, in any spelling, on one line of it or on all.
+fn repeat_sequence(feed: &mut Feed, random: &mut Random) {
+    let Some(from) = row(feed, random, 4) else { return };
+    let sequence = std::str::from_utf8(feed[4].get(from, "stop_sequence")).ok().and_then(|text| text.parse().ok());
+    let trip = feed[4].get(from, "trip_id").to_vec();
+    let same = |row: &usize| feed[4].get(*row, "trip_id") == trip;
+    let mut lines: Vec<usize> = (0..feed[4].rows.len()).filter(same).collect();
+    if !random.once_in(4) {
+        lines = vec![*random.pick(&lines)];
+    }
+    for line in lines {
+        let text = sequence_text(random, sequence.unwrap_or(0));
+        feed[4].set(line, "stop_sequence", text);
+    }
+}
+
+/// A trip that is gone from trips.txt, so that its lines in stop_times name none.
+fn lose_trip(feed: &mut Feed, random: &mut Random) {
+    if let Some(row) = row(feed, random, 3) {
+        feed[3].rows.remove(row);
+    }
+}
+
+/// All lines of stop_times are one trip's, or each is a trip's of its own.
+fn share_lines(feed: &mut Feed, random: &mut Random) {
+    let Some(from) = row(feed, random, 4) else { return };
+    let one = feed[4].get(from, "trip_id").to_vec();
+    let together = random.once_in(2);
+    for line in 0..feed[4].rows.len() {
+        let id = if together { one.clone() } else { format!("id-{line}").into_bytes() };
+        feed[4].set(line, "trip_id", id);
+    }
 }
 
 /// Lines of stop_times that change places, or are gone.

@@ -221,7 +221,7 @@ fn stop_times(random: &mut Random, trips: &Grid, platforms: &[Vec<u8>]) -> Grid 
         let calls = random.between(2, 6);
         queues.push(calls_of(random, &trip, calls, bare));
     }
-    // Interleaved or not, each trip keeps its own order.
+    // Trip after trip, or by turns.
     let together = random.once_in(2);
     while !queues.is_empty() {
         let queue = if together { 0 } else { random.below(queues.len()) };
@@ -230,15 +230,25 @@ fn stop_times(random: &mut Random, trips: &Grid, platforms: &[Vec<u8>]) -> Grid 
         grid.push(&row);
         queues.retain(|queue| !queue.is_empty());
     }
+    reorder(random, &mut grid);
     grid
 }
 
-/// The lines of one trip, in order, without their stops: times never fall, sequences rise.
+/// Half of the time the lines stand in no trip's order: backward, shuffled, or sorted by stop.
+fn reorder(random: &mut Random, stop_times: &mut Grid) {
+    match random.below(6) {
+        0 => stop_times.rows.reverse(),
+        1 => random.shuffle(&mut stop_times.rows),
+        2 => stop_times.rows.sort_by(|one, other| one[3].cmp(&other[3])),
+        _ => {}
+    }
+}
+
+/// The lines of one trip by sequence, without their stops: times never fall.
 fn calls_of(random: &mut Random, trip: &[u8], calls: usize, bare: bool) -> Vec<Vec<Vec<u8>>> {
     let mut now = random.below(90 * 3600);
-    let mut sequence = random.below(3);
     let mut rows = Vec::new();
-    for call in 0..calls {
+    for (call, sequence) in sequences(random, calls).into_iter().enumerate() {
         let timed = call == 0 || call == calls - 1 || !random.once_in(3);
         let arrival = now + random.below(3) * random.below(400);
         let departure = arrival + random.below(2) * random.below(400);
@@ -250,9 +260,20 @@ fn calls_of(random: &mut Random, trip: &[u8], calls: usize, bare: bool) -> Vec<V
         let mut row = vec![trip.to_vec(), arrival, departure, Vec::new(), sequence_text(random, sequence)];
         row.extend(choices.map(|from| choice(random, from, bare)));
         rows.push(row);
-        sequence += if random.once_in(20) { 100_000_000 } else { random.between(1, 3) };
     }
     rows
+}
+
+/// So many sequences that rise, at times up to the largest.
+fn sequences(random: &mut Random, count: usize) -> Vec<usize> {
+    let mut next = random.below(3);
+    let mut sequences = Vec::new();
+    for _ in 0..count {
+        sequences.push(next);
+        next += if random.once_in(20) { 100_000_000 } else { random.between(1, 3) };
+    }
+    let up = if random.once_in(6) { 999_999_999 - sequences.last().unwrap_or(&0) } else { 0 };
+    sequences.into_iter().map(|sequence| sequence + up).collect()
 }
 
 /// A time with one or two hour digits.

@@ -8,6 +8,7 @@ pub mod feeds;
 pub mod generate;
 pub mod large;
 pub mod lines;
+pub mod orders;
 pub mod random;
 pub mod render;
 pub mod vectors;

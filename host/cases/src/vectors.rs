@@ -1,11 +1,14 @@
-//! Reads vector files; their form is explained at the top of vectors/base.txt.
+//! Reads vector files; their form is explained at the top of vectors/e2.txt.
 
 use crate::{Case, Outcome};
 use model::Answer;
 
-/// The cases of vectors/base.txt with what each must give.
-pub fn base() -> Vec<(Case, Outcome)> {
-    read(include_str!("../vectors/base.txt")).expect("vectors/base.txt is well-formed")
+/// The customer's vectors for document 01 with E2; the first line says so.
+pub const E2: &str = include_str!("../vectors/e2.txt");
+
+/// The customer's cases with what each must give.
+pub fn customers() -> Vec<(Case, Outcome)> {
+    read(E2).expect("vectors/e2.txt is well-formed")
 }
 
 /// The cases of a vector file, or what is wrong with it and where.

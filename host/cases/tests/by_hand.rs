@@ -1,4 +1,4 @@
-//! The model against answers written by hand from document 01 and from the readings of its open points.
+//! The model against answers written by hand from documents 01 and 02 and from the readings of their open points.
 
 use cases::edges::BASE;
 use model::Answer;
@@ -43,7 +43,7 @@ fn instead(file: usize, old: &str, new: &str) -> String {
     BASE[file - 1].replace(old, new)
 }
 
-/// Document 01, "One feed in full".
+/// Document 01, "One feed in full": by E2 it loses (4,2,31) and keeps the other five.
 #[test]
 fn the_feed_of_document_01() {
     let files = feed(&[
@@ -53,8 +53,8 @@ fn the_feed_of_document_01() {
         (5, "trip_id,arrival_time,departure_time,stop_id,stop_sequence\nT,08:00:00,08:00:00,A,1\nT,07:59:59,08:05:00,B,2\nT,,,C,2\n"),
     ]);
     let (answer, list) = check(&files);
-    assert_eq!(answer, Answer::Findings { written: 6, total: 6 });
-    assert_eq!(list, [[4, 2, 31], [4, 3, 21], [4, 3, 30], [5, 3, 29], [5, 4, 21], [5, 4, 28]]);
+    assert_eq!(answer, Answer::Findings { written: 5, total: 5 });
+    assert_eq!(list, [[4, 3, 21], [4, 3, 30], [5, 3, 29], [5, 4, 21], [5, 4, 28]]);
     let mut tables = cases::large::tables(&files, 99);
     model::check(&files, &mut tables, &mut [], [0, 0, 0]);
     assert_eq!(tables[0], [0, 0, 0, 0, 0, 0, 36, 37, 15000000, 20000000, 0, 0, 50, 51, 16000000, 20000000, 0, 0]);
@@ -169,16 +169,105 @@ fn single_lines() {
     findings(&[(2, "route_id,route_type\nR,3\n")], &[[2, 2, 25]]);
 }
 
-/// Rules 28 and 29 go by the nearest earlier line of the same trip, in file 4 or not (A39).
+/// The base feed with these lines alone in stop_times: trip, arrival, departure and sequence, at stop A.
+fn calls(lines: &[[&str; 4]]) -> String {
+    let line =
+        |[trip, arrival, departure, sequence]: &[&str; 4]| format!("{trip},{arrival},{departure},A,{sequence}\n");
+    let lines: String = lines.iter().map(line).collect();
+    format!("trip_id,arrival_time,departure_time,stop_id,stop_sequence\n{lines}")
+}
+
+/// The findings of the base feed with these lines in stop_times.
+#[track_caller]
+fn order(lines: &[[&str; 4]], wanted: &[[i32; 3]]) {
+    findings(&[(5, &calls(lines))], wanted);
+}
+
+const EIGHT: [&str; 2] = ["8:00:00", "8:00:00"];
+const NINE: [&str; 2] = ["9:00:00", "9:00:00"];
+const NONE: [&str; 2] = ["", ""];
+
+/// A line of the trip that stands in trips.txt.
+fn call<'a>([arrival, departure]: [&'a str; 2], sequence: &'a str) -> [&'a str; 4] {
+    ["T", arrival, departure, sequence]
+}
+
+/// E2: the order of lines in the file tells nothing.
 #[test]
-fn the_order_within_a_trip() {
-    let lines = |lines: &str| instead(5, "T,08:05:00,08:06:00,B,2,3,0,\n", lines);
-    let unresolved = lines("T,9:00:00,9:00:00,B,2,,,\nX,,,A,5,,,\nX,,,A,3,,,\nX,,,A,4,,,\n");
-    findings(&[(5, &unresolved)], &[[5, 4, 21], [5, 5, 21], [5, 5, 28], [5, 6, 21]]);
-    // Another trip's line, and one with a single time, stand between the two that count.
-    let between = lines("X,7:00:00,7:00:00,A,1,,,\nT,,7:30:00,B,2,,,\nT,7:59:59,9:00:00,B,3,,,\n");
-    findings(&[(5, &between)], &[[5, 3, 21], [5, 4, 26], [5, 5, 29]]);
-    findings(&[(5, &lines("T,8:05:00,8:05:00,B,01,,,\n"))], &[[5, 3, 28]]);
+fn a_trip_goes_by_sequence() {
+    let ten = ["10:00:00", "10:00:00"];
+    order(&[call(ten, "3"), call(NINE, "2"), call(EIGHT, "1")], &[]);
+    order(&[call(NINE, "2"), call(EIGHT, "1"), call(ten, "3")], &[]);
+    // Sequences fall and times rise: the line with the smaller sequence stands further down.
+    order(&[call(EIGHT, "2"), call(NINE, "1")], &[[5, 2, 29]]);
+    // First and last stand between others, and their neighbours in the file lack times.
+    order(&[call(NONE, "2"), call(EIGHT, "1"), call(NINE, "999999999"), call(NONE, "3")], &[]);
+    order(&[call(EIGHT, "2"), call(NONE, "1"), call(NINE, "3")], &[[4, 2, 31]]);
+    order(&[call(EIGHT, "1"), call(NONE, "9"), call(NINE, "3")], &[[4, 2, 31]]);
+}
+
+/// Rule 28: an earlier line of the same trip has the same sequence, next to it or not; values decide (A55).
+#[test]
+fn equal_sequences() {
+    order(&[call(EIGHT, "1"), call(NINE, "2"), call(EIGHT, "1")], &[[5, 4, 28]]);
+    order(&[call(EIGHT, "1"), call(EIGHT, "01"), call(EIGHT, "000000001")], &[[5, 3, 28], [5, 4, 28]]);
+    order(&[call(EIGHT, "0"), call(EIGHT, "000000000"), call(EIGHT, "999999999")], &[[5, 3, 28]]);
+    order(&[call(EIGHT, "999999999"), call(EIGHT, "0"), call(EIGHT, "999999999")], &[[5, 4, 28]]);
+    // Another trip's equal sequence is none of its concern.
+    order(&[call(EIGHT, "1"), ["X", "", "", "1"], call(NINE, "2")], &[[5, 3, 21]]);
+}
+
+/// Rule 29: any timed line with a smaller sequence that departs after, not the nearest one alone (A56).
+#[test]
+fn every_smaller_sequence_counts() {
+    let half_past = ["8:30:00", "8:30:00"];
+    // The line before it departs in time, the one before that doesn't.
+    order(&[call(NINE, "1"), call(EIGHT, "2"), call(half_past, "3")], &[[5, 3, 29], [5, 4, 29]]);
+    order(&[call(half_past, "3"), call(EIGHT, "2"), call(NINE, "1")], &[[5, 2, 29], [5, 3, 29]]);
+    // A departure at the arrival is in time, a second later it isn't.
+    order(&[call(["8:00:00", "9:00:00"], "1"), call(NINE, "2")], &[]);
+    order(&[call(["8:00:00", "9:00:01"], "1"), call(NINE, "2")], &[[5, 3, 29]]);
+    // Equal sequences aren't compared, on either side.
+    order(&[call(["8:00:00", "9:00:00"], "1"), call(half_past, "1"), call(NINE, "2")], &[[5, 3, 28]]);
+    order(&[call(half_past, "1"), call(["8:00:00", "9:00:00"], "01"), call(NINE, "2")], &[[5, 3, 28]]);
+    // The later of two lines with one sequence counts for those above.
+    order(&[call(EIGHT, "1"), call(NINE, "1"), call(half_past, "2")], &[[5, 3, 28], [5, 4, 29]]);
+    // Lines with one time or none neither break it nor count, but for rules 26 and 31.
+    order(&[call(EIGHT, "1"), call(["", "9:30:00"], "2"), call(NINE, "3")], &[[5, 3, 26]]);
+    order(&[call(EIGHT, "1"), call(["7:00:00", ""], "2"), call(NINE, "3")], &[[5, 3, 26]]);
+}
+
+/// Rule 31: ties go to the earliest line at both ends (A57).
+#[test]
+fn ties_at_the_ends() {
+    // Two lines with the smallest sequence: the earlier one is the first.
+    order(&[call(EIGHT, "1"), call(NONE, "1"), call(NINE, "2")], &[[5, 3, 28]]);
+    order(&[call(NONE, "1"), call(EIGHT, "1"), call(NINE, "2")], &[[4, 2, 31], [5, 3, 28]]);
+    // Two lines with the largest: the earlier one is the last, and not the later one.
+    order(&[call(EIGHT, "1"), call(NINE, "2"), call(NONE, "02")], &[[5, 4, 28]]);
+    order(&[call(EIGHT, "1"), call(NONE, "02"), call(NINE, "2")], &[[4, 2, 31], [5, 4, 28]]);
+    order(
+        &[call(NINE, "2"), call(NONE, "2"), call(NONE, "1"), call(EIGHT, "1")],
+        &[[4, 2, 31], [5, 3, 28], [5, 5, 28]],
+    );
+    order(&[call(NINE, "2"), call(NONE, "2"), call(EIGHT, "1"), call(NONE, "1")], &[[5, 3, 28], [5, 5, 28]]);
+    // With one sequence only, first and last are the same line.
+    order(&[call(EIGHT, "7"), call(NONE, "7"), call(NONE, "7")], &[[5, 3, 28], [5, 4, 28]]);
+    order(&[call(NONE, "7"), call(EIGHT, "7"), call(NINE, "7")], &[[4, 2, 31], [5, 3, 28], [5, 4, 28]]);
+}
+
+/// Rules 28 and 29 hold for trips that stand nowhere too, among the lines of others, told apart by value.
+#[test]
+fn trips_that_stand_nowhere() {
+    let lines = [
+        ["X", "9:00:00", "9:00:00", "2"],
+        ["T", "8:00:00", "8:00:00", "1"],
+        ["x", "7:00:00", "7:00:00", "1"],
+        ["X", "9:30:00", "9:30:00", "1"],
+        ["T", "9:00:00", "9:00:00", "2"],
+        ["\"X\"", "9:30:00", "9:30:00", "02"],
+    ];
+    order(&lines, &[[5, 2, 21], [5, 2, 29], [5, 4, 21], [5, 5, 21], [5, 7, 21], [5, 7, 28]]);
 }
 
 /// Rules 30 and 31: the first line of each trip_id, lines counted by value (A41, A42).

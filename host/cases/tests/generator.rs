@@ -60,6 +60,6 @@ fn large_feeds_are_accepted() {
     for calls in [2, 21, 41, 1000] {
         let files = cases::large::feed(calls);
         let mut tables = cases::large::tables(&files, 9);
-        assert_eq!(model::check(&files, &mut tables, &mut vec![0; 30], [0, 0, 0]), Answer::Accepted);
+        assert_eq!(model::check(&files, &mut tables, &mut [0; 30], [0, 0, 0]), Answer::Accepted);
     }
 }

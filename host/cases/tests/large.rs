@@ -6,20 +6,23 @@ use model::columns::WIDTHS;
 use model::fields::line_ends;
 use model::Answer;
 
-/// How many findings each feed of 64 lines has, counted by hand; none where chance decides.
-fn findings(name: &str) -> Option<usize> {
+/// How many findings each feed of 64 lines has, counted by hand.
+fn findings(name: &str) -> usize {
     let (lines, trips) = (63, 6);
     match name {
         // The trip of each line (21), and each trip that no line has (30).
-        "nowhere" => Some(lines + trips),
+        "nowhere" | "one-nowhere" => lines + trips,
         // The trip of each line (21) and its stop, a station (23), and each trip (30).
-        "all-at-once" => Some(lines * 3),
+        "all-at-once" => lines * 3,
         // The stop of each line (21), and each trip for its route and service (21) and its one line (30).
-        "unresolved" => Some(lines * 3),
+        "unresolved" => lines * 3,
         // All lines but the first of four files (20).
-        "equal-ids" => Some((lines - 1) * 4),
-        "shuffled" => None,
-        _ => Some(0),
+        "equal-ids" => (lines - 1) * 4,
+        // Each trip for its one line (30).
+        "own-trip" => lines,
+        // All lines but the first (28).
+        "one-sequence" => lines - 1,
+        _ => 0,
     }
 }
 
@@ -34,8 +37,7 @@ fn small_ones_find_what_was_meant() {
             Answer::Findings { total, .. } => total,
             Answer::Refused { .. } => panic!("{}: {answer:?}", family.name),
         };
-        let wanted = findings(family.name).unwrap_or(total.max(1));
-        assert_eq!(total, wanted, "{}", family.name);
+        assert_eq!(total, findings(family.name), "{}", family.name);
         assert!(family.kind != Kind::Plain || answer == Answer::Accepted, "{}", family.name);
     }
 }
@@ -55,7 +57,7 @@ fn reordered(family: &Family, file: usize) -> bool {
 #[test]
 fn some_are_the_plain_feed_in_another_order() {
     for family in &FAMILIES {
-        let wanted = ["interleaved", "backward", "shuffled"].contains(&family.name);
+        let wanted = ["interleaved", "by-stop", "backward", "shuffled"].contains(&family.name);
         assert_eq!(reordered(family, 5), wanted, "{}", family.name);
     }
 }
@@ -99,9 +101,22 @@ fn lines_stand_in_the_order_said() {
     let calls = |name: &str| filled(name).1[4].clone();
     let trips = |name: &str| calls(name).into_iter().map(|call| call[0]).collect::<Vec<_>>();
     assert!(trips("plain").windows(2).all(|pair| pair[0] <= pair[1]));
-    assert!(trips("backward").windows(2).all(|pair| pair[0] >= pair[1]));
+    let sequences = |name: &str| calls(name).into_iter().map(|call| call[2]).collect::<Vec<_>>();
+    let backward = |name: &str| calls(name).into_iter().rev().collect::<Vec<_>>();
+    assert_eq!(backward("backward"), calls("plain"));
+    assert!(calls("by-stop").windows(2).all(|pair| pair[0][1] <= pair[1][1]), "the stops rise");
+    assert!(sequences("by-stop")[..20].windows(2).any(|pair| pair[0] > pair[1]), "the sequences don't");
     assert_eq!(trips("interleaved")[..8], [1, 2, 3, 4, 5, 6, 1, 2]);
-    assert_eq!(trips("one-trip"), [1; 63]);
+    for one in ["one-trip", "one-backward", "one-shuffled", "one-sequence"] {
+        assert_eq!(trips(one), [1; 63], "{one}");
+    }
+    assert_eq!(trips("one-nowhere"), [0; 63]);
+    assert_eq!(backward("one-backward"), calls("one-trip"));
+    assert!(sequences("one-shuffled").windows(2).any(|pair| pair[0] > pair[1]));
+    assert!(sequences("one-nowhere").windows(2).all(|pair| pair[0] == pair[1] + 1));
+    assert_eq!(sequences("one-sequence"), [1; 63]);
+    assert_eq!(trips("own-trip"), (1..64).collect::<Vec<_>>());
+    assert!(trips("two-lines")[..62].chunks(2).zip(1..).all(|(pair, trip)| pair == [trip, trip]));
     assert_eq!(trips("few-ids").iter().max(), Some(&4));
     assert_eq!(calls("quoted"), calls("plain"));
     assert!(filled("quoted").0.iter().all(|file| file.starts_with(b"\"") && file.ends_with(b"\"\n")));

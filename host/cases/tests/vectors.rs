@@ -4,8 +4,9 @@ use cases::{by_model, difference, vectors};
 
 #[test]
 fn the_model_agrees_with_every_vector() {
-    let vectors = vectors::base();
-    assert_eq!(vectors.len(), 500);
+    assert_eq!(vectors::E2.lines().next(), Some("# Document 01 with requests E2 in force."));
+    let vectors = vectors::customers();
+    assert_eq!(vectors.len(), 400);
     for (case, wanted) in &vectors {
         if let Some(difference) = difference(wanted, &by_model(case)) {
             panic!("{}: {difference}", case.name);

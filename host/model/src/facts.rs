@@ -1,4 +1,4 @@
-//! The facts behind a finding or a refusal, each looked up in the plainest way that document 01's words allow.
+//! The facts behind a finding or a refusal, each looked up in the plainest way that the documents' words allow.
 
 use crate::columns::{Column, COLUMNS};
 use crate::fields::{fields, line_ends, lines, Field, Line};
@@ -6,6 +6,8 @@ use crate::forms::number;
 use crate::reading::{Feed, Row};
 use crate::records::IDS;
 use crate::rules::Finding;
+use crate::trips::{by_trip, first_call, last_call, leaves_after, repeats, Call};
+use std::cmp::Reverse;
 
 /// A fact.
 #[derive(Clone, Debug, PartialEq, Eq)]
@@ -44,9 +46,13 @@ fn row(feed: &Feed, file: usize, line: usize) -> Row<'_> {
     feed[file - 1].record(line - 1)
 }
 
-/// A time as HH:MM:SS, none where it is empty.
 fn time(row: Row, column: &str) -> Fact {
-    match row.number(column) {
+    clock(row.number(column))
+}
+
+/// A time as HH:MM:SS, none where it is empty.
+fn clock(seconds: i32) -> Fact {
+    match seconds {
         -1 => Fact::None,
         seconds => text(format!("{:02}:{:02}:{:02}", seconds / 3600, seconds % 3600 / 60, seconds % 60)),
     }
@@ -57,9 +63,13 @@ fn timed(row: Row) -> bool {
 }
 
 /// The lines of stop_times with this trip_id, in file order.
-fn lines_of_trip<'a>(feed: &'a Feed, trip: &[u8]) -> Vec<(usize, Row<'a>)> {
-    let all = feed[4].rows().enumerate().map(|(place, row)| (place + 2, row));
-    all.filter(|(_, row)| row.value("trip_id") == trip).collect()
+fn lines_of_trip(feed: &Feed, trip: &[u8]) -> Vec<Call> {
+    by_trip(feed).remove(trip).unwrap_or_default()
+}
+
+/// The line on which a line of stop_times stands.
+fn line_of(call: &Call) -> Fact {
+    count(call.place + 2)
 }
 
 /// The facts behind a finding of a feed.
@@ -84,8 +94,10 @@ pub fn of_finding(feed: &Feed, finding: Finding) -> Facts {
         25 => vec![("columns", Fact::List(["route_short_name", "route_long_name"].map(text).to_vec()))],
         26 => times_given(own),
         27 => ["arrival_time", "departure_time"].map(|column| (column, time(own, column))).to_vec(),
-        28 | 29 => order(feed, line, own, rule),
-        30 | 31 => ends(feed, own, rule),
+        28 => same_sequence(feed, line, own),
+        29 => late_departure(feed, line, own),
+        30 => few_lines(feed, own),
+        31 => ends(feed, own),
         _ => panic!("no rule {rule}"),
     }
 }
@@ -153,39 +165,46 @@ fn times_given(own: Row) -> Facts {
     ]
 }
 
-/// Rules 28 and 29: the nearest earlier line, or timed line, of the same trip.
-fn order(feed: &Feed, line: usize, own: Row, rule: usize) -> Facts {
-    let mut earlier = lines_of_trip(feed, own.value("trip_id"));
-    earlier.retain(|(other, row)| *other < line && (rule == 28 || timed(*row)));
-    let (nearest, row) = *earlier.last().expect("an earlier line");
-    if rule == 28 {
-        let sequence = ("stop_sequence", stored(own, "stop_sequence"));
-        return vec![
-            sequence,
-            ("earlier_line", count(nearest)),
-            ("earlier_stop_sequence", stored(row, "stop_sequence")),
-        ];
-    }
+/// Rule 28: the first line of the trip with this sequence.
+fn same_sequence(feed: &Feed, line: usize, own: Row) -> Facts {
+    let calls = lines_of_trip(feed, own.value("trip_id"));
+    let call = calls.iter().find(|call| call.place + 2 == line).expect("its own line at least");
+    let earlier = calls.iter().find(|other| repeats(call, other)).expect("an earlier line of this sequence");
+    vec![("stop_sequence", Fact::Number(call.sequence.into())), ("earlier_line", line_of(earlier))]
+}
+
+/// Rule 29: the line that departs latest of those that depart too late; of several the first in the trip's order.
+fn late_departure(feed: &Feed, line: usize, own: Row) -> Facts {
+    let calls = lines_of_trip(feed, own.value("trip_id"));
+    let call = calls.iter().find(|call| call.place + 2 == line).expect("its own line at least");
+    let late = calls.iter().filter(|other| leaves_after(other, call));
+    let latest = late.max_by_key(|other| (other.departure, Reverse((other.sequence, other.place))));
+    let latest = latest.expect("a line that departs too late");
     vec![
-        ("arrival_time", time(own, "arrival_time")),
-        ("earlier_line", count(nearest)),
-        ("earlier_departure_time", time(row, "departure_time")),
+        ("stop_sequence", Fact::Number(call.sequence.into())),
+        ("arrival_time", clock(call.arrival)),
+        ("other_line", line_of(latest)),
+        ("other_stop_sequence", Fact::Number(latest.sequence.into())),
+        ("other_departure_time", clock(latest.departure)),
     ]
 }
 
-/// Rules 30 and 31: the lines of a trip, its first and its last.
-fn ends(feed: &Feed, own: Row, rule: usize) -> Facts {
+/// Rule 30: the lines of a trip.
+fn few_lines(feed: &Feed, own: Row) -> Facts {
     let trip = own.value("trip_id");
-    let lines = lines_of_trip(feed, trip);
-    if rule == 30 {
-        let numbers = lines.iter().map(|(line, _)| count(*line)).collect();
-        return vec![("trip_id", text(trip)), ("lines", Fact::List(numbers))];
-    }
-    let (first, last) = (lines[0].0, lines[lines.len() - 1].0);
-    let is_end = |line: usize| line == first || line == last;
-    let untimed = lines.iter().filter(|(line, row)| is_end(*line) && !timed(*row));
-    let untimed = untimed.map(|(line, _)| count(*line)).collect();
-    vec![("first_line", count(first)), ("last_line", count(last)), ("untimed", Fact::List(untimed))]
+    let lines = lines_of_trip(feed, trip).iter().map(line_of).collect();
+    vec![("trip_id", text(trip)), ("lines", Fact::List(lines))]
+}
+
+/// Rule 31: the first line of a trip and the last, and which of them isn't timed.
+fn ends(feed: &Feed, own: Row) -> Facts {
+    let calls = lines_of_trip(feed, own.value("trip_id"));
+    let [first, last] = [first_call(&calls), last_call(&calls)].map(|end| end.expect("a line of the trip"));
+    let mut untimed = vec![first, last];
+    untimed.dedup();
+    untimed.retain(|end| !end.timed());
+    let untimed = Fact::List(untimed.into_iter().map(line_of).collect());
+    vec![("first_line", line_of(first)), ("last_line", line_of(last)), ("untimed", untimed)]
 }
 
 /// The facts behind a refusal, all but the words for the form that is wanted.

@@ -1,4 +1,4 @@
-//! The whole check of document 01, written naively from the document: files in, tables, list and answer out.
+//! The whole check of document 01 with request E2, written naively from the documents: files in, tables, list and answer out.
 #![forbid(unsafe_code)]
 
 pub mod columns;
@@ -9,6 +9,7 @@ pub mod page;
 pub mod reading;
 pub mod records;
 pub mod rules;
+pub mod trips;
 
 /// What the check answers.
 #[derive(Clone, Copy, Debug, PartialEq, Eq)]

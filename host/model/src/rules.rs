@@ -2,7 +2,7 @@
 
 use crate::reading::{Feed, Row};
 use crate::records::{first_records, First, IDS};
-use std::collections::HashMap;
+use crate::trips::{by_trip, first_call, last_call, leaves_after, repeats};
 
 /// A finding: file, line, rule.
 pub type Finding = [i32; 3];
@@ -75,20 +75,17 @@ fn timed(row: Row) -> bool {
 
 /// Rules 21, 30 and 31 on trips; 30 and 31 concern only the first line of each trip_id.
 fn trips(feed: &Feed, first: &[First; 4], findings: &mut Vec<Finding>) {
-    let mut lines: HashMap<&[u8], Vec<Row>> = HashMap::new();
-    for row in feed[4].rows() {
-        lines.entry(row.value("trip_id")).or_default().push(row);
-    }
+    let trips = by_trip(feed);
     for (place, row) in feed[3].rows().enumerate() {
         let unresolved = unresolved(row, "route_id", &first[1]) || unresolved(row, "service_id", &first[2]);
         add(findings, 4, place, 21, unresolved);
         if first[3].record(row.value("trip_id")) != place + 1 {
             continue;
         }
-        let own = lines.get(row.value("trip_id")).map_or(&[][..], |rows| rows);
+        let own = trips.get(row.value("trip_id")).map_or(&[][..], |calls| calls);
         add(findings, 4, place, 30, own.len() < 2);
-        let untimed_end = own.first().into_iter().chain(own.last()).any(|&row| !timed(row));
-        add(findings, 4, place, 31, untimed_end);
+        let ends = [first_call(own), last_call(own)];
+        add(findings, 4, place, 31, ends.into_iter().flatten().any(|end| !end.timed()));
     }
 }
 
@@ -108,22 +105,12 @@ fn stop_times(feed: &Feed, first: &[First; 4], findings: &mut Vec<Finding>) {
     }
 }
 
-/// Rules 28 and 29 on stop_times: against the nearest earlier line, or timed line, of the same trip.
+/// Rules 28 and 29 on stop_times: each line beside all lines of the same trip, wherever they stand.
 fn trip_order(feed: &Feed, findings: &mut Vec<Finding>) {
-    let mut nearest: HashMap<&[u8], Row> = HashMap::new();
-    let mut nearest_timed: HashMap<&[u8], Row> = HashMap::new();
-    for (place, row) in feed[4].rows().enumerate() {
-        let trip = row.value("trip_id");
-        if let Some(earlier) = nearest.insert(trip, row) {
-            let rises = row.number("stop_sequence") > earlier.number("stop_sequence");
-            add(findings, 5, place, 28, !rises);
-        }
-        if !timed(row) {
-            continue;
-        }
-        if let Some(earlier) = nearest_timed.insert(trip, row) {
-            let before = row.number("arrival_time") < earlier.number("departure_time");
-            add(findings, 5, place, 29, before);
+    for calls in by_trip(feed).into_values() {
+        for call in &calls {
+            add(findings, 5, call.place, 28, calls.iter().any(|other| repeats(call, other)));
+            add(findings, 5, call.place, 29, calls.iter().any(|other| leaves_after(other, call)));
         }
     }
 }

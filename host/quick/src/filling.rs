@@ -1,4 +1,4 @@
-//! The five tables and the findings, in one pass over the records.
+//! The five tables and the findings, file by file.
 
 use crate::findings::Findings;
 use crate::ids::Ids;
@@ -13,14 +13,14 @@ pub fn fill(feed: &Feed, tables: [&mut [i32]; 5]) -> Findings {
     let stop_ids = Ids::new(feed.stops.iter().map(|stop| stop.id.value));
     let route_ids = Ids::new(feed.routes.iter().map(|route| route.id.value));
     let service_ids = Ids::new(feed.services.iter().map(|service| service.id.value));
-    let mut seen = Trips::new(Ids::new(feed.trips.iter().map(|trip| trip.id.value)));
+    let mut trip_ids = Ids::new(feed.trips.iter().map(|trip| trip.id.value));
     stops(&feed.stops, &stop_ids, stops_table, &mut found);
     routes(&feed.routes, &route_ids, routes_table, &mut found);
     services(&feed.services, &service_ids, services_table, &mut found);
     // Rules 30 and 31 stand on lines of trips.txt, and only the lines of stop_times tell them.
-    let later = calls(feed, &mut seen, &stop_ids, calls_table);
-    trips(&feed.trips, [&route_ids, &service_ids], &seen, trips_table, &mut found);
-    found.append(later);
+    let seen = Trips::new(&mut trip_ids, &feed.calls);
+    trips(&feed.trips, [&route_ids, &service_ids], (&trip_ids, &seen), trips_table, &mut found);
+    calls(feed, &seen, &stop_ids, calls_table, &mut found);
     found
 }
 
@@ -66,24 +66,29 @@ fn services(services: &[Service], ids: &Ids, table: &mut [i32], found: &mut Find
     }
 }
 
-fn trips(trips: &[Trip], [routes, services]: [&Ids; 2], seen: &Trips, table: &mut [i32], found: &mut Findings) {
+fn trips(
+    trips: &[Trip],
+    [routes, services]: [&Ids; 2],
+    (ids, seen): (&Ids, &Trips),
+    table: &mut [i32],
+    found: &mut Findings,
+) {
     for (record, trip, room) in records(trips, table, 4) {
         let (route, service) = (routes.record(trip.route), services.record(trip.service));
         let [direction, wheelchair, bikes] = trip.choices;
         let (start, end) = (trip.id.start, trip.id.end);
         room.copy_from_slice(&[start, end, route as i32, service as i32, direction, wheelchair, bikes]);
-        let repeated = seen.ids.repeated[record - 1];
+        let repeated = ids.repeated[record - 1];
         found.add(4, record, 20, repeated);
         found.add(4, record, 21, route == 0 || service == 0);
-        found.add(4, record, 30, !repeated && seen.seen(record).too_few());
-        found.add(4, record, 31, !repeated && seen.seen(record).untimed_end());
+        found.add(4, record, 30, !repeated && seen.too_few(record));
+        found.add(4, record, 31, !repeated && seen.untimed_end(record));
     }
 }
 
-fn calls<'a>(feed: &Feed<'a>, trips: &mut Trips<'a>, stops: &Ids, table: &mut [i32]) -> Findings {
-    let mut found = Findings::default();
+fn calls(feed: &Feed, trips: &Trips, stops: &Ids, table: &mut [i32], found: &mut Findings) {
     for (record, call, room) in records(&feed.calls, table, 5) {
-        let (trip, [falls, early]) = trips.call(call);
+        let (trip, [repeated, early]) = trips.call(record - 1);
         let stop = stops.record(call.stop);
         let [pickup, drop_off, timepoint] = call.choices;
         let (sequence, arrival, departure) = (call.sequence, call.arrival, call.departure);
@@ -93,10 +98,9 @@ fn calls<'a>(feed: &Feed<'a>, trips: &mut Trips<'a>, stops: &Ids, table: &mut [i
         found.add(5, record, 23, stop > 0 && feed.stops[stop - 1].kind != 0);
         found.add(5, record, 26, half_timed(call));
         found.add(5, record, 27, call.timed() && departure < arrival);
-        found.add(5, record, 28, falls);
+        found.add(5, record, 28, repeated);
         found.add(5, record, 29, early);
     }
-    found
 }
 
 /// Rule 26: just one time is given, or timepoint is 1 without both.

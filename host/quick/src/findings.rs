@@ -17,11 +17,6 @@ impl Findings {
         }
     }
 
-    /// Adds the findings of a later file.
-    pub fn append(&mut self, mut later: Findings) {
-        self.0.append(&mut later.0);
-    }
-
     /// Writes the findings after the starting place, as many as fit, and tells the answer.
     pub fn hand_out(&self, list: &mut [i32], start: Finding) -> Answer {
         if self.0.is_empty() {

@@ -1,4 +1,4 @@
-//! The whole check of document 01 by hash maps, written for speed: one pass reads, one fills and judges.
+//! The whole check of document 01 with E2 by hash maps, written for speed: lines are sorted only where they have to be.
 #![forbid(unsafe_code)]
 
 mod filling;

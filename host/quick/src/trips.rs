@@ -3,70 +3,102 @@
 use crate::ids::Ids;
 use crate::records::Call;
 
-/// The lines of one trip so far.
+/// The lines of one trip so far, taken by sequence, and equal sequences by line.
 #[derive(Clone, Copy)]
-pub struct Seen {
+struct Seen {
     lines: u32,
     /// The sequence of its last line.
     sequence: i32,
-    /// The departure of its last timed line, -1 before there is one.
-    departure: i32,
+    /// The latest departure of its timed lines with a smaller sequence, and of all; -1 before there is one.
+    smaller: i32,
+    latest: i32,
     first_timed: bool,
     last_timed: bool,
+    /// A line had a smaller sequence than the one before: the lines have to be sorted.
+    fallen: bool,
 }
 
 impl Seen {
-    const NONE: Seen = Seen { lines: 0, sequence: 0, departure: -1, first_timed: false, last_timed: false };
+    const NONE: Seen =
+        Seen { lines: 0, sequence: -1, smaller: -1, latest: -1, first_timed: false, last_timed: false, fallen: false };
 
     /// Takes the next line of the trip: does it break rule 28, and rule 29?
     fn call(&mut self, call: &Call) -> [bool; 2] {
-        let broken = [self.lines > 0 && call.sequence <= self.sequence, call.timed() && call.arrival < self.departure];
-        self.first_timed |= self.lines == 0 && call.timed();
-        self.last_timed = call.timed();
-        self.lines += 1;
-        self.sequence = call.sequence;
-        if call.timed() {
-            self.departure = call.departure;
+        let equal = call.sequence == self.sequence;
+        self.fallen |= call.sequence < self.sequence;
+        if !equal {
+            self.sequence = call.sequence;
+            self.smaller = self.latest;
+            // Of equal sequences the earliest line is the first, and the last.
+            self.first_timed |= self.lines == 0 && call.timed();
+            self.last_timed = call.timed();
         }
-        broken
-    }
-
-    /// Rule 30: fewer than two lines.
-    pub fn too_few(&self) -> bool {
-        self.lines < 2
-    }
-
-    /// Rule 31: the first or the last line isn't timed.
-    pub fn untimed_end(&self) -> bool {
-        self.lines > 0 && !(self.first_timed && self.last_timed)
+        self.lines += 1;
+        let early = call.timed() && call.arrival < self.smaller;
+        if call.timed() {
+            self.latest = self.latest.max(call.departure);
+        }
+        [equal, early]
     }
 }
 
 /// All trips, by number: the first record of their id, or a number past all records where it stands nowhere.
-pub struct Trips<'a> {
-    pub ids: Ids<'a>,
+pub struct Trips {
+    records: usize,
     seen: Vec<Seen>,
+    /// The trip of each line of stop_times, and whether the line breaks rules 28 and 29.
+    calls: Vec<(u32, [bool; 2])>,
 }
 
-impl<'a> Trips<'a> {
-    pub fn new(ids: Ids<'a>) -> Self {
-        let seen = vec![Seen::NONE; ids.repeated.len() + 1];
-        Trips { ids, seen }
-    }
-
-    /// Takes the next line of stop_times: the record of its trip, 0 if there is none, and rules 28 and 29.
-    pub fn call(&mut self, call: &Call<'a>) -> (usize, [bool; 2]) {
-        let next = self.seen.len();
-        let number = *self.ids.first.entry(call.trip).or_insert(next as u32) as usize;
-        if number == next {
-            self.seen.push(Seen::NONE);
+impl Trips {
+    /// Takes all lines of stop_times in file order, then those again whose trips aren't in order.
+    pub fn new<'a>(ids: &mut Ids<'a>, calls: &[Call<'a>]) -> Self {
+        let records = ids.repeated.len();
+        let seen = vec![Seen::NONE; records + 1];
+        let mut trips = Trips { records, seen, calls: Vec::with_capacity(calls.len()) };
+        for call in calls {
+            let next = trips.seen.len();
+            let number = *ids.first.entry(call.trip).or_insert(next as u32);
+            if number as usize == next {
+                trips.seen.push(Seen::NONE);
+            }
+            let broken = trips.seen[number as usize].call(call);
+            trips.calls.push((number, broken));
         }
-        let record = if number <= self.ids.repeated.len() { number } else { 0 };
-        (record, self.seen[number].call(call))
+        trips.sort(calls);
+        trips
     }
 
-    /// The lines of a trip that has a record.
-    pub fn seen(&self, record: usize) -> Seen {
-        self.seen[record]
+    /// Judges anew, in the trip's order, the lines of trips that don't stand so.
+    fn sort(&mut self, calls: &[Call]) {
+        let mut order: Vec<(u32, i32, u32)> = Vec::new();
+        for (line, (number, _)) in (0..).zip(&self.calls) {
+            if self.seen[*number as usize].fallen {
+                order.push((*number, calls[line as usize].sequence, line));
+            }
+        }
+        order.sort_unstable();
+        order.iter().for_each(|&(number, ..)| self.seen[number as usize] = Seen::NONE);
+        for (number, _, line) in order {
+            self.calls[line as usize].1 = self.seen[number as usize].call(&calls[line as usize]);
+        }
+    }
+
+    /// Of a line of stop_times, counted from 0: the record of its trip, 0 if there is none, and rules 28 and 29.
+    pub fn call(&self, line: usize) -> (usize, [bool; 2]) {
+        let (number, broken) = self.calls[line];
+        let number = number as usize;
+        (if number <= self.records { number } else { 0 }, broken)
+    }
+
+    /// Rule 30: fewer than two lines of the trip with this record.
+    pub fn too_few(&self, record: usize) -> bool {
+        self.seen[record].lines < 2
+    }
+
+    /// Rule 31: its first or its last line isn't timed.
+    pub fn untimed_end(&self, record: usize) -> bool {
+        let seen = &self.seen[record];
+        seen.lines > 0 && !(seen.first_timed && seen.last_timed)
     }
 }

@@ -24,7 +24,7 @@ fn compare(case: &Case, wanted: &Outcome) {
 
 #[test]
 fn on_every_vector() {
-    for (case, wanted) in vectors::base() {
+    for (case, wanted) in vectors::customers() {
         compare(&case, &wanted);
     }
 }

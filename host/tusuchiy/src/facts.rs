@@ -35,7 +35,7 @@ const ARRIVAL: Cell = (5, 3);
 const DEPARTURE: Cell = (5, 4);
 const TIMEPOINT: Cell = (5, 7);
 
-/// The lines of stop_times.txt that a trip has: how many, the first and the last.
+/// The lines of stop_times.txt that a trip has: how many, the first and the last by stop_sequence.
 #[derive(Clone, Copy, Default)]
 struct Calls {
     count: usize,
@@ -43,8 +43,9 @@ struct Calls {
     last: usize,
 }
 
-/// For a line of stop_times.txt the nearest earlier line and timed line of its trip; 0 is none.
-type Before = [u32; 2];
+/// For a line of stop_times.txt the first line of its trip with the same stop_sequence, and of the timed lines with a
+/// smaller one the line that departs latest, of several the first by stop_sequence and line; 0 is none.
+type Beside = [u32; 2];
 
 /// A feed that was read, with what was looked up in it.
 pub struct Facts<'a> {
@@ -53,14 +54,14 @@ pub struct Facts<'a> {
     headers: [OnceCell<Vec<Vec<u8>>>; 5],
     firsts: [OnceCell<HashMap<Cow<'a, [u8]>, u32>>; 4],
     calls: OnceCell<Vec<Calls>>,
-    before: OnceCell<Vec<Before>>,
+    beside: OnceCell<Vec<Beside>>,
 }
 
 impl<'a> Facts<'a> {
     /// Nothing is looked up before it is asked for.
     pub fn new(feed: &'a Feed, tables: &'a [Vec<i32>; 5]) -> Self {
         let (headers, firsts) = Default::default();
-        Facts { feed, tables, headers, firsts, calls: OnceCell::new(), before: OnceCell::new() }
+        Facts { feed, tables, headers, firsts, calls: OnceCell::new(), beside: OnceCell::new() }
     }
 
     /// What a finding is about.
@@ -75,7 +76,7 @@ impl<'a> Facts<'a> {
             25 => no_name(),
             26 => self.times_given(line),
             27 => self.departure_first(line),
-            28 => self.sequence(line),
+            28 => self.repeated_sequence(line),
             29 => self.arrival_too_early(line),
             30 => self.few_calls(line),
             31 => self.untimed_ends(line),
@@ -240,49 +241,74 @@ impl<'a> Facts<'a> {
         }
     }
 
-    /// The nearest earlier line and timed line of the same trip.
-    fn before(&self, line: usize) -> [usize; 2] {
-        let before = self.before.get_or_init(|| {
-            let lines = self.feed.line_count(5);
-            let mut nearest: HashMap<Cow<[u8]>, Before> = HashMap::new();
-            nearest.try_reserve(lines).unwrap_or_else(|_| memory::none());
-            let look = |line: usize| {
-                let trip = nearest.entry(self.value(5, line, "trip_id")).or_default();
-                let before = *trip;
-                trip[0] = line as u32;
-                if self.times(line).iter().all(Option::is_some) {
-                    trip[1] = line as u32;
-                }
-                before
-            };
-            memory::list((2..=lines).map(look), lines)
-        });
-        before[line - 2].map(|line| line as usize)
+    /// The lines of stop_times.txt by trip, stop_sequence and line, each after a number for its trip_id.
+    fn in_trip_order(&self) -> Vec<(u32, u32)> {
+        let lines = self.feed.line_count(5);
+        let mut numbers: HashMap<Cow<[u8]>, u32> = HashMap::new();
+        numbers.try_reserve(lines).unwrap_or_else(|_| memory::none());
+        let with_trip = |line: usize| {
+            let next = numbers.len() as u32;
+            (*numbers.entry(self.value(5, line, "trip_id")).or_insert(next), line as u32)
+        };
+        let mut order = memory::list((2..=lines).map(with_trip), lines);
+        order.sort_unstable_by_key(|&(trip, line)| (trip, self.number(SEQUENCE, line as usize), line));
+        order
     }
 
-    fn sequence(&self, line: usize) -> About {
-        let [earlier, _] = self.before(line);
-        let [own, other] = [line, earlier].map(|line| self.number(SEQUENCE, line));
+    /// The line of the same trip that has this line's stop_sequence already, and the one that departs too late.
+    fn beside(&self, line: usize) -> [usize; 2] {
+        let beside = self.beside.get_or_init(|| {
+            let lines = self.feed.line_count(5);
+            let mut beside = memory::list((0..=lines).map(|_| Beside::default()), lines + 1);
+            let order = self.in_trip_order();
+            for trip in order.chunk_by(|one, other| one.0 == other.0) {
+                self.look_along(trip, &mut beside);
+            }
+            beside
+        });
+        beside[line].map(|line| line as usize)
+    }
+
+    /// Notes beside each line of a trip, in the trip's order, what it is to be compared with.
+    fn look_along(&self, trip: &[(u32, u32)], beside: &mut [Beside]) {
+        let departure = |line: u32| if line == 0 { -1 } else { self.number(DEPARTURE, line as usize) };
+        let mut latest = 0;
+        let sequence = |line: u32| self.number(SEQUENCE, line as usize);
+        for equal in trip.chunk_by(|one, other| sequence(one.1) == sequence(other.1)) {
+            equal.iter().for_each(|&(_, line)| beside[line as usize] = [equal[0].1, latest]);
+            for &(_, line) in equal.iter().filter(|(_, line)| self.timed(*line as usize)) {
+                latest = if departure(line) > departure(latest) { line } else { latest };
+            }
+        }
+    }
+
+    /// Both times of the line are given.
+    fn timed(&self, line: usize) -> bool {
+        self.times(line).iter().all(Option::is_some)
+    }
+
+    fn repeated_sequence(&self, line: usize) -> About {
+        let [earlier, _] = self.beside(line);
+        let sequence = self.number(SEQUENCE, line);
         About {
-            words: format!("stop_sequence {own} isn't above {other} on line {earlier}"),
-            members: vec![
-                ("stop_sequence", Value::Number(own.into())),
-                ("earlier_line", Value::size(earlier)),
-                ("earlier_stop_sequence", Value::Number(other.into())),
-            ],
+            words: format!("the trip has stop_sequence {sequence} on line {earlier} already"),
+            members: vec![("stop_sequence", Value::Number(sequence.into())), ("earlier_line", Value::size(earlier))],
         }
     }
 
     fn arrival_too_early(&self, line: usize) -> About {
-        let [_, earlier] = self.before(line);
-        let [[arrival, _], [_, departure]] =
-            [line, earlier].map(|line| self.times(line).map(Option::unwrap_or_default));
+        let [_, other] = self.beside(line);
+        let [[arrival, _], [_, departure]] = [line, other].map(|line| self.times(line).map(Option::unwrap_or_default));
+        let [own, smaller] = [line, other].map(|line| self.number(SEQUENCE, line));
+        let that = format!("departure_time {departure} on line {other}, whose stop_sequence {smaller} is below {own}");
         About {
-            words: format!("arrival_time {arrival} is before departure_time {departure} on line {earlier}"),
+            words: format!("arrival_time {arrival} is before {that}"),
             members: vec![
+                ("stop_sequence", Value::Number(own.into())),
                 ("arrival_time", Value::text(arrival)),
-                ("earlier_line", Value::size(earlier)),
-                ("earlier_departure_time", Value::text(departure)),
+                ("other_line", Value::size(other)),
+                ("other_stop_sequence", Value::Number(smaller.into())),
+                ("other_departure_time", Value::text(departure)),
             ],
         }
     }
@@ -294,12 +320,22 @@ impl<'a> Facts<'a> {
             let mut calls = memory::list((0..trips).map(|_| Calls::default()), trips);
             for line in 2..=self.feed.line_count(5) {
                 let trip = self.named(TRIP, line).map_or(0, |trip| trip - 1);
-                let Calls { count, first, .. } = calls[trip];
-                calls[trip] = Calls { count: count + 1, first: if count == 0 { line } else { first }, last: line };
+                calls[trip] = self.with_line(calls[trip], line);
             }
             calls
         });
         calls[line - 1]
+    }
+
+    /// A trip with one more line, further down than the others: of equal sequences the earlier line stays.
+    fn with_line(&self, calls: Calls, line: usize) -> Calls {
+        let Calls { count, first, last } = calls;
+        let sequence = |line: usize| self.number(SEQUENCE, line);
+        Calls {
+            count: count + 1,
+            first: if count == 0 || sequence(line) < sequence(first) { line } else { first },
+            last: if count == 0 || sequence(line) > sequence(last) { line } else { last },
+        }
     }
 
     fn few_calls(&self, line: usize) -> About {
@@ -317,13 +353,13 @@ impl<'a> Facts<'a> {
 
     fn untimed_ends(&self, line: usize) -> About {
         let Calls { first, last, .. } = self.calls(line);
-        let untimed = |line: usize| self.times(line).iter().any(Option::is_none);
         let words = |end: &str, line: usize| {
-            format!("its {end} line in stop_times.txt, line {line}, lacks {}", wanting(&self.times(line)))
+            let lacks = wanting(&self.times(line));
+            format!("its {end} line by stop_sequence, line {line} of stop_times.txt, lacks {lacks}")
         };
         let mut ends = vec![("first", first), ("last", last)];
         ends.dedup_by_key(|(_, line)| *line);
-        ends.retain(|(_, line)| untimed(*line));
+        ends.retain(|(_, line)| !self.timed(*line));
         About {
             words: ends.iter().map(|(end, line)| words(end, *line)).collect::<Vec<_>>().join("; "),
             members: vec![

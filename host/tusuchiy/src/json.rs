@@ -12,7 +12,7 @@ use std::io::{self, Write};
 use std::os::unix::ffi::OsStrExt;
 
 /// The version of the document's form.
-const VERSION: usize = 1;
+const VERSION: usize = 2;
 
 /// Writes the document; every member stands in every document, in this order.
 pub fn write(out: &mut dyn Write, feed: &Feed, report: &Report) -> io::Result<()> {

@@ -154,12 +154,12 @@ mod tests {
 
     #[test]
     fn pages_of_any_room_give_the_whole_list() {
-        let findings = [(4, 2, 31), (4, 3, 21), (4, 3, 30), (5, 3, 29), (5, 4, 21), (5, 4, 28)];
+        let findings = [(4, 3, 21), (4, 3, 30), (5, 3, 29), (5, 4, 21), (5, 4, 28)];
         let list = findings.map(|(file, line, rule)| Finding { file, line, rule });
         for room in [1, 2, 4, 5, 6, 7, PAGE_ROOM] {
-            let whole = Outcome::Findings { list: list.to_vec(), total: 6 };
+            let whole = Outcome::Findings { list: list.to_vec(), total: 5 };
             assert_eq!(all(None, room), Ok(whole), "room {room}");
-            let rest = Outcome::Findings { list: list[3..].to_vec(), total: 6 };
+            let rest = Outcome::Findings { list: list[2..].to_vec(), total: 5 };
             assert_eq!(all(Some(Page { after: [4, 3, 30], room: None }), room), Ok(rest), "room {room}");
         }
     }

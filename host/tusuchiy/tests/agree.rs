@@ -1,5 +1,6 @@
 //! The archive against the model and the customer's cases: the answer, all tables and the list, whole.
 
+use cases::large::families::FAMILIES;
 use cases::{by_model, difference, edges, generate, vectors, Case, Outcome};
 use tusuchiy::{Answer, Verdict};
 
@@ -66,7 +67,7 @@ fn compare(case: &Case, wanted: &Outcome) {
 
 #[test]
 fn on_every_vector() {
-    for (case, wanted) in vectors::base() {
+    for (case, wanted) in vectors::customers() {
         compare(&case, &wanted);
     }
 }
@@ -91,6 +92,20 @@ fn on_generated_feeds() {
     for seed in 0..SEEDS {
         let case = generate::case(seed);
         compare(&case, &by_model(&case));
+    }
+}
+
+/// The benchmark's feeds: every order of a trip's lines.
+#[test]
+fn on_the_benchmarks_feeds() {
+    for family in &FAMILIES {
+        for lines in [64, 1024] {
+            let files = (family.feed)(lines);
+            let tables = cases::large::tables(&files, -1);
+            let name = format!("{}, {lines} lines", family.name);
+            let case = Case { name, files, tables, list: vec![-1; 12_000], start: [0, 0, 0] };
+            compare(&case, &by_model(&case));
+        }
     }
 }
 

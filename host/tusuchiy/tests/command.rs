@@ -39,14 +39,14 @@ fn files_that_are_not_read_are_named() {
     assert_eq!(report.get("unread").get("names").list().len(), 20);
 }
 
-/// The feed of document 01 with its six findings; lines, order and words by hand.
+/// The feed of document 01 with its five findings; lines, order and words by hand.
 #[test]
 fn the_example_with_findings() {
     let feed = example("findings");
     let output = run(&["check", &feed]);
     assert_eq!((status(&output), said(&output)), (1, ""));
     let wanted = "\
-findings: 6
+findings: 5
 
 rule 21: a reference names no line (2)
 FEED/trips.txt:3: service_id \"X\" stands on no line of calendar.txt
@@ -54,21 +54,17 @@ FEED/trips.txt:3: service_id \"X\" stands on no line of calendar.txt
 FEED/stop_times.txt:4: stop_id \"C\" stands on no line of stops.txt
     T,,,C,2
 
-rule 28: the stop_sequence doesn't rise within the trip (1)
-FEED/stop_times.txt:4: stop_sequence 2 isn't above 2 on line 3
+rule 28: the stop_sequence stands on an earlier line of the trip (1)
+FEED/stop_times.txt:4: the trip has stop_sequence 2 on line 3 already
     T,,,C,2
 
-rule 29: the trip arrives before it left the timed line before (1)
-FEED/stop_times.txt:3: arrival_time 07:59:59 is before departure_time 08:00:00 on line 2
+rule 29: the trip arrives before it departs from a stop with a smaller stop_sequence (1)
+FEED/stop_times.txt:3: arrival_time 07:59:59 is before departure_time 08:00:00 on line 2, whose stop_sequence 1 is below 2
     T,07:59:59,08:05:00,B,2
 
 rule 30: the trip has fewer than two lines in stop_times.txt (1)
 FEED/trips.txt:3: trip_id \"U\" has no line in stop_times.txt
     R,X,U
-
-rule 31: the trip's first or last line in stop_times.txt lacks a time (1)
-FEED/trips.txt:2: its last line in stop_times.txt, line 4, lacks arrival_time and departure_time
-    R,W,T
 
 `tusuchiy explain 21` says more
 ";
@@ -93,7 +89,7 @@ wanted: a time as 8:05:00 or 08:05:00, hours 0 to 99, minutes and seconds 00 to 
 #[test]
 fn quiet_prints_the_verdict_alone() {
     for (name, code, verdict) in
-        [("feed", 0, "accepted\n"), ("findings", 1, "findings: 6\n"), ("refused", 2, "refused\n")]
+        [("feed", 0, "accepted\n"), ("findings", 1, "findings: 5\n"), ("refused", 2, "refused\n")]
     {
         let output = run(&["check", "--quiet", &example(name)]);
         assert_eq!((status(&output), out(&output)), (code, verdict));
@@ -119,18 +115,18 @@ fn json_of_findings() {
         "unread",
     ];
     assert_eq!(report.names(), members);
-    assert_eq!(report.get("version").number(), 1);
+    assert_eq!(report.get("version").number(), 2);
     assert_eq!(report.get("verdict").text(), "findings");
-    assert_eq!((report.get("total").number(), report.get("written").number()), (6, 6));
+    assert_eq!((report.get("total").number(), report.get("written").number()), (5, 5));
     assert_eq!((report.get("refusal"), report.get("page")), (&Json::Null, &Json::Null));
-    assert_eq!(places(&report), [[4, 2, 31], [4, 3, 21], [4, 3, 30], [5, 3, 29], [5, 4, 21], [5, 4, 28]]);
+    assert_eq!(places(&report), [[4, 3, 21], [4, 3, 30], [5, 3, 29], [5, 4, 21], [5, 4, 28]]);
     let first = &report.get("findings").list()[0];
     assert_eq!(first.names(), ["file", "name", "line", "rule", "meaning", "text", "cut", "words", "about"]);
-    assert_eq!((first.get("name").text(), first.get("text").text()), ("trips.txt", "R,W,T"));
+    assert_eq!((first.get("name").text(), first.get("text").text()), ("trips.txt", "R,X,U"));
     assert_eq!(first.get("cut"), &Json::Bool(false));
     let totals: Vec<[i64; 2]> =
         report.get("totals").list().iter().map(|sum| ["rule", "count"].map(|name| sum.get(name).number())).collect();
-    assert_eq!(totals, [[21, 2], [28, 1], [29, 1], [30, 1], [31, 1]]);
+    assert_eq!(totals, [[21, 2], [28, 1], [29, 1], [30, 1]]);
     assert_eq!((report.get("feed").text(), report.get("folder")), (&feed[..], &Json::Null));
     let records: Vec<i64> = report.get("records").list().iter().map(Json::number).collect();
     assert_eq!(records, [2, 1, 1, 2, 3]);
@@ -163,8 +159,8 @@ fn one_page() {
         json::read(out(&output))
     };
     let report = page(&["--room", "2"]);
-    assert_eq!(places(&report), [[4, 2, 31], [4, 3, 21]]);
-    assert_eq!((report.get("total").number(), report.get("written").number()), (6, 2));
+    assert_eq!(places(&report), [[4, 3, 21], [4, 3, 30]]);
+    assert_eq!((report.get("total").number(), report.get("written").number()), (5, 2));
     assert_eq!(report.get("totals"), &Json::Null);
     assert_eq!(report.get("page").get("room").number(), 2);
     let report = page(&["--after=4,3,21", "--room=2"]);
@@ -174,11 +170,11 @@ fn one_page() {
     assert_eq!(report.get("page").get("room"), &Json::Null);
     assert!(places(&page(&["--after", "5,4,28"])).is_empty());
     assert!(places(&page(&["--room", "0"])).is_empty());
-    assert_eq!(places(&page(&["--after", "-1,99,99", "--room", "983040"])).len(), 6);
+    assert_eq!(places(&page(&["--after", "-1,99,99", "--room", "983040"])).len(), 5);
     let output = run(&["check", &feed, "--after", "4,3,30", "--room", "1"]);
-    let wanted = format!("findings: 6\n{feed}/stop_times.txt:3: rule 29: arrival_time 07:59:59 is before ");
+    let wanted = format!("findings: 5\n{feed}/stop_times.txt:3: rule 29: arrival_time 07:59:59 is before ");
     assert!(out(&output).starts_with(&wanted), "{}", out(&output));
-    assert!(out(&output).ends_with("\npage after 4,3,30: 1 of 6 findings\n"), "{}", out(&output));
+    assert!(out(&output).ends_with("\npage after 4,3,30: 1 of 5 findings\n"), "{}", out(&output));
 }
 
 /// More findings than one call hands out: 65,535 routes without a name, all but the first with an id that was there.
@@ -278,7 +274,7 @@ fn a_long_list_is_short_unless_all_is_asked_for() {
 fn colours_where_they_are_asked_for() {
     let feed = example("findings");
     let coloured = run(&["check", "--color", "always", &feed]);
-    assert!(out(&coloured).starts_with("\u{1b}[1;31mfindings: 6\u{1b}[0m\n"), "{}", out(&coloured));
+    assert!(out(&coloured).starts_with("\u{1b}[1;31mfindings: 5\u{1b}[0m\n"), "{}", out(&coloured));
     let plain = run(&["check", "--color=never", &feed]);
     assert_eq!(run(&["check", &feed]).stdout, plain.stdout);
     let mut bare = String::new();
@@ -420,7 +416,7 @@ fn a_small_stack_is_enough() {
     let mut small = if std::env::var_os(RUNNER).is_some() { command() } else { command_after("ulimit -s 512") };
     small.env("QEMU_STACK_SIZE", (512 << 10).to_string());
     let output = small.args(["check", "--quiet", &example("findings")]).output().expect("the command runs");
-    assert_eq!((output.status.code(), out(&output)), (Some(1), "findings: 6\n"));
+    assert_eq!((output.status.code(), out(&output)), (Some(1), "findings: 5\n"));
 }
 
 /// Output that nobody can take is status 3, not a verdict.

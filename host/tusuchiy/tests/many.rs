@@ -20,7 +20,7 @@ const REFUSED: &str = "refused: stop_times.txt:4: refusal 13: departure_time is 
 fn one_verdict_a_line_and_the_worst_status() {
     let [findings, nowhere, refused, accepted] = four();
     let line = |feed: &str, verdict: &str| format!("{feed}: {verdict}\n");
-    let [of_findings, of_accepted] = [line(&findings, "findings: 6"), line(&accepted, "accepted")];
+    let [of_findings, of_accepted] = [line(&findings, "findings: 5"), line(&accepted, "accepted")];
     let of_refused = line(&refused, REFUSED);
     let cases: [(&[&str], i32, String); 4] = [
         (&[&accepted, &accepted], 0, of_accepted.repeat(2)),
@@ -69,7 +69,7 @@ fn the_order_is_the_one_given() {
             folder.at(&format!("{place}.zip"))
         })
         .collect();
-    let verdicts = ["findings: 6", "accepted", REFUSED];
+    let verdicts = ["findings: 5", "accepted", REFUSED];
     let wanted: String =
         feeds.iter().enumerate().map(|(place, feed)| format!("{feed}: {}\n", verdicts[place % 3])).collect();
     for jobs in ["1", "4", "40", "256"] {

@@ -178,20 +178,40 @@ fn words_of_times(lines: &str) -> Vec<String> {
 }
 
 /// Lines of stop_times.txt and the words about them, found by hand.
-const ABOUT_TIMES: [(&str, &[&str]); 8] = [
+const ABOUT_TIMES: [(&str, &[&str]); 11] = [
     ("T,08:00:00,08:00:00,A,1,\n", &["30: trip_id \"T\" has one line in stop_times.txt, line 2"]),
     ("", &["30: trip_id \"T\" has no line in stop_times.txt"]),
+    ("T,8:00:00,8:00:00,A,1,\nT,7:59:59,8:05:00,B,01,\n", &["28: the trip has stop_sequence 1 on line 2 already"]),
+    // The first line with the sequence is named, not the one above.
     (
-        "T,8:00:00,8:00:00,A,1,\nT,7:59:59,8:05:00,B,1,\n",
+        "T,8:00:00,8:00:00,A,1,\nX,8:00:00,8:00:00,A,1,\nT,8:00:00,8:00:00,A,1,\nT,8:00:00,8:00:00,A,001,\n",
         &[
-            "28: stop_sequence 1 isn't above 1 on line 2",
-            "29: arrival_time 07:59:59 is before departure_time 08:00:00 on line 2",
+            "21: trip_id \"X\" stands on no line of trips.txt",
+            "28: the trip has stop_sequence 1 on line 2 already",
+            "28: the trip has stop_sequence 1 on line 2 already",
+        ],
+    ),
+    // Of all smaller sequences the one that departs latest is named, though it stands further down.
+    (
+        "T,8:30:00,8:30:00,A,3,\nT,8:40:00,8:40:00,B,2,\nT,8:50:00,8:50:00,A,1,\n",
+        &[
+            "29: arrival_time 08:30:00 is before departure_time 08:50:00 on line 4, whose stop_sequence 1 is below 3",
+            "29: arrival_time 08:40:00 is before departure_time 08:50:00 on line 4, whose stop_sequence 1 is below 2",
+        ],
+    ),
+    // Of several that depart then, the first by sequence, and of equal sequences the first line.
+    (
+        "T,8:00:00,8:00:00,A,3,\nT,8:00:00,9:00:00,B,2,\nT,8:00:00,9:00:00,A,1,\nT,8:00:00,9:00:00,A,1,\n",
+        &[
+            "29: arrival_time 08:00:00 is before departure_time 09:00:00 on line 4, whose stop_sequence 1 is below 3",
+            "29: arrival_time 08:00:00 is before departure_time 09:00:00 on line 4, whose stop_sequence 1 is below 2",
+            "28: the trip has stop_sequence 1 on line 4 already",
         ],
     ),
     (
         "T,8:00:00,,A,1,\nT,9:00:00,9:00:00,B,2,\n",
         &[
-            "31: its first line in stop_times.txt, line 2, lacks departure_time",
+            "31: its first line by stop_sequence, line 2 of stop_times.txt, lacks departure_time",
             "26: arrival_time is 08:00:00 and departure_time is empty",
         ],
     ),
@@ -213,10 +233,14 @@ const ABOUT_TIMES: [(&str, &[&str]); 8] = [
             "21: trip_id \"X\" stands on no line of trips.txt; stop_id \"C\" stands on no line of stops.txt",
         ],
     ),
+    // The last line by sequence stands first, and the first one between others.
     (
-        "T,,,A,1,\nT,9:00:00,9:00:00,B,2,\nT,,,A,3,\n",
-        &["31: its first line in stop_times.txt, line 2, lacks arrival_time and departure_time; \
-           its last line in stop_times.txt, line 4, lacks arrival_time and departure_time"],
+        "T,,,A,3,\nT,9:00:00,9:00:00,B,2,\nT,,,A,1,\nT,10:00:00,10:00:00,A,3,\n",
+        &[
+            "31: its first line by stop_sequence, line 4 of stop_times.txt, lacks arrival_time and departure_time; \
+             its last line by stop_sequence, line 2 of stop_times.txt, lacks arrival_time and departure_time",
+            "28: the trip has stop_sequence 3 on line 2 already",
+        ],
     ),
 ];
 

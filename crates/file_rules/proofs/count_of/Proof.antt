@@ -25,5 +25,10 @@ unfolding ruleCount
 returns-4 c =
     let e : c .before .args .f ≡ 4 = omega arith in (ap ruleCount (sym e), omega arith)
 
+returns-5 : tie.Need-returns-5
+unfolding ruleCount
+returns-5 c =
+    let e : c .before .args .f ≡ 5 = omega arith in (ap ruleCount (sym e), omega arith)
+
 pub count-of-spec : {M : Type 1} → statement M
-count-of-spec = tie.close (tie.spec returns returns-2 returns-3 returns-4)
+count-of-spec = tie.close (tie.spec returns returns-2 returns-3 returns-4 returns-5)

@@ -6,18 +6,18 @@ use borrow.Author.Needs.{needs}
 use lib.ListN.{length}
 use Rattle.meaning.specs.Tables.{Feed}
 use Rattle.listing.specs.Handing.{state}
-use Rattle.file_rules.specs.Lines.{Ready}
-use Rattle.file_rules.proofs.Walk.{Left, left-first, left-next, left-last}
+use Rattle.file_rules.specs.Lines.{ruleCount, Ready}
+use Rattle.file_rules.proofs.Walk.{Left, left-first, left-next, left-last, count-first, count-next, count-last, count-small}
 use Rattle.file_rules.proofs.list_file.Statement.{statement}
 use Rattle.file_rules.proofs.list_file.Tie as tie
 
 abbrev Inv-loop : tie.InvT-loop
-Inv-loop f n t marks times first last out₀ p numbers rules sink₀ i₀ out sink i =
-    ((w : Feed) → Ready f n w t marks times first last → Left p f w i (state out sink) (state out₀ sink₀))
-    × ((i ≤ n) × ((sink .total ≤ sink₀ .total + 4 * i) × (length out ≡ length out₀)))
+Inv-loop f n t stops marks out₀ p numbers rules sink₀ i₀ out sink i =
+    ((w : Feed) → Ready f n w t stops marks → Left p f w i (state out sink) (state out₀ sink₀))
+    × ((i ≤ n) × ((sink .total ≤ sink₀ .total + ruleCount f * i) × (length out ≡ length out₀)))
 
 abbrev μ-loop : tie.MeasureT-loop
-μ-loop f n t marks times first last out₀ p numbers rules sink₀ i₀ out sink i = n - i
+μ-loop f n t stops marks out₀ p numbers rules sink₀ i₀ out sink i = n - i
 
 numbers-of-requires : tie.Need-numbers-of-requires Inv-loop μ-loop
 numbers-of-requires c κs =
@@ -29,7 +29,7 @@ count-of-requires c κs =
 
 loop-holds : tie.Need-loop-holds Inv-loop μ-loop
 loop-holds c =
-    (λ w h. left-first _ _ _ _, (omega arith, (omega arith, refl)))
+    (λ w h. left-first _ _ _ _, (omega arith, (count-first _ _, refl)))
 
 judge-line-requires : tie.Need-judge-line-requires Inv-loop μ-loop
 judge-line-requires c κs =
@@ -41,7 +41,10 @@ add-note-line c =
 
 note-line-requires : tie.Need-note-line-requires Inv-loop μ-loop
 note-line-requires c κs =
-    omega (arith, c .before .before .before .before .before .before .before .before .before .pre, c .before .before .before .loop .inv .1, c .before .before .before .before .count-of .ensures .1)
+    let m = c .before .before .before .before .count-of .ensures in
+    let small = count-small _ _ _ _ (c .before .before .before .loop .inv .1 .1 .0) (rw (m .0) at (m .1)) in
+    let q = c .before .before .before .before .before .before .before .pre in
+    (omega (arith, q .1 .0), omega (arith, small, c .before .before .before .loop .inv .1 .0, c .before .before .loop-test .taken, q .1 .1))
 
 add-i : tie.Need-add-i Inv-loop μ-loop
 add-i c =
@@ -55,11 +58,11 @@ loop-again : tie.Need-loop-again Inv-loop μ-loop
 loop-again c =
     let l = c .before .before .before .before .before .loop in
     let n = c .before .note-line .ensures in
-    let m = c .before .before .before .before .before .before .count-of .ensures in (
+    let m = c .before .before .before .before .before .before .count-of .ensures in
+    let below = c .before .before .before .before .loop-test .taken in (
       λ w h.
-          left-next _ _ w _ _ _ _ _ h (l .i) (c .before .before .before .before .loop-test .taken) _ _ _ (c .before .before .before .before .before .before .before .numbers-of .ensures) (m .0)
-          (λ g. c .before .before .before .judge-line .ensures w g (h .ends)) _ _ _ _ (n .0) (l .inv .0 w h),
-      (omega arith, (omega (arith, n .1, m .1), search needs)),
+          left-next _ _ w _ _ _ h (l .i) below _ _ _ (c .before .before .before .before .before .before .before .numbers-of .ensures) (m .0) (c .before .before .before .judge-line .ensures w _ h below) _ _ _ _ (n .0) (l .inv .0 w h),
+      (omega arith, (count-next _ _ _ _ _ (l .inv .1 .1 .0) (rw (m .0) at (n .1)), search needs)),
     )
 
 same-length : tie.Need-same-length Inv-loop μ-loop
@@ -69,7 +72,7 @@ same-length c =
 returns : tie.Need-returns Inv-loop μ-loop
 returns c =
     let l = c .before .loop in
-    (λ w h. left-last _ _ w _ _ _ _ _ h (l .i) (c .loop-test .left) _ _ _ (l .inv .0 w h), omega arith)
+    (λ w h. left-last _ _ w _ _ _ h (l .i) (c .loop-test .left) _ _ _ (l .inv .0 w h), count-last _ _ (l .i) _ _ (l .inv .1 .1 .0) (l .inv .1 .0))
 
 pub list-file-spec : {M : Type 1} → statement M
 list-file-spec =

@@ -25,5 +25,10 @@ unfolding ruleNumbers
 returns-4 c =
     let e : c .before .args .f ≡ 4 = omega arith in ap ruleNumbers (sym e)
 
+returns-5 : tie.Need-returns-5
+unfolding ruleNumbers
+returns-5 c =
+    let e : c .before .args .f ≡ 5 = omega arith in ap ruleNumbers (sym e)
+
 pub numbers-of-spec : {M : Type 1} → statement M
-numbers-of-spec = tie.close (tie.spec returns returns-2 returns-3 returns-4)
+numbers-of-spec = tie.close (tie.spec returns returns-2 returns-3 returns-4 returns-5)

@@ -18,7 +18,7 @@ judge-route-requires c κs = search needs
 
 returns : tie.Need-returns
 returns c =
-    λ w h inside. route-line-is h inside (c .before .before .is-marked .ensures) (c .before .is-marked2 .ensures) (c .judge-route .ensures)
+    λ w n t stops h inside. route-line-is h inside (c .before .before .is-marked .ensures) (c .before .is-marked2 .ensures) (c .judge-route .ensures)
 
 pub route-line-spec : {M : Type 1} → statement M
 route-line-spec =

@@ -21,7 +21,7 @@ judge-service-requires c κs = search needs
 
 returns : tie.Need-returns
 returns c =
-    λ w h. service-line-is h (c .before .before .before .is-marked .ensures) (c .before .before .start-at .ensures) (c .before .end-at .ensures) (c .judge-service .ensures)
+    λ w n stops h inside. service-line-is h inside (c .before .before .before .is-marked .ensures) (c .before .before .start-at .ensures) (c .before .end-at .ensures) (c .judge-service .ensures)
 
 pub service-line-spec : {M : Type 1} → statement M
 service-line-spec =

@@ -27,7 +27,7 @@ judge-stop-requires c κs = search needs
 
 returns : tie.Need-returns
 returns c =
-    λ w h. stop-line-is h (c .before .before .before .before .before .is-marked .ensures) (c .before .before .before .before .is-marked2 .ensures) (c .before .before .before .parent-at .ensures) (c .before .before .kind-at .ensures) (c .before .kind-at2 .ensures) (c .judge-stop .ensures)
+    λ w n stops h inside. stop-line-is h inside (c .before .before .before .before .before .is-marked .ensures) (c .before .before .before .before .is-marked2 .ensures) (c .before .before .before .parent-at .ensures) (c .before .before .kind-at .ensures) (c .before .kind-at2 .ensures) (c .judge-stop .ensures)
 
 pub stop-line-spec : {M : Type 1} → statement M
 stop-line-spec =

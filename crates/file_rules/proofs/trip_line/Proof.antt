@@ -10,21 +10,24 @@ add-row c = search needs
 is-marked-requires : tie.Need-is-marked-requires
 is-marked-requires c κs = search needs
 
-ends-of-requires : tie.Need-ends-of-requires
-ends-of-requires c κs = search needs
-
 route-at-requires : tie.Need-route-at-requires
 route-at-requires c κs = search needs
 
 service-at-requires : tie.Need-service-at-requires
 service-at-requires c κs = search needs
 
+is-marked-requires-2 : tie.Need-is-marked-requires-2
+is-marked-requires-2 c κs = search needs
+
+is-marked-requires-3 : tie.Need-is-marked-requires-3
+is-marked-requires-3 c κs = search needs
+
 judge-trip-requires : tie.Need-judge-trip-requires
 judge-trip-requires c κs = search needs
 
 returns : tie.Need-returns
 returns c =
-    λ w h m. trip-line-is h m (c .before .before .before .before .is-marked .ensures) (c .before .before .route-at .ensures) (c .before .service-at .ensures) (c .before .before .before .ends-of .ensures .0 .0) (c .before .before .before .ends-of .ensures .0 .1) (c .before .before .before .ends-of .ensures .1 .0) (c .before .before .before .ends-of .ensures .1 .1) (c .judge-trip .ensures)
+    λ w n stops h inside. trip-line-is h inside (c .before .before .before .before .before .is-marked .ensures) (c .before .before .before .before .route-at .ensures) (c .before .before .before .service-at .ensures) (c .before .before .is-marked2 .ensures) (c .before .is-marked3 .ensures) (c .judge-trip .ensures)
 
 pub trip-line-spec : {M : Type 1} → statement M
 trip-line-spec =
@@ -32,8 +35,9 @@ trip-line-spec =
     (tie.spec
     add-row
     is-marked-requires
-    ends-of-requires
     route-at-requires
     service-at-requires
+    is-marked-requires-2
+    is-marked-requires-3
     judge-trip-requires
     returns)

@@ -22,12 +22,6 @@ is-timed-requires c κs = search needs
 is-sooner-requires : tie.Need-is-sooner-requires
 is-sooner-requires c κs = search needs
 
-is-not-above-requires : tie.Need-is-not-above-requires
-is-not-above-requires c κs = search needs
-
-overtakes-near-requires : tie.Need-overtakes-near-requires
-overtakes-near-requires c κs = search needs
-
 returns : tie.Need-returns
 unfolding timeJudged
 returns c = cc
@@ -42,6 +36,4 @@ judge-time-spec =
     is-half-timed-requires
     is-timed-requires
     is-sooner-requires
-    is-not-above-requires
-    overtakes-near-requires
     returns)

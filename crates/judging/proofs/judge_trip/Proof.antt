@@ -4,12 +4,6 @@ use Rattle.judging.specs.Judging.{tripJudged}
 use Rattle.judging.proofs.judge_trip.Statement.{statement}
 use Rattle.judging.proofs.judge_trip.Tie as tie
 
-is-open-end-requires : tie.Need-is-open-end-requires
-is-open-end-requires c κs = search needs
-
-is-open-end-requires-2 : tie.Need-is-open-end-requires-2
-is-open-end-requires-2 c κs = search needs
-
 is-loose-requires : tie.Need-is-loose-requires
 is-loose-requires c κs = search needs
 
@@ -24,8 +18,6 @@ pub judge-trip-spec : {M : Type 1} → statement M
 judge-trip-spec =
     tie.close
     (tie.spec
-    is-open-end-requires
-    is-open-end-requires-2
     is-loose-requires
     is-loose-requires-2
     returns)

@@ -1,70 +1,64 @@
 -- `rules::list_findings` meets its contract.
-use mathlib.Core.Path.{_∙_}
 use native.Mathlib.Omega.{arith}
-use Rattle.rules.proofs.Laws.{all-marked, all-noted}
+use Rattle.file_rules.specs.Lines.{ruleCount}
+use Rattle.rules.proofs.Laws.{stops-ready, routes-ready, calendar-ready, trips-ready, times-ready, all-noted}
 use borrow.Author.Needs.{needs}
 use Rattle.rules.proofs.list_findings.Statement.{statement}
 use Rattle.rules.proofs.list_findings.Tie as tie
 
-blank-requires : tie.Need-blank-requires
-blank-requires c κs = search needs
+list-counted-requires : tie.Need-list-counted-requires
+list-counted-requires c κs = search needs
 
-blank-requires-2 : tie.Need-blank-requires-2
-blank-requires-2 c κs = search needs
+list-counted-requires-2 : tie.Need-list-counted-requires-2
+unfolding ruleCount
+list-counted-requires-2 c κs =
+    (omega arith, (omega arith, (c .before .before .before .before .before .before .before .before .before .before .pre .1 .0, omega (arith, c .before .before .list-counted .ensures .1))))
 
-records-of-requires : tie.Need-records-of-requires
-records-of-requires c κs = search needs
+list-counted-requires-3 : tie.Need-list-counted-requires-3
+unfolding ruleCount
+list-counted-requires-3 c κs =
+    (omega arith, (omega arith, (c .before .before .before .before .before .before .before .before .before .before .before .before .before .pre .1 .1 .0, omega (arith, c .before .before .before .before .before .list-counted .ensures .1, c .before .before .list-counted2 .ensures .1))))
 
-slice-aggregate-mark-ends : tie.Need-slice-aggregate-mark-ends
-slice-aggregate-mark-ends c = search needs
+list-counted-requires-4 : tie.Need-list-counted-requires-4
+unfolding ruleCount
+list-counted-requires-4 c κs =
+    (omega arith, (omega arith, (c .before .before .before .before .before .before .before .before .before .before .before .before .before .before .before .before .pre .1 .1 .1 .0, omega (arith, c .before .before .before .before .before .before .before .before .list-counted .ensures .1, c .before .before .before .before .before .list-counted2 .ensures .1, c .before .before .list-counted3 .ensures .1))))
 
-slice-aggregate-mark-ends-2 : tie.Need-slice-aggregate-mark-ends-2
-slice-aggregate-mark-ends-2 c = search needs
-
-mark-ends-requires : tie.Need-mark-ends-requires
-mark-ends-requires c κs = search needs
-
-slice-aggregate-list-four : tie.Need-slice-aggregate-list-four
-slice-aggregate-list-four c = search needs
-
-slice-aggregate-list-four-2 : tie.Need-slice-aggregate-list-four-2
-slice-aggregate-list-four-2 c = search needs
-
-list-four-requires : tie.Need-list-four-requires
-list-four-requires c κs = search needs
-
-list-times-requires : tie.Need-list-times-requires
-list-times-requires c κs =
-    (c .before .before .before .before .before .before .before .before .before .before .before .before .before .before .before .before .before .before .before .before .pre .1 .1 .1 .1, omega arith)
+list-counted-requires-5 : tie.Need-list-counted-requires-5
+unfolding ruleCount
+list-counted-requires-5 c κs =
+    (omega arith, (omega arith, (c .before .before .before .before .before .before .before .before .before .before .before .before .before .before .before .before .before .before .before .pre .1 .1 .1 .1, omega (arith, c .before .before .before .before .before .before .before .before .before .before .before .list-counted .ensures .1, c .before .before .before .before .before .before .before .before .list-counted2 .ensures .1, c .before .before .before .before .before .list-counted3 .ensures .1, c .before .before .list-counted4 .ensures .1))))
 
 same-length : tie.Need-same-length
 same-length c = search needs
 
 returns : tie.Need-returns
+unfolding ruleCount
 returns c =
-    let z = c .before .before .before .before .before .before .before .before .before .before .before .before .before .before .before .before .before .before .before .before .before .before .args in
-    let blank₁ = c .before .before .before .before .before .before .before .before .before .before .before .before .before .before .before .blank in
-    let blank₂ = c .before .before .before .before .before .before .before .before .before .before .before .before .before .before .blank2 in
-    let m = c .before .before .before .before .before .before .before .before .before .before .mark-ends .ensures in (
+    let z = c .before .before .before .before .before .before .before .before .before .before .before .before .before .before .before .before .before .before .before .before .before in
+    let l₁ = c .before .before .before .before .before .before .before .before .before .before .before .before .before .list-counted .ensures in
+    let l₂ = c .before .before .before .before .before .before .before .before .before .before .list-counted2 .ensures in
+    let l₃ = c .before .before .before .before .before .before .before .list-counted3 .ensures in
+    let l₄ = c .before .before .before .before .list-counted4 .ensures in
+    let l₅ = c .before .list-counted5 .ensures in (
       λ w h.
-          let ends = all-marked w _ _ _ _ _ _ _ _ _ _ _ h _ (blank₁ .result) (blank₂ .result) _ _ (c .before .before .before .before .before .before .before .before .before .before .before .before .before .records-of .ensures .0) (blank₁ .ensures) (blank₂ .ensures) (m .0) (m .1 .0) (m .1 .1 .0 ∙ search needs) (m .1 .1 .1 ∙ search needs) in
-          all-noted w (z .p) _ _ _ (c .before .before .before .before .list-four .ensures .0 w _ h ends) (c .before .list-times .ensures .0 w _ (h .times) (h .stops) (h .few)),
-      omega arith,
+          all-noted w (z .args .p) _ _ _ _ _ _
+          (l₁ .0 w (stops-ready w _ _ _ _ _ _ _ _ _ _ _ h))
+          (l₂ .0 w (routes-ready w _ _ _ _ _ _ _ _ _ _ _ h))
+          (l₃ .0 w (calendar-ready w _ _ _ _ _ _ _ _ _ _ _ h))
+          (l₄ .0 w (trips-ready w _ _ _ _ _ _ _ _ _ _ _ h))
+          (l₅ .0 w (times-ready w _ _ _ _ _ _ _ _ _ _ _ h)),
+      omega (arith, l₁ .1, l₂ .1, l₃ .1, l₄ .1, l₅ .1),
     )
 
 pub list-findings-spec : {M : Type 1} → statement M
 list-findings-spec =
     tie.close
     (tie.spec
-    blank-requires
-    blank-requires-2
-    records-of-requires
-    slice-aggregate-mark-ends
-    slice-aggregate-mark-ends-2
-    mark-ends-requires
-    slice-aggregate-list-four
-    slice-aggregate-list-four-2
-    list-four-requires
-    list-times-requires
+    list-counted-requires
+    list-counted-requires-2
+    list-counted-requires-3
+    list-counted-requires-4
+    list-counted-requires-5
     same-length
     returns)

@@ -1,5 +1,4 @@
 -- `trip_walk::is_open` meets its contract.
-use mathlib.Core.Path.{_∙_}
 use Prim.Native.Nat.{_-_}
 use borrow.Author.Needs.{needs}
 use Rattle.trip_walk.proofs.is_open.Statement.{statement}
@@ -17,11 +16,8 @@ line-at-requires-2 c κs = search needs
 is-untimed-requires-2 : tie.Need-is-untimed-requires-2
 is-untimed-requires-2 c κs = search needs
 
-either-requires : tie.Need-either-requires
-either-requires c κs = search needs
-
 returns : tie.Need-returns
-returns c = c .either .ensures ∙ rw (c .before .before .before .is-untimed .ensures, c .before .is-untimed2 .ensures, c .before .before .before .before .line-at .ensures, c .before .before .line-at2 .ensures)
+returns c = rw (c .before .before .is-untimed .ensures, c .is-untimed2 .ensures, c .before .before .before .line-at .ensures, c .before .line-at2 .ensures)
 
 pub is-open-spec : {M : Type 1} → statement M
 is-open-spec =
@@ -31,5 +27,4 @@ is-open-spec =
     is-untimed-requires
     line-at-requires-2
     is-untimed-requires-2
-    either-requires
     returns)

@@ -21,10 +21,9 @@ same-length-2 c = c .before .before .before .is-steady .ensures .1 .1 .size
 
 returns : tie.Need-returns
 returns c =
-    let p = c .before .before .before .before .before .before .before .before .before .before .before .pre .0 in
     let l = c .before .before .before .before .before .before .before .list-all .ensures in
     let e = c .before .before .before .is-steady .ensures in
-    (ranged-file _ _ _ _ (p .0) (p .1) (l .1) (l .0) (e .0 _ (c .if1 .taken)), (l .1, e .1 .1))
+    (ranged-file _ _ _ (l .0) (e .0 _ (c .if1 .taken)), (l .1, e .1 .1))
 
 sort-requires : tie.Need-sort-requires
 sort-requires c κs =
@@ -39,10 +38,9 @@ same-length-4 c = c .before .before .before .before .before .before .is-steady .
 
 returns-2 : tie.Need-returns-2
 returns-2 c =
-    let p = c .before .before .before .before .before .before .before .before .before .before .before .before .before .before .pre .0 in
     let l = c .before .before .before .before .before .before .before .before .before .before .list-all .ensures in
     let o = c .before .sort .ensures in
-    (ranged-sorted _ _ _ _ (p .0) (p .1) (l .1) (l .0) _ (o .0) (o .1 .0) (o .1 .1 .1), (kept-trans (l .1) (o .1 .1 .1), c .before .before .before .before .before .before .is-steady .ensures .1 .1))
+    (ranged-sorted _ _ _ (l .0) _ (o .0) (o .1 .0) (o .1 .1 .1), (kept-trans (l .1) (o .1 .1 .1), c .before .before .before .before .before .before .is-steady .ensures .1 .1))
 
 pub rank-spec : {M : Type 1} → statement M
 rank-spec =

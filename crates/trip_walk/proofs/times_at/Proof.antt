@@ -11,14 +11,8 @@ arrival-at-requires c κs = search needs
 departure-at-requires : tie.Need-departure-at-requires
 departure-at-requires c κs = search needs
 
-is-given-requires : tie.Need-is-given-requires
-is-given-requires c κs = search needs
-
-is-given-requires-2 : tie.Need-is-given-requires-2
-is-given-requires-2 c κs = search needs
-
-both-requires : tie.Need-both-requires
-both-requires c κs = search needs
+is-timed-requires : tie.Need-is-timed-requires
+is-timed-requires c κs = search needs
 
 seconds-of-requires : tie.Need-seconds-of-requires
 seconds-of-requires c κs = search needs
@@ -28,7 +22,10 @@ seconds-of-requires-2 c κs = search needs
 
 returns : tie.Need-returns
 unfolding timedIn
-returns c = (rw (c .before .before .both .ensures, c .before .before .before .before .is-given .ensures, c .before .before .before .is-given2 .ensures, c .before .before .before .before .before .before .arrival-at .ensures, c .before .before .before .before .before .departure-at .ensures), (rw (c .before .seconds-of .ensures, c .before .before .before .before .before .before .arrival-at .ensures), rw (c .seconds-of2 .ensures, c .before .before .before .before .before .departure-at .ensures)))
+returns c =
+    let arrival = c .before .before .before .before .arrival-at .ensures in
+    let departure = c .before .before .before .departure-at .ensures in
+    (rw (c .before .before .is-timed .ensures, arrival, departure), (rw (c .before .seconds-of .ensures, arrival), rw (c .seconds-of2 .ensures, departure)))
 
 pub times-at-spec : {M : Type 1} → statement M
 times-at-spec =
@@ -36,9 +33,7 @@ times-at-spec =
     (tie.spec
     arrival-at-requires
     departure-at-requires
-    is-given-requires
-    is-given-requires-2
-    both-requires
+    is-timed-requires
     seconds-of-requires
     seconds-of-requires-2
     returns)

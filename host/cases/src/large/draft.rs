@@ -42,9 +42,13 @@ impl Draft {
 
     /// The line of a trip with this place along it, from 0 on: five seconds after the line before.
     pub fn call(&mut self, trip: &str, place: usize, stop: &str) {
-        let seconds = place * 5;
+        self.timed_call(trip, place * 5, place + 1, stop);
+    }
+
+    /// A line that arrives and departs at this second.
+    pub fn timed_call(&mut self, trip: &str, seconds: usize, sequence: usize, stop: &str) {
         let time = format!("{:02}:{:02}:{:02}", seconds / 3600, seconds / 60 % 60, seconds % 60);
-        self.line(5, format!("{trip},{time},{time},{stop},{}\n", place + 1));
+        self.line(5, format!("{trip},{time},{time},{stop},{sequence}\n"));
     }
 
     /// Puts the record lines of a file in random order.

@@ -1,9 +1,8 @@
 //! The feeds of the benchmark, each within rules 1 and 2: their longest file has just as many lines as asked for.
 
 use super::draft::Draft;
-use super::plan::{prefixed, short, with_long_trips, Plan};
+use super::plan::{prefixed, short, stop_of, with_long_trips, Plan};
 use crate::random::Random;
-use std::cmp::Reverse;
 
 /// What a feed is to the benchmark's aims.
 #[derive(Clone, Copy, Debug, PartialEq, Eq)]
@@ -12,8 +11,6 @@ pub enum Kind {
     Plain,
     /// As somebody could send them.
     Hard,
-    /// Lines of stop_times whose trips stand nowhere.
-    Nowhere,
 }
 
 /// Feeds of one shape and any size.
@@ -30,21 +27,17 @@ const fn family(name: &'static str, kind: Kind, feed: fn(usize) -> [Vec<u8>; 5],
 }
 
 /// All families, in the benchmark's order.
-pub const FAMILIES: [Family; 14] = [
+pub const FAMILIES: [Family; 21] = [
     family("plain", Kind::Plain, plain, "trips one after the other, ten lines a trip"),
     family("long-ids", Kind::Hard, long_ids, "trip ids of 64 bytes, two lines a trip"),
     family("last-parent", Kind::Hard, last_parent, "all stops have the same parent, on the last line of stops"),
-    family("nowhere", Kind::Nowhere, nowhere, "each line of stop_times has its own trip, which stands nowhere"),
-    family(
-        "all-at-once",
-        Kind::Nowhere,
-        all_at_once,
-        "the three before in one feed, every stop_times line at the parent",
-    ),
+    family("nowhere", Kind::Hard, nowhere, "each line of stop_times has its own trip, which stands nowhere"),
+    family("all-at-once", Kind::Hard, all_at_once, "the three before in one feed, every stop_times line at the parent"),
     family("few-ids", Kind::Plain, few_ids, "four trips and four stops, so that the walk along the files is all"),
     family("prefix", Kind::Hard, prefix, "as plain, and all ids begin with the same 60 bytes"),
     family("interleaved", Kind::Hard, interleaved, "as plain, but the lines of the trips are taken by turns"),
-    family("backward", Kind::Hard, backward, "as plain, but stop_times has the last trip first"),
+    family("by-stop", Kind::Plain, by_stop, "as plain, but stop_times is sorted by stop"),
+    family("backward", Kind::Hard, backward, "as plain, but the lines of stop_times stand the other way round"),
     family("shuffled", Kind::Hard, shuffled, "as plain, but the lines of stops, trips and stop_times are shuffled"),
     family(
         "unresolved",
@@ -53,7 +46,13 @@ pub const FAMILIES: [Family; 14] = [
         "every file that long, and no stop, route or service named stands anywhere",
     ),
     family("equal-ids", Kind::Hard, equal_ids, "every file that long, and all its ids equal"),
+    family("two-lines", Kind::Hard, two_lines, "as plain, but two lines a trip"),
+    family("own-trip", Kind::Hard, own_trip, "as plain, but each line of stop_times has its own trip"),
     family("one-trip", Kind::Hard, one_trip, "as plain, but one trip has all lines of stop_times"),
+    family("one-backward", Kind::Hard, one_backward, "as one-trip, but its lines stand the other way round"),
+    family("one-shuffled", Kind::Hard, one_shuffled, "as one-trip, but its lines are shuffled"),
+    family("one-nowhere", Kind::Hard, one_nowhere, "as one-backward, but the trip stands nowhere"),
+    family("one-sequence", Kind::Hard, one_sequence, "as one-trip, but all its sequences are equal"),
     family("quoted", Kind::Plain, quoted, "as plain, and every field is quoted"),
 ];
 
@@ -69,8 +68,38 @@ fn few_ids(lines: usize) -> [Vec<u8>; 5] {
     Plan { stops: 4, ..Plan::new(lines, short).with_trips(4) }.write().0
 }
 
+fn two_lines(lines: usize) -> [Vec<u8>; 5] {
+    Plan::new(lines, short).with_trips((lines - 1) / 2).write().0
+}
+
+fn own_trip(lines: usize) -> [Vec<u8>; 5] {
+    Plan::new(lines, short).with_trips(lines - 1).write().0
+}
+
 fn one_trip(lines: usize) -> [Vec<u8>; 5] {
     Plan::new(lines, short).with_trips(1).write().0
+}
+
+fn one_backward(lines: usize) -> [Vec<u8>; 5] {
+    Plan::new(lines, short).with_trips(1).reversed().write().0
+}
+
+fn one_shuffled(lines: usize) -> [Vec<u8>; 5] {
+    let mut draft = Plan::new(lines, short).with_trips(1).write();
+    draft.shuffle(5, &mut Random::new(0));
+    draft.0
+}
+
+fn one_nowhere(lines: usize) -> [Vec<u8>; 5] {
+    let mut draft = Plan::new(lines, short).write_records();
+    (0..lines - 1).rev().for_each(|place| draft.call("X", place, "S1"));
+    draft.0
+}
+
+fn one_sequence(lines: usize) -> [Vec<u8>; 5] {
+    let mut draft = Plan::new(lines, short).with_trips(1).write_records();
+    (0..lines - 1).for_each(|place| draft.timed_call("T0", place * 5, 1, "S1"));
+    draft.0
 }
 
 fn prefix(lines: usize) -> [Vec<u8>; 5] {
@@ -83,10 +112,15 @@ fn interleaved(lines: usize) -> [Vec<u8>; 5] {
     plan.write().0
 }
 
-fn backward(lines: usize) -> [Vec<u8>; 5] {
+fn by_stop(lines: usize) -> [Vec<u8>; 5] {
     let mut plan = Plan::new(lines, short);
-    plan.calls.sort_by_key(|&(trip, _)| Reverse(trip));
+    let stops = plan.stops;
+    plan.calls.sort_by_key(|&(trip, place)| stop_of(trip, place, stops));
     plan.write().0
+}
+
+fn backward(lines: usize) -> [Vec<u8>; 5] {
+    Plan::new(lines, short).reversed().write().0
 }
 
 fn shuffled(lines: usize) -> [Vec<u8>; 5] {

@@ -24,6 +24,11 @@ pub fn prefixed(_: char, number: usize) -> String {
     format!("{:060}{}", 0, last.iter().collect::<String>())
 }
 
+/// The stop at which a trip calls at a place along it.
+pub fn stop_of(trip: usize, place: usize, stops: usize) -> usize {
+    (trip * 7 + place) % stops
+}
+
 /// A feed without a finding, before it is written.
 pub struct Plan {
     pub trips: usize,
@@ -50,6 +55,12 @@ impl Plan {
         Plan { trips, ..self }
     }
 
+    /// The lines of stop_times the other way round.
+    pub fn reversed(mut self) -> Self {
+        self.calls.reverse();
+        self
+    }
+
     /// All files but the lines of stop_times.
     pub fn write_records(&self) -> Draft {
         let (routes, services) = ((self.trips / 100).max(1), 7);
@@ -68,7 +79,7 @@ impl Plan {
     pub fn write(&self) -> Draft {
         let mut draft = self.write_records();
         for &(trip, place) in &self.calls {
-            let stop = (trip * 7 + place) % self.stops;
+            let stop = stop_of(trip, place, self.stops);
             draft.call(&(self.naming)('T', trip), place, &(self.naming)('S', stop));
         }
         draft

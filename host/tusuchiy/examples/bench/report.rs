@@ -10,10 +10,10 @@ const PLAIN_RATIO: f64 = 8.0;
 const RATIO: f64 = 20.0;
 
 const TIMES: Table =
-    Table(&[("feed", 11), ("lines", 7), ("bytes", 9), ("check", 10), ("quick", 10), ("ratio", 7), ("growth", 6)]);
+    Table(&[("feed", 12), ("lines", 7), ("bytes", 9), ("check", 10), ("quick", 10), ("ratio", 7), ("growth", 6)]);
 
 const PARTS: Table = Table(&[
-    ("feed", 11),
+    ("feed", 12),
     ("lines", 7),
     ("check: rules 1-4", 10),
     ("reading", 10),
@@ -62,8 +62,11 @@ pub struct Parts {
 
 pub fn introduce(families: &[&Family]) {
     for family in families {
-        println!("{:>11}: {}", family.name, family.about);
+        let plain = if family.kind == Kind::Plain { " (a plain feed)" } else { "" };
+        println!("{:>12}: {}{plain}", family.name, family.about);
     }
+    println!("Every feed counts, those whose trips stand nowhere too. Aims: growth at most {GROWTH:.0} for four times");
+    println!("the lines; ratio at most {PLAIN_RATIO:.0} on plain feeds, at most {RATIO:.0} on any.");
     println!("Processor: {}.", processor());
     println!("Processor time of one call: the fastest of {RUNS}, or of as many as {SPENT} s allow.");
     println!("The lent list has room for {ROOM} findings. Growth: the check's time by that in the row above.\n");
@@ -105,18 +108,14 @@ pub fn parts(all: &[Parts]) {
     println!("findings): the whole call, less both.\n");
 }
 
-/// The worst figures and the feeds that miss an aim; those whose trips stand nowhere are told apart.
+/// The worst figures and the feeds that miss an aim: every feed counts.
 pub fn summary(rows: &[Row]) {
-    let nowhere = |row: &&Row| row.family.kind == Kind::Nowhere;
-    let (apart, judged): (Vec<&Row>, Vec<&Row>) = rows.iter().partition(nowhere);
-    let plain: Vec<&Row> = judged.iter().copied().filter(|row| row.family.kind == Kind::Plain).collect();
-    worst("growth over all feeds", &judged, |row| row.growth, GROWTH);
-    worst("ratio over all feeds", &judged, Row::ratio, RATIO);
+    let all: Vec<&Row> = rows.iter().collect();
+    let plain: Vec<&Row> = rows.iter().filter(|row| row.family.kind == Kind::Plain).collect();
+    worst("growth over all feeds", &all, |row| row.growth, GROWTH);
+    worst("ratio over all feeds", &all, Row::ratio, RATIO);
     worst("ratio over plain feeds", &plain, Row::ratio, PLAIN_RATIO);
-    misses("Aims missed", &judged);
-    worst("growth where trips stand nowhere", &apart, |row| row.growth, GROWTH);
-    worst("ratio where trips stand nowhere", &apart, Row::ratio, RATIO);
-    misses("Aims missed where trips stand nowhere", &apart);
+    misses(&all);
 }
 
 /// Prints the greatest figure of a kind, and whose it is.
@@ -128,7 +127,7 @@ fn worst(what: &str, rows: &[&Row], figure: fn(&Row) -> Option<f64>, aim: f64) {
 }
 
 /// Prints the feeds that miss an aim, and which.
-fn misses(what: &str, rows: &[&Row]) {
+fn misses(rows: &[&Row]) {
     let mut feeds: Vec<(&str, Vec<&str>)> = Vec::new();
     for row in rows {
         match feeds.last_mut() {
@@ -138,10 +137,9 @@ fn misses(what: &str, rows: &[&Row]) {
     }
     feeds.retain(|(_, missed)| !missed.is_empty());
     let words = |(name, missed): &(&str, Vec<&str>)| format!("{name} ({})", distinct(missed).join(", "));
-    match (rows, &feeds[..]) {
-        ([], _) => {}
-        (_, []) => println!("{what}: none."),
-        _ => println!("{what}: {}.", feeds.iter().map(words).collect::<Vec<_>>().join("; ")),
+    match &feeds[..] {
+        [] => println!("Aims missed: none."),
+        _ => println!("Aims missed: {}.", feeds.iter().map(words).collect::<Vec<_>>().join("; ")),
     }
 }
 

@@ -1,7 +1,7 @@
--- `judging::is_timed` meets its contract.
+-- `rows::times::is_timed` meets its contract.
 use borrow.Author.Needs.{needs}
-use Rattle.judging.proofs.is_timed.Statement.{statement}
-use Rattle.judging.proofs.is_timed.Tie as tie
+use Rattle.rows.proofs.times.is_timed.Statement.{statement}
+use Rattle.rows.proofs.times.is_timed.Tie as tie
 
 is-given-requires : tie.Need-is-given-requires
 is-given-requires c κs = search needs

@@ -1,2 +1,0 @@
--- What the rules of stop_times look at.
-pub mod Context
