@@ -17,7 +17,7 @@ use Rattle.values.specs.Located.{valueIn, Located, Within}
 use Rattle.values.proofs.Readings.{in-row}
 use Rattle.tables.specs.Fill.{line, Lies}
 use Rattle.tables.specs.Walk.{placing}
-use Rattle.tables.specs.Waiting.{marking, waitingOf}
+use Rattle.tables.specs.Waiting.{markOf, waitingOf}
 use Rattle.tables.proofs.Past.{put-last}
 
 module _ (ps l : List ℕ) (at : ℕ) (st en : List ℕ) (loc : Located l ps st en) where
@@ -96,7 +96,7 @@ module _ (ps l : List ℕ) (at : ℕ) (st en : List ℕ) (loc : Located l ps st 
       → pos dropOff ≡ orZero 3 (valueIn l st en 6)
       → a ≡ at + getD st 0 0
       → e ≡ at + getD en 0 0
-      → pos trip ∷ pos (packed stop pickup dropOff (marking (orMinus 1 (valueIn l st en 7)))) ∷ pos sequence ∷ arrival ∷ departure ∷ pos a ∷ pos e ∷ pos 0 ∷ []
+      → pos trip ∷ pos (packed stop pickup dropOff (markOf (orMinus 1 (valueIn l st en 7)))) ∷ pos sequence ∷ arrival ∷ departure ∷ pos a ∷ pos e ∷ pos 0 ∷ []
       ≡ waitingOf w ps (line at l)
   unfolding waitingOf
   waiting-record w trip stop sequence pickup dropOff a e arrival departure p q r x y u v g h =

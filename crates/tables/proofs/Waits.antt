@@ -23,7 +23,7 @@ use Rattle.values.proofs.Choices.{Stored, nothing, number, choice-stored, zero-
 use Rattle.ordering.specs.Cells.{KeptAt}
 use Rattle.tables.specs.Fill.{line}
 use Rattle.tables.specs.Walk.{tabled, Beyond}
-use Rattle.tables.specs.Waiting.{marking, waitingOf, writtenOf, writtenAll, written}
+use Rattle.tables.specs.Waiting.{markOf, waitingOf, writtenOf, writtenAll, written}
 use Rattle.tables.proofs.Past.{beyond-trans, laid-rest, laid-beyond, kept-beyond}
 use Rattle.tables.proofs.Turns.{wide, table-length, table-at}
 use Rattle.tables.proofs.Ids.{cell-of}
@@ -31,11 +31,11 @@ use Rattle.tables.proofs.Written.{written-wide}
 use Rattle.tables.proofs.SecondWalk.{taken-length, all-length, filled-beyond}
 
 -- timepoint is unpacked as it was packed
-pub timepoint-marked : (v : List ℕ) → (unmark (marking (orMinus 1 v)) ≡ orMinus 1 v) × (marking (orMinus 1 v) < 4)
+pub timepoint-marked : (v : List ℕ) → (unmark (markOf (orMinus 1 v)) ≡ orMinus 1 v) × (markOf (orMinus 1 v) < 4)
 unfolding orMinus unmark
 timepoint-marked v = go (choice-stored (negsuc 0) 1 v)
   where
-    go : {z : ℤ} → Stored (negsuc 0) 1 z → (unmark (marking z) ≡ z) × (marking z < 4)
+    go : {z : ℤ} → Stored (negsuc 0) 1 z → (unmark (markOf z) ≡ z) × (markOf z < 4)
     go nothing = (refl, omega arith)
     go (number n h) = (rw add-one, omega arith)
 

@@ -14,18 +14,19 @@ use Rattle.meaning.specs.Tables.{Feed, number, seconds, orZero, orMinus, refer,
 use Rattle.rows.specs.Waiting.{packed}
 use Rattle.tables.specs.Walk.{tabled}
 
--- timepoint as it is packed: 0 is empty, n + 1 is n
-abbrev pub marking : ℤ → ℕ
-marking (pos n) = n + 1
-marking (negsuc n) = 0
+-- the mark that a stored timepoint is packed as: 0 is an empty one
+abbrev pub markOf : ℤ → ℕ
+markOf (pos n) = n + 1
+markOf (negsuc n) = 0
 
--- A line of stop_times that waits: its trip; stop, pickup, drop-off and timepoint in one; sequence, arrival, departure; the place of its trip_id; the cell of the order.
+-- A line of stop_times that waits, 8 numbers: trip record; stop record, pickup, drop-off and timepoint packed; sequence, arrival, departure;
+-- start and end of its trip_id; the cell of the order.
 unfoldable pub waitingOf : Feed → List ℕ → Line → List ℤ
 waitingOf w ps x =
     let r = rowOf ps (x .text) in
     let stop = refer (timeStop r) (stopIds w) in
     pos (refer (timeTrip r) (tripIds w))
-    ∷ pos (packed stop (natOf (orZero 3 (pickupType r))) (natOf (orZero 3 (dropOffType r))) (marking (orMinus 1 (timepoint r))))
+    ∷ pos (packed stop (natOf (orZero 3 (pickupType r))) (natOf (orZero 3 (dropOffType r))) (markOf (orMinus 1 (timepoint r))))
     ∷ number (sequenceOf (stopSequence r))
     ∷ seconds (timeOf (arrivalTime r))
     ∷ seconds (timeOf (departureTime r))
