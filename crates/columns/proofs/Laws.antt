@@ -242,17 +242,9 @@ module _ (l ps : List ℕ) (k : ℕ) where
   pub cells-inside : (getD (startsOf l ps) k 0 ≤ getD (endsOf l ps) k 0) × (getD (endsOf l ps) k 0 ≤ length l)
   cells-inside = rw (start-at, end-at) (field-inside l (getD ps k 0) .ordered, field-inside l (getD ps k 0) .within)
 
-  pub field-of : part l (bounds (getD (startsOf l ps) k 0) (getD (endsOf l ps) k 0)) ≡ part l (fieldAt l (getD ps k 0))
-  field-of = rw (start-at, end-at)
-
   pub cell-of : value (part l (bounds (getD (startsOf l ps) k 0) (getD (endsOf l ps) k 0))) ≡ cell l (getD ps k 0)
   unfolding cell
   cell-of = rw (start-at, end-at)
-
--- the bytes of a field say its value
-pub field-value : (l r : List ℕ) (p : ℕ) → r ≡ part l (fieldAt l p) → value r ≡ cell l p
-unfolding cell
-field-value l r p e = rw e
 
 pub row-at : (ps l : List ℕ) (k : ℕ) → getD (rowOf ps l) k [] ≡ cell l (getD ps k 0)
 unfolding rowOf cell fieldAt part value marked content undouble
@@ -273,24 +265,3 @@ module _ (l ps ss es : List ℕ) (s : ss ≡ startsOf l ps) (e : es ≡ endsOf l
 
   pub located-row : rowIn l ss es ≡ rowOf ps l
   located-row = rw (s, e) (row-in l ps)
-
--- and by the table of a header: the field and the value under known column k, as the definitions read them
-module _ (f : ℕ) (header : List (List ℕ)) (l ps ss es : List ℕ) (places-are : ps ≡ placesOf f header) (s : ss ≡ startsOf l ps) (e : es ≡ endsOf l ps) (k : ℕ) where
-  pub known-field : bounds (getD ss k 0) (getD es k 0) ≡ fieldAt l (getD (places f header) k 0)
-  known-field = rw (s, e, start-at, end-at, places-are, places-at f header k)
-
-  pub known-value : value (part l (bounds (getD ss k 0) (getD es k 0))) ≡ getD (rowOf (places f header) l) k []
-  unfolding cell
-  known-value = rw (known-field, row-at (places f header) l k)
-
--- a column past the last field, or none, has none
-pub field-past : (l : List ℕ) (p n : ℕ) → length (fields l) < n → (p < n → p ≡ 0) → fieldAt l p ≡ bounds 0 0
-unfolding fieldAt
-field-past l p n o none = go (eqb p 0) refl
-  where
-    go : (t : Bool) → eqb p 0 ≡ t → cond t (bounds 0 0) (getD (fields l) (p - 1) (bounds 0 0)) ≡ bounds 0 0
-    go true e = refl
-    go false e =
-        let z : p ≡ 0 → ⊥ = eqb-false p 0 e in
-        let y : p < n → ⊥ = λ h. z (none h) in
-        List·getD-eq-default (fields l) (bounds 0 0) (omega (arith, y))

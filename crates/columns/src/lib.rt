@@ -1,15 +1,14 @@
 // Where the known columns stand in a header, and where their fields lie in a line.
-use meaning::Bounds;
 use text::Cursor;
 use text::Step;
 ghost use mathlib.Core.Path.{_≡_};
 ghost use mathlib.Core.Bool.{_&&_};
 ghost use Prim.Native.Nat.{_<_};
 ghost use lib.Dec.{eqb};
-ghost use lib.ListN.{length, getD};
+ghost use lib.ListN.{length};
 ghost use Rattle.meaning.specs.Lists.{find};
-ghost use Rattle.meaning.specs.Bytes.{part, fields, values};
-ghost use Rattle.meaning.specs.Columns.{nameOf, columnOf, fieldAt};
+ghost use Rattle.meaning.specs.Bytes.{fields, values};
+ghost use Rattle.meaning.specs.Columns.{nameOf, columnOf};
 ghost use Rattle.meaning.specs.Refusals.{standings, rule8};
 ghost use Rattle.columns.specs.Columns.{placesOf, lacking, noted, startsOf, endsOf};
 
@@ -173,38 +172,4 @@ pub fn locate(l: &[u8], at: [usize; 10]) -> Cells
             }
         }
     }
-}
-
-// Where the field in column p of a line lies, found without a look past it; start and end are 0 where there is none.
-fn bounds_at(l: &[u8], p: usize) -> Bounds
-    ensures { λ r. ⌜ r ≡ fieldAt (now (l .entry)) p ⌝ }
-{
-    let mut c = Cursor::new();
-    let mut n: usize = 1;
-    loop {
-        match c.next(l) {
-            Step::Field { start, end, next } => {
-                if n == p {
-                    return Bounds { start, end };
-                }
-                n += 1;
-                c = next;
-            }
-            Step::Done => {
-                return Bounds { start: 0, end: 0 };
-            }
-        }
-    }
-}
-
-// The field under known column k of a line, as it stands there; nothing where the column is absent.
-pub fn field(l: &[u8], at: [usize; 10], k: usize) -> &[u8]
-    requires { ⌜ k < 10 ⌝ }
-    ensures { λ r. ⌜ now r ≡ part (now (l .entry)) (fieldAt (now (l .entry)) (getD at k 0)) ⌝ }
-{
-    let p = at[k];
-    let b = bounds_at(l, p);
-    let a = b.start;
-    let e = b.end;
-    &l[a..e]
 }

@@ -11,8 +11,8 @@ use Rattle.num.specs.Signs.{natOf}
 use Rattle.rows.specs.Cells.{natAt, timeAt, timeIn}
 use Rattle.meaning.specs.Bytes.{Line, countLf, linesOf}
 use Rattle.meaning.specs.Columns.{Row, places, headerOf, rowOf}
-use Rattle.meaning.specs.Forms.{timeOf, dateOf, sequenceOf}
-use Rattle.meaning.specs.Tables.{Feed, widths, widthOf, recordOf, numbersOf, idPlace, stopNumbers, serviceNumbers, tripNumbers, timeNumbers, seconds, number, day, orZero, orMinus, refer, stopIds, routeIds, serviceIds, tripIds, locationType, parentStation, startDate, endDate, tripRoute, tripService, timeTrip, timeStop, stopSequence, arrivalTime, departureTime, timepoint}
+use Rattle.meaning.specs.Forms.{timeOf, dateOf}
+use Rattle.meaning.specs.Tables.{Feed, widths, widthOf, recordOf, numbersOf, idPlace, stopNumbers, serviceNumbers, tripNumbers, timeNumbers, seconds, number, day, orZero, orMinus, refer, stopIds, routeIds, serviceIds, tripIds, locationType, parentStation, startDate, endDate, tripRoute, tripService, timeTrip, timeStop, arrivalTime, departureTime, timepoint}
 use Rattle.meaning.specs.Rules.{row}
 use Rattle.tables.specs.Fill.{line}
 use Rattle.tables.proofs.Ids.{rows-count, row-of-line, cell-at}
@@ -89,10 +89,6 @@ module _ (w : Feed) (s : List ℕ) (t : List ℤ) (i : ℕ) where
     pub time-stop : natAt t ((i + 1) * 8 + 1) ≡ refer (timeStop (row (w .stopTimes) i)) (stopIds w)
     unfolding timeNumbers
     time-stop = ap natOf (time-number 1 (omega arith))
-
-    pub time-sequence : natAt t ((i + 1) * 8 + 2) ≡ natOf (number (sequenceOf (stopSequence (row (w .stopTimes) i))))
-    unfolding timeNumbers
-    time-sequence = ap natOf (time-number 2 (omega arith))
 
     pub time-arrival : timeAt t ((i + 1) * 8 + 3) ≡ timeIn (seconds (timeOf (arrivalTime (row (w .stopTimes) i))))
     unfolding timeNumbers

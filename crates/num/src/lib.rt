@@ -1,7 +1,7 @@
 // Casts between signed and unsigned numbers, and the order of signed ones.
 ghost use mathlib.Core.Path.{_≡_};
 ghost use Prim.Native.Nat.{_^_, _<_};
-ghost use lib.IntN.{pos, negsuc, natAbs};
+ghost use lib.IntN.{pos, natAbs};
 ghost use lib.Signed.{ltZ};
 ghost use Rattle.num.specs.Signs.{natOf};
 
@@ -19,13 +19,6 @@ pub fn u32_to_i32(n: u32) -> i32
     ensures { λ r. ⌜ r ≡ pos n ⌝ }
 {
     n as i32
-}
-
-// What is stored where a time, a direction or a timepoint is empty.
-pub fn minus_one() -> i32
-    ensures { λ r. ⌜ r ≡ negsuc 0 ⌝ }
-{
-    -1
 }
 
 // A stored number read back; a negative one is a number past every file and every record.

@@ -178,12 +178,6 @@ impl Calendar {
         cells::bounds_of(t, row.0, Calendar::WIDTH)
     }
 
-    pub fn days_at(t: &[i32], row: ServiceRow) -> usize
-        ensures { λ r. ⌜ r ≡ natAt (now (t .entry)) (row .0 * 5 + 2) ⌝ }
-    {
-        cells::nat_of(t, row.0, Calendar::WIDTH, 2)
-    }
-
     pub fn start_at(t: &[i32], row: ServiceRow) -> usize
         ensures { λ r. ⌜ r ≡ natAt (now (t .entry)) (row .0 * 5 + 3) ⌝ }
     {
@@ -276,37 +270,6 @@ impl StopTimes {
         ensures { λ p. ⌜ p ≡ row .0 * 8 ⌝ }
     {
         row.0 * StopTimes::WIDTH
-    }
-
-    // The record of a line.
-    pub fn put(
-        t: &mut [i32],
-        row: TimeRow,
-        trip: TripRow,
-        stop: StopRow,
-        sequence: u32,
-        arrival: i32,
-        departure: i32,
-        pickup: u32,
-        drop_off: u32,
-        timepoint: i32,
-    )
-        requires { ⌜ row .0 * 8 + 8 ≤ length (now t) ⌝ }
-        requires { ⌜ (trip .0 < 2 ^ 31) × ((stop .0 < 2 ^ 31) × ((sequence < 2 ^ 31) × ((pickup < 2 ^ 31) × («drop_off» < 2 ^ 31)))) ⌝ }
-        ensures { λ _. ⌜ now (t .exit) ≡ putAt (now (t .entry)) (row .0 * 8)
-            (pos (trip .0) ∷ pos (stop .0) ∷ pos sequence ∷ arrival ∷ departure ∷ pos pickup ∷ pos «drop_off» ∷ timepoint ∷ []) ⌝ }
-    {
-        let r = [
-            trip.0 as i32,
-            stop.0 as i32,
-            sequence as i32,
-            arrival,
-            departure,
-            pickup as i32,
-            drop_off as i32,
-            timepoint,
-        ];
-        cells::store(t, StopTimes::place(row), &r);
     }
 
     // The record of a line that waits for its order: number 1 is packed, 5 and 6 are where its trip_id lies, 7 is for the order.

@@ -107,27 +107,6 @@ fn trips() {
     told(b"trips", same(&t, &[5, 6, 0, 65535, -1, 2, 1, 7]));
 }
 
-// No arrival and no timepoint.
-fn stop_times() {
-    let mut t = [7i32; 9];
-    StopTimes::put(
-        &mut t,
-        TimeRow(0),
-        TripRow(1),
-        StopRow(2),
-        999999999,
-        -1,
-        359999,
-        3,
-        1,
-        -1,
-    );
-    told(
-        b"stop_times",
-        same(&t, &[1, 2, 999999999, -1, 359999, 3, 1, -1, 7]),
-    );
-}
-
 // The order's cell of record 1 of stop_times is used.
 fn order(t: &mut [i32]) {
     if 15 < t.len() {
@@ -417,7 +396,6 @@ fn tables() {
     routes();
     calendar();
     trips();
-    stop_times();
     waiting_times();
     timepoints();
 }
