@@ -71,17 +71,34 @@ impl Trips {
 
     /// Judges anew, in the trip's order, the lines of trips that don't stand so.
     fn sort(&mut self, calls: &[Call]) {
-        let mut order: Vec<(u32, i32, u32)> = Vec::new();
-        for (line, (number, _)) in (0..).zip(&self.calls) {
-            if self.seen[*number as usize].fallen {
-                order.push((*number, calls[line as usize].sequence, line));
+        let (mut order, ends) = self.fallen(calls);
+        for (seen, end) in self.seen.iter_mut().zip(ends).filter(|(seen, _)| seen.fallen) {
+            let lines = &mut order[end - seen.lines as usize..end];
+            lines.sort_unstable();
+            *seen = Seen::NONE;
+            for &mut (_, line) in lines {
+                self.calls[line as usize].1 = seen.call(&calls[line as usize]);
             }
         }
-        order.sort_unstable();
-        order.iter().for_each(|&(number, ..)| self.seen[number as usize] = Seen::NONE);
-        for (number, _, line) in order {
-            self.calls[line as usize].1 = self.seen[number as usize].call(&calls[line as usize]);
+    }
+
+    /// Sequence and line of the lines of such trips, trip by trip in file order, and where each trip's lines end.
+    fn fallen(&self, calls: &[Call]) -> (Vec<(i32, u32)>, Vec<usize>) {
+        let mut total = 0;
+        let mut ends = Vec::with_capacity(self.seen.len());
+        for seen in &self.seen {
+            ends.push(total);
+            total += if seen.fallen { seen.lines as usize } else { 0 };
         }
+        let mut order = vec![(0, 0); total];
+        for (line, (&(number, _), call)) in self.calls.iter().zip(calls).enumerate() {
+            if self.seen[number as usize].fallen {
+                let end = &mut ends[number as usize];
+                order[*end] = (call.sequence, line as u32);
+                *end += 1;
+            }
+        }
+        (order, ends)
     }
 
     /// Of a line of stop_times, counted from 0: the record of its trip, 0 if there is none, and rules 28 and 29.

@@ -252,6 +252,27 @@ fn words_about_times() {
     }
 }
 
+/// The clerk's examples of a trip's order break the rule that they stand under, where the page says.
+#[test]
+fn the_clerks_examples_are_true() {
+    let examples = [
+        ("28", "28: the trip has stop_sequence 2 on line 2 already"),
+        (
+            "29",
+            "29: arrival_time 07:59:59 is before departure_time 08:00:00 on line 3, whose stop_sequence 1 is below 2",
+        ),
+        ("31", "31: its last line by stop_sequence, line 2 of stop_times.txt, lacks arrival_time and departure_time"),
+    ];
+    for (rule, wanted) in examples {
+        let page = run(&["explain", rule]);
+        let lines = out(&page).split("```\n").nth(1).expect("an example of lines").replace('\n', ",\n");
+        // The examples also call at a stop that this feed lacks.
+        let mut found = words_of_times(&lines);
+        found.retain(|words| !words.starts_with("21: "));
+        assert_eq!(found, [wanted], "{lines}");
+    }
+}
+
 /// The words about stops, routes and services, found by hand.
 #[test]
 fn words_about_other_files() {

@@ -92,7 +92,7 @@ fn size(family: &'static Family, lines: usize, before: Option<Option<f64>>) -> R
 /// The parts of both checks at the largest size of a feed that wasn't skipped.
 fn parts_of(family: &'static Family, rows: &[Row]) -> Parts {
     let measured = |row: &&Row| row.family.name == family.name && row.check.is_some();
-    let row = rows.iter().filter(measured).last().expect("the smallest size is never skipped");
+    let row = rows.iter().rfind(measured).expect("the smallest size is never skipped");
     let files = (family.feed)(row.lines);
     let proved = parts(Checker::Proved, &files, row.check.unwrap_or_default());
     Parts { family, lines: row.lines, proved, quick: parts(Checker::Quick, &files, row.quick) }
