@@ -15,6 +15,7 @@ mod memory;
 mod paging;
 mod progress;
 mod refusals;
+mod report;
 mod safe;
 mod source;
 mod style;
@@ -52,6 +53,7 @@ fn complain(message: &str) -> u8 {
 fn run(command: Command) -> Result<u8, String> {
     let page = match command {
         Command::Check(check) => return Ok(many::run(&check)),
+        Command::Report(asked) => return many::guarded(|| report::run(&asked)),
         Command::Help => manual::help(),
         Command::Version => format!("tusuchiy {}\n", env!("CARGO_PKG_VERSION")),
         Command::Explain(number) => format!("{}\n", explain::page(number).ok_or_else(|| explain::no_such(number))?),
