@@ -318,13 +318,13 @@ def large(browser, case):
 
 # The README's picture: the totals, the map, and a finding with its time diagram.
 def picture(browser, case):
-    browser.size(1040, 1600, 0.75)
+    browser.size(1040, 1600, 0.7)
     browser.open(case.page)
     browser.value("document.querySelector('#totals tr[data-number=\"29\"] .count button').click()")
     browser.wait("document.querySelectorAll('#list > .finding').length === 1")
     browser.value("document.activeElement.blur(), scrollTo({top: 0, behavior: 'instant'})")
     bottom = browser.value("document.getElementById('list').getBoundingClientRect().bottom")
-    browser.size(1040, int(bottom) + 20, 0.75)
+    browser.size(1040, int(bottom) + 20, 0.7)
     browser.screenshot(os.path.join(PICTURES, "report.png"))
 
 

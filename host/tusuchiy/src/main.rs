@@ -3,7 +3,6 @@
 
 mod arguments;
 mod columns;
-mod explain;
 mod facts;
 mod feed;
 mod fields;
@@ -26,6 +25,7 @@ mod zip;
 use arguments::Command;
 use std::io::{self, Write};
 use std::process::ExitCode;
+use tusuchiy::explain;
 
 /// The exit status where the command could not do what it was asked for.
 const COULD_NOT_RUN: u8 = 3;
