@@ -151,10 +151,12 @@ fn other_columns(number: usize) -> &'static [&'static str] {
 fn others(file: usize, about: &About) -> Vec<(usize, usize)> {
     let of = |(name, value): &(&str, Value)| -> Vec<(usize, usize)> {
         let file = match *name {
-            "earlier_line" => file,
             "parent_line" | "stop_line" => 1,
             // Rule 2 counts all lines under the same name, and not in a list.
             "untimed" | "lines" => 5,
+            // Those that lack a time are in `untimed`.
+            "first_line" | "last_line" => return Vec::new(),
+            name if name.ends_with("_line") => file,
             _ => return Vec::new(),
         };
         match value {
