@@ -9,9 +9,20 @@
 extern "C" {
 #endif
 
-/* The five files have numbers: 1 stops.txt, 2 routes.txt, 3 calendar.txt, 4 trips.txt, 5 stop_times.txt.
- *
- * A record has so many numbers in the table of its file. Lend each table at least its width times the number of
+/* The version of the check, as a text and as a number: 10000 for each major, 100 for each minor step. */
+#define TUSUCHIY_VERSION "0.1.0"
+#define TUSUCHIY_VERSION_NUMBER 100
+
+/* The five files have numbers: in `file` of an answer and of a finding. */
+enum {
+    TUSUCHIY_STOPS = 1,     /* stops.txt */
+    TUSUCHIY_ROUTES = 2,    /* routes.txt */
+    TUSUCHIY_CALENDAR = 3,  /* calendar.txt */
+    TUSUCHIY_TRIPS = 4,     /* trips.txt */
+    TUSUCHIY_STOP_TIMES = 5 /* stop_times.txt */
+};
+
+/* A record has so many numbers in the table of its file. Lend each table at least its width times the number of
  * LF bytes in its file, else the feed is refused with number 3. A longer table does no harm. */
 enum {
     TUSUCHIY_STOPS_WIDTH = 6,      /* id start, id end, latitude, longitude, location_type, parent record */
@@ -32,6 +43,39 @@ enum {
     TUSUCHIY_ACCEPTED = 0, /* the files can be read, and no binding rule is broken */
     TUSUCHIY_FINDINGS = 1, /* the files can be read, and `total` findings exist */
     TUSUCHIY_REFUSED = 2   /* the files can't be read: see number, file, line */
+};
+
+/* Values of `number`: why a file can't be read. docs/RULES.md says more of each, tusuchiy_meanings.h a few words. */
+enum {
+    TUSUCHIY_REFUSAL_TOO_MANY_BYTES = 1,
+    TUSUCHIY_REFUSAL_TOO_MANY_LINES = 2,
+    TUSUCHIY_REFUSAL_TABLE_TOO_SHORT = 3,
+    TUSUCHIY_REFUSAL_NO_LINE_END = 4,
+    TUSUCHIY_REFUSAL_STRAY_BYTE = 5,
+    TUSUCHIY_REFUSAL_MISPLACED_QUOTE = 6,
+    TUSUCHIY_REFUSAL_TOO_MANY_FIELDS = 7,
+    TUSUCHIY_REFUSAL_COLUMN_TWICE = 8,
+    TUSUCHIY_REFUSAL_COLUMN_MISSING = 9,
+    TUSUCHIY_REFUSAL_FIELD_COUNT = 10,
+    TUSUCHIY_REFUSAL_LONG_ID = 11,
+    TUSUCHIY_REFUSAL_EMPTY_VALUE = 12,
+    TUSUCHIY_REFUSAL_MALFORMED_VALUE = 13
+};
+
+/* The rules of findings. */
+enum {
+    TUSUCHIY_RULE_REPEATED_ID = 20,
+    TUSUCHIY_RULE_REFERENCE = 21,
+    TUSUCHIY_RULE_PARENT_STATION = 22,
+    TUSUCHIY_RULE_NO_PLATFORM = 23,
+    TUSUCHIY_RULE_SERVICE_DATES = 24,
+    TUSUCHIY_RULE_ROUTE_NAME = 25,
+    TUSUCHIY_RULE_TIMES_GIVEN = 26,
+    TUSUCHIY_RULE_DEPARTURE_FIRST = 27,
+    TUSUCHIY_RULE_SEQUENCE = 28,
+    TUSUCHIY_RULE_ARRIVAL_TOO_EARLY = 29,
+    TUSUCHIY_RULE_FEW_LINES = 30,
+    TUSUCHIY_RULE_UNTIMED_ENDS = 31
 };
 
 typedef struct {

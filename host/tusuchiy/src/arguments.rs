@@ -1,7 +1,8 @@
 //! The command line: what is asked for, or one line that says what is wrong with it.
 
-use crate::manual::{COLORS, GENERATED};
+use crate::manual::{COLORS, GENERATED, VERBS};
 use crate::paging::{Page, MOST_FINDINGS};
+use crate::report::Asked;
 use crate::safe;
 use crate::style::When;
 use lexopt::{Arg, Error, Parser};
@@ -41,18 +42,20 @@ pub enum Command {
     Generate(usize),
     Explain(usize),
     Check(Check),
+    Report(Asked),
 }
 
 /// What was found so far on the command line.
 #[derive(Default)]
 struct Found {
     words: Vec<OsString>,
-    /// The options of `check` that were there.
+    /// The options of a command that were there.
     given: Vec<&'static str>,
     after: Option<[i32; 3]>,
     room: Option<usize>,
     jobs: Option<usize>,
     color: usize,
+    output: Option<PathBuf>,
 }
 
 /// Reads the words after the command's own name.
@@ -75,6 +78,7 @@ pub fn parse(words: &[OsString]) -> Result<Command, String> {
             Arg::Long("room") => "room",
             Arg::Long("jobs") => "jobs",
             Arg::Long("color") => "color",
+            Arg::Short('o') | Arg::Long("output") => "output",
             Arg::Long(other) => return Err(format!("unknown option {}", shown(format!("--{other}").as_ref()))),
             Arg::Short(other) => return Err(format!("unknown option {}", shown(format!("-{other}").as_ref()))),
             Arg::Value(word) => {
@@ -87,7 +91,7 @@ pub fn parse(words: &[OsString]) -> Result<Command, String> {
     finish(found)
 }
 
-/// Reads one option of `check`, with its value where it has one; none may stand twice.
+/// Reads one option of a command, with its value where it has one; none may stand twice.
 fn option(found: &mut Found, name: &'static str, parser: &mut Parser) -> Result<(), String> {
     if found.given.contains(&name) {
         return Err(format!("--{name} stands twice"));
@@ -98,6 +102,7 @@ fn option(found: &mut Found, name: &'static str, parser: &mut Parser) -> Result<
         "room" => found.room = Some(number("--room", &parser.value().map_err(said)?, 0, MOST_FINDINGS)?),
         "jobs" => found.jobs = Some(number("--jobs", &parser.value().map_err(said)?, 1, MOST_JOBS)?),
         "color" => found.color = one_of("--color", COLORS, &parser.value().map_err(said)?)?,
+        "output" => found.output = Some(PathBuf::from(parser.value().map_err(said)?)),
         _ => {}
     }
     Ok(())
@@ -144,18 +149,36 @@ fn one_of(option: &str, choices: &[&str], word: &OsStr) -> Result<usize, String>
 /// Puts together what was found.
 fn finish(mut found: Found) -> Result<Command, String> {
     if found.words.is_empty() {
-        return Err("say what to do: check FEED, explain RULE, or --help".to_string());
+        return Err("say what to do: check FEED, report FEED, explain RULE, or --help".to_string());
     }
     let verb = found.words.remove(0);
+    let name = verb.to_str().unwrap_or_default();
+    if let Some(other) = found.given.iter().find(|option| !takes(name, option)) {
+        return Err(format!("{name} takes no --{other}"));
+    }
     match verb.to_str() {
         Some("check") => check(found).map(Command::Check),
-        Some(verb) if ["explain", "help"].contains(&verb) && !found.given.is_empty() => {
-            Err(format!("{verb} takes no --{}", found.given[0]))
-        }
+        Some("report") => report(found).map(Command::Report),
         Some("explain") => explain(&found.words),
         Some("help") => Ok(Command::Help),
-        _ => Err(format!("unknown command {}; there are check, explain and --help", shown(&verb))),
+        _ => Err(format!("unknown command {}; there are check, report, explain and --help", shown(&verb))),
     }
+}
+
+/// Does a command take this option? What is no command is complained of as such.
+fn takes(name: &str, option: &str) -> bool {
+    match VERBS.iter().find(|verb| verb.name == name) {
+        Some(verb) => verb.flags.iter().any(|flag| flag.long == option),
+        None => name != "help",
+    }
+}
+
+fn report(mut found: Found) -> Result<Asked, String> {
+    if found.words.len() != 1 {
+        return Err("report takes one feed: a folder or a zip file".to_string());
+    }
+    let follow_links = found.given.contains(&"follow-links");
+    Ok(Asked { feed: PathBuf::from(found.words.remove(0)), output: found.output, follow_links })
 }
 
 fn explain(words: &[OsString]) -> Result<Command, String> {
@@ -232,23 +255,38 @@ mod tests {
         assert!(parsed("check f g --all --room 3 --json").is_ok());
     }
 
+    #[test]
+    fn a_report_and_its_file() {
+        let asked = |output: Option<&str>, follow_links| {
+            let output = output.map(PathBuf::from);
+            Ok(Command::Report(Asked { feed: PathBuf::from("f"), output, follow_links }))
+        };
+        assert_eq!(parsed("report f"), asked(None, false));
+        for line in ["report f -o g", "report -og f", "report --output=g f", "report --output g -- f"] {
+            assert_eq!(parsed(line), asked(Some("g"), false), "{line}");
+        }
+        assert_eq!(parsed("report f -L -o g"), asked(Some("g"), true));
+    }
+
     /// Whatever stands in the table of options is read, and with a value where it has one.
     #[test]
     fn the_table_is_true() {
-        for flag in manual::all_flags() {
+        let of_verbs = VERBS.iter().flat_map(|verb| verb.flags.iter().map(move |flag| (verb.name, flag)));
+        let everywhere = VERBS.iter().flat_map(|verb| manual::FLAGS.iter().map(move |flag| (verb.name, flag)));
+        for (verb, flag) in of_verbs.chain(everywhere) {
             let value = match (flag.value, flag.choices) {
                 (Some(_), []) if flag.long == "after" => "=1,2,3".to_string(),
                 (Some(_), []) => "=1".to_string(),
                 (Some(_), choices) => format!("={}", choices[0]),
                 (None, _) => String::new(),
             };
-            let read = parsed(&format!("check f --{}{value}", flag.long));
+            let read = parsed(&format!("{verb} f --{}{value}", flag.long));
             assert!(read.is_ok(), "--{}: {read:?}", flag.long);
             let other = if flag.value.is_some() { "" } else { "=1" };
-            let wrong = parsed(&format!("check --{}{other}", flag.long));
+            let wrong = parsed(&format!("{verb} --{}{other}", flag.long));
             assert!(wrong.is_err() || matches!(wrong, Ok(Command::Help | Command::Version)), "--{}", flag.long);
             if let Some(short) = flag.short {
-                assert_eq!(parsed(&format!("check f -{short}")), read);
+                assert_eq!(parsed(&format!("{verb} f -{short}{value}")), read);
             }
         }
         assert!(manual::help().contains(&format!("0 to {MOST_FINDINGS}")));
@@ -281,6 +319,13 @@ mod tests {
             "check f --room 1 --room 2",
             "check f -x",
             "check f --jso",
+            "check f --output g",
+            "report",
+            "report f g",
+            "report f -o",
+            "report f -o g -o h",
+            "report f --json",
+            "report f --room 3",
             "explain",
             "explain x",
             "explain 1 2",

@@ -19,11 +19,13 @@ fn find(number: usize) -> Option<(usize, &'static str)> {
 }
 
 /// What a refusal or a rule means, in one line.
+#[must_use]
 pub fn meaning(number: usize) -> &'static str {
     find(number).map_or("a rule that docs/RULES.md doesn't know", |(_, meaning)| meaning)
 }
 
 /// The section of a refusal or a rule, from its heading to the next one.
+#[must_use]
 pub fn page(number: usize) -> Option<&'static str> {
     let (start, _) = find(number)?;
     let body = &RULES[start..];
@@ -32,6 +34,7 @@ pub fn page(number: usize) -> Option<&'static str> {
 }
 
 /// What to say for a number that has no section.
+#[must_use]
 pub fn no_such(number: usize) -> String {
     format!("there is no refusal or rule {number}: refusals are 1 to 13, rules 20 to 31")
 }

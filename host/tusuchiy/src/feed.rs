@@ -9,11 +9,7 @@ use std::path::{Path, PathBuf};
 /// The files, in the order of their numbers 1 to 5.
 pub const NAMES: [&str; 5] = ["stops.txt", "routes.txt", "calendar.txt", "trips.txt", "stop_times.txt"];
 
-/// The most bytes that rule 1 allows a file.
-pub const MOST_BYTES: usize = 16_777_216;
-
-/// The most lines that rule 2 allows a file.
-pub const MOST_LINES: usize = 65_536;
+pub use tusuchiy::{MOST_BYTES, MOST_LINES};
 
 /// How many names of files that aren't read are kept.
 const KEPT_NAMES: usize = 20;

@@ -1,5 +1,43 @@
-//! The proved check, called from Rust: one safe function over the function that the archive exports.
+//! The proved check of GTFS feeds, for programs in Rust.
+//!
+//! [`Check`] takes the bytes of a feed's five files, lends the memory that the check asks for, and gives its verdict and
+//! its findings. What they mean is told by [`Rule`] and [`Refusal`].
+//!
+//! ```
+//! use tusuchiy::{Check, File, Verdict};
+//!
+//! let files: [&[u8]; 5] = [
+//!     b"stop_id,stop_name,stop_lat,stop_lon\nA,Alder,1.5,2\n",
+//!     b"route_id,route_short_name,route_type\nR,1,3\n",
+//!     b"service_id,monday,tuesday,wednesday,thursday,friday,saturday,sunday,start_date,end_date\n",
+//!     b"route_id,service_id,trip_id\nR,W,T\n",
+//!     b"trip_id,arrival_time,departure_time,stop_id,stop_sequence\n",
+//! ];
+//! let mut check = Check::new(files)?;
+//! match check.verdict()? {
+//!     Verdict::Accepted => println!("accepted"),
+//!     Verdict::Refused(fault) => println!("{fault}"),
+//!     Verdict::Findings { total, .. } => assert_eq!(total, 2),
+//! }
+//! let mut told = Vec::new();
+//! for finding in check.findings() {
+//!     let finding = finding?;
+//!     told.push((finding.file, finding.line, finding.rule.number()));
+//!     println!("{finding}");
+//! }
+//! assert_eq!(told, [(File::Trips, 2, 21), (File::Trips, 2, 30)]);
+//! # Ok::<(), tusuchiy::Error>(())
+//! ```
+//!
+//! [`try_check`] is the function below all this: it takes tables and a list as they are lent, and allocates nothing.
 #![deny(unsafe_code)]
+
+mod check;
+pub mod explain;
+mod kinds;
+
+pub use check::{table_sizes, Check, Error, Findings, Page, Place};
+pub use kinds::{Fault, File, Finding, Refusal, Rule};
 
 use std::io;
 use std::thread;
@@ -13,9 +51,14 @@ const THREAD_STACK: usize = 4 * STACK;
 /// How many numbers a record of each file has, stops first: a table needs its width times its file's LF count.
 pub const WIDTHS: [usize; 5] = [6, 3, 5, 7, 8];
 
+/// The most bytes that rule 1 allows a file, and the most lines that rule 2 does.
+pub const MOST_BYTES: usize = 16_777_216;
+pub const MOST_LINES: usize = 65_536;
+
 /// The answer as the archive gives it; include/tusuchiy.h says what each number means.
 #[repr(C)]
 #[derive(Clone, Copy, Debug, PartialEq, Eq)]
+#[must_use]
 pub struct Answer {
     pub verdict: i32,
     pub number: i32,
@@ -28,13 +71,14 @@ pub struct Answer {
 
 /// The answer in words.
 #[derive(Clone, Copy, Debug, PartialEq, Eq)]
+#[must_use]
 pub enum Verdict {
     /// The feed can be read and has no finding.
     Accepted,
     /// How many findings were written to the list, and how many the whole feed has.
     Findings { written: usize, total: usize },
-    /// The rule broken (1 to 13), the file (1 to 5) and the line (0 for a whole file).
-    Refused { number: usize, file: usize, line: usize },
+    /// A file can't be read; the fault is the first one.
+    Refused(Fault),
 }
 
 impl Answer {
@@ -44,10 +88,7 @@ impl Answer {
         match self.verdict {
             0 => Some(Verdict::Accepted),
             1 => Some(Verdict::Findings { written: size(self.written)?, total: size(self.total)? }),
-            2 => {
-                let (number, file, line) = (size(self.number)?, size(self.file)?, size(self.line)?);
-                (1..=5).contains(&file).then_some(Verdict::Refused { number, file, line })
-            }
+            2 => Fault::of(self).map(Verdict::Refused),
             _ => None,
         }
     }
@@ -129,6 +170,13 @@ mod tests {
         let tables = tables.each_mut().map(|table| &mut table[..]);
         let answer = on_stack(STACK, move || archive::check(files, tables, &mut [0; 30], [0, 0, 0]));
         assert_eq!(answer.expect("a thread").verdict(), Some(Verdict::Findings { written: 5, total: 5 }));
+    }
+
+    /// The header has the version of this package.
+    #[test]
+    fn the_version_is_the_same() {
+        let line = format!("#define TUSUCHIY_VERSION \"{}\"\n", env!("CARGO_PKG_VERSION"));
+        assert!(include_str!("../../../include/tusuchiy.h").contains(&line), "{line}");
     }
 
     /// The README and the header have the same figure.

@@ -3,7 +3,6 @@
 
 mod arguments;
 mod columns;
-mod explain;
 mod facts;
 mod feed;
 mod fields;
@@ -15,6 +14,7 @@ mod memory;
 mod paging;
 mod progress;
 mod refusals;
+mod report;
 mod safe;
 mod source;
 mod style;
@@ -25,6 +25,7 @@ mod zip;
 use arguments::Command;
 use std::io::{self, Write};
 use std::process::ExitCode;
+use tusuchiy::explain;
 
 /// The exit status where the command could not do what it was asked for.
 const COULD_NOT_RUN: u8 = 3;
@@ -52,6 +53,7 @@ fn complain(message: &str) -> u8 {
 fn run(command: Command) -> Result<u8, String> {
     let page = match command {
         Command::Check(check) => return Ok(many::run(&check)),
+        Command::Report(asked) => return many::guarded(|| report::run(&asked)),
         Command::Help => manual::help(),
         Command::Version => format!("tusuchiy {}\n", env!("CARGO_PKG_VERSION")),
         Command::Explain(number) => format!("{}\n", explain::page(number).ok_or_else(|| explain::no_such(number))?),

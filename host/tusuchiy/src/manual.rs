@@ -27,6 +27,8 @@ const fn valued(long: &'static str, value: &'static str, help: &'static str) -> 
     Flag { long, short: None, value: Some(value), choices: &[], help }
 }
 
+const FOLLOW_LINKS: Flag = flag("follow-links", Some('L'), "read what symbolic links in a feed's folder name");
+
 pub const COLORS: &[&str] = &["auto", "always", "never"];
 pub const GENERATED: &[&str] = &["man", "complete-bash", "complete-fish", "complete-zsh"];
 
@@ -41,12 +43,21 @@ pub const VERBS: &[Verb] = &[
             flag("quiet", Some('q'), "the verdict alone"),
             valued("after", "FILE,LINE,RULE", "the findings after this place only (0,0,0 is the beginning)"),
             valued("room", "N", "one page: at most N findings, 0 to 983040"),
-            flag("follow-links", Some('L'), "read what symbolic links in a feed's folder name"),
+            FOLLOW_LINKS,
             valued("jobs", "N", "check at most N feeds at a time, 1 to 256; as many as there are processors if not given"),
             Flag {
                 choices: COLORS,
                 ..valued("color", "WHEN", "colours: auto (on a terminal, unless NO_COLOR is set), always or never")
             },
+        ],
+    },
+    Verb {
+        name: "report",
+        operand: "FEED",
+        help: "checks a feed and writes one page about it, for a browser: all findings with filters, a map, time diagrams",
+        flags: &[
+            Flag { short: Some('o'), ..valued("output", "FILE", "the file to write, as report.html; standard output if not given") },
+            FOLLOW_LINKS,
         ],
     },
     Verb {
@@ -80,10 +91,11 @@ pub const STATUSES: [(u8, &str); 4] = [
 ];
 
 /// What people type most.
-const EXAMPLES: [(&str, &str); 4] = [
+const EXAMPLES: [(&str, &str); 5] = [
     ("tusuchiy check feed.zip", "the verdict and the first findings of each rule"),
     ("tusuchiy check --quiet feed && publish feed", "go on only with an accepted feed"),
     ("tusuchiy check --json *.zip | jq .verdict", "many feeds, for a program"),
+    ("tusuchiy report feed.zip --output report.html", "a page to forward or to file"),
     ("tusuchiy explain 21", "what rule 21 means"),
 ];
 

@@ -102,16 +102,21 @@ impl Desk<'_> {
                 text::write(out, feed, report, &layout)
             }
         })?;
-        Ok(match report.outcome {
-            Outcome::Accepted => 0,
-            Outcome::Findings { .. } => 1,
-            Outcome::Refused { .. } => 2,
-        })
+        Ok(status(report))
     }
 }
 
-/// Whatever happens, the other feeds go on.
-fn guarded<Done>(work: impl FnOnce() -> Result<Done, String>) -> Result<Done, String> {
+/// The exit status that a verdict has.
+pub fn status(report: &Report) -> u8 {
+    match report.outcome {
+        Outcome::Accepted => 0,
+        Outcome::Findings { .. } => 1,
+        Outcome::Refused { .. } => 2,
+    }
+}
+
+/// Whatever happens, the other feeds go on, and the status is the command's own.
+pub fn guarded<Done>(work: impl FnOnce() -> Result<Done, String>) -> Result<Done, String> {
     let fault = |_| Err("a fault of the command itself, not of the feed".to_string());
     panic::catch_unwind(AssertUnwindSafe(work)).unwrap_or_else(fault)
 }

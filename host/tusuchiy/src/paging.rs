@@ -2,8 +2,7 @@
 
 use crate::feed::{Feed, MOST_LINES};
 use crate::progress::Progress;
-use std::collections::TryReserveError;
-use tusuchiy::{Verdict, WIDTHS};
+use tusuchiy::{Check, Place, Verdict};
 
 /// How many findings one call may hand out when all are wanted.
 const PAGE_ROOM: usize = 65_536;
@@ -44,54 +43,16 @@ pub struct Report {
     pub tables: [Vec<i32>; 5],
 }
 
-/// Memory lent to the check.
-struct Lent {
-    tables: [Vec<i32>; 5],
-    list: Vec<i32>,
-}
-
-/// As much as the feed's lines ask for, and a list with this room.
-fn lend(feed: &Feed, room: usize) -> Result<Lent, TryReserveError> {
-    let mut tables: [Vec<i32>; 5] = Default::default();
-    for file in 0..5 {
-        // A file with more lines is refused before its table is measured.
-        tables[file] = zeros(WIDTHS[file] * feed.line_count(file + 1).min(MOST_LINES))?;
-    }
-    Ok(Lent { tables, list: zeros(room * 3)? })
-}
-
-fn zeros(length: usize) -> Result<Vec<i32>, TryReserveError> {
-    let mut numbers = Vec::new();
-    numbers.try_reserve_exact(length)?;
-    numbers.resize(length, 0);
-    Ok(numbers)
-}
-
 /// One call of the check, which adds to the list what it hands out; the verdict.
-fn call(feed: &Feed, lent: &mut Lent, after: [i32; 3], list: &mut Vec<Finding>) -> Result<Verdict, String> {
-    let tables = lent.tables.each_mut().map(|table| &mut table[..]);
-    let answer = tusuchiy::try_check(feed.slices(), tables, &mut lent.list, after);
-    let answer = answer.map_err(|error| format!("can't run the check: {error}"))?;
-    let unknown = || format!("the check gave an answer that nobody knows: {answer:?}");
-    let verdict = answer.verdict().ok_or_else(unknown)?;
-    let written = if let Verdict::Findings { written, .. } = verdict { written } else { 0 };
-    let numbers = lent.list.get(..written * 3).ok_or_else(unknown)?;
-    list.try_reserve_exact(written).map_err(no_memory)?;
-    for numbers in numbers.chunks_exact(3) {
-        list.push(finding(numbers).ok_or_else(unknown)?);
-    }
-    Ok(verdict)
-}
-
-/// A finding from its three numbers, if its file is one of the five.
-fn finding(numbers: &[i32]) -> Option<Finding> {
-    let number = |place: usize| usize::try_from(numbers[place]).ok();
-    let file = number(0).filter(|file| (1..=5).contains(file))?;
-    Some(Finding { file, line: number(1)?, rule: number(2)? })
-}
-
-fn no_memory(error: TryReserveError) -> String {
-    error.to_string()
+fn call(check: &mut Check, after: [i32; 3], room: usize, list: &mut Vec<Finding>) -> Result<Verdict, String> {
+    let page = check.page(Place(after), room).map_err(|error| error.to_string())?;
+    list.try_reserve_exact(page.findings.len()).map_err(|error| error.to_string())?;
+    list.extend(page.findings.iter().map(|found| Finding {
+        file: found.file.number(),
+        line: found.line,
+        rule: found.rule.number(),
+    }));
+    Ok(page.verdict)
 }
 
 /// Checks a feed: one page as the check hands it out, or all findings.
@@ -102,25 +63,26 @@ pub fn check(feed: &Feed, page: Option<Page>, progress: &Progress) -> Result<Rep
 /// The same with pages of this room where no other is asked for.
 fn check_by(feed: &Feed, page: Option<Page>, room: usize, progress: &Progress) -> Result<Report, String> {
     let asked = page.and_then(|page| page.room);
-    let mut lent = lend(feed, asked.unwrap_or(room)).map_err(no_memory)?;
+    let mut lent = Check::new(feed.slices()).map_err(|error| error.to_string())?;
     let start = page.map_or([0, 0, 0], |page| page.after);
     let mut list = Vec::new();
-    let mut verdict = call(feed, &mut lent, start, &mut list)?;
+    let mut verdict = call(&mut lent, start, asked.unwrap_or(room), &mut list)?;
     if let (None, Some(more)) = (asked, more(verdict, list.len(), room)) {
         progress.findings(list.len());
-        lent.list = zeros(more * 3).map_err(no_memory)?;
         let last = list.last().map_or(start, |last| [last.file, last.line, last.rule].map(|number| number as i32));
-        verdict = call(feed, &mut lent, last, &mut list)?;
+        verdict = call(&mut lent, last, more, &mut list)?;
     }
     let outcome = match verdict {
         Verdict::Accepted => Outcome::Accepted,
-        Verdict::Refused { number, file, line } => Outcome::Refused { number, file, line },
+        Verdict::Refused(fault) => {
+            Outcome::Refused { number: fault.refusal.number(), file: fault.file.number(), line: fault.line }
+        }
         Verdict::Findings { total, .. } if page.is_none() && total != list.len() => {
             return Err(format!("the check handed out {} findings and counts {total}", list.len()));
         }
         Verdict::Findings { total, .. } => Outcome::Findings { list, total },
     };
-    Ok(Report { outcome, page, tables: lent.tables })
+    Ok(Report { outcome, page, tables: lent.into_tables() })
 }
 
 /// How many findings there may be behind a page with this room, if there may be any: a page that isn't full is the
@@ -171,7 +133,8 @@ mod tests {
         assert_eq!([6, 7, 8].map(|room| more(findings(6), 6, room)), [None; 3]);
         assert_eq!([6, 7].map(|room| more(findings(9), 6, room)), [Some(3), None]);
         assert_eq!(more(findings(6), 0, 0), None);
-        let refused = Verdict::Refused { number: 4, file: 1, line: 0 };
+        let (file, refusal) = (tusuchiy::File::Stops, tusuchiy::Refusal::new(4).expect("a refusal"));
+        let refused = Verdict::Refused(tusuchiy::Fault { file, line: 0, refusal });
         assert_eq!([Verdict::Accepted, refused].map(|verdict| more(verdict, 0, 6)), [None; 2]);
     }
 

@@ -5,7 +5,7 @@ use crate::facts::{names, shown, shown_value, About};
 use crate::feed::{Feed, MOST_BYTES, MOST_LINES, NAMES};
 use crate::fields::{split, value, Wrong};
 use crate::value::{Members, Value};
-use tusuchiy::{Verdict, WIDTHS};
+use tusuchiy::{Check, Verdict};
 
 /// The most fields that rule 7 allows a line, and the most bytes that rule 11 allows an id.
 const MOST_FIELDS: usize = 32;
@@ -141,11 +141,8 @@ fn about_value(number: usize, column: &Column, field: usize, value: &[u8]) -> Ab
 fn refused(file: usize, column: &Column, raw: &[u8]) -> Option<usize> {
     let files =
         [1, 2, 3, 4, 5].map(|other| one_line(other, |name| (other == file && name == column.name).then_some(raw)));
-    let mut tables = WIDTHS.map(|width| vec![0; width * 2]);
-    let tables = tables.each_mut().map(|table| &mut table[..]);
-    let answer = tusuchiy::try_check(files.each_ref().map(|file| &file[..]), tables, &mut [], [0, 0, 0]).ok()?;
-    match answer.verdict()? {
-        Verdict::Refused { number, file: told, line: 2 } if told == file => Some(number),
+    match Check::new(files.each_ref().map(|file| &file[..])).ok()?.verdict().ok()? {
+        Verdict::Refused(fault) if (fault.file.number(), fault.line) == (file, 2) => Some(fault.refusal.number()),
         _ => None,
     }
 }

@@ -26,7 +26,10 @@ fn words(answer: &Answer) -> model::Answer {
     match answer.verdict().unwrap_or_else(|| panic!("unknown answer {answer:?}")) {
         Verdict::Accepted => model::Answer::Accepted,
         Verdict::Findings { written, total } => model::Answer::Findings { written, total },
-        Verdict::Refused { number, file, line } => model::Answer::Refused { number, file, line },
+        Verdict::Refused(fault) => {
+            let (number, file) = (fault.refusal.number(), fault.file.number());
+            model::Answer::Refused { number, file, line: fault.line }
+        }
     }
 }
 

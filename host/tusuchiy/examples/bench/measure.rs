@@ -42,7 +42,9 @@ fn words(answer: &tusuchiy::Answer) -> Answer {
     match answer.verdict().expect("a known answer") {
         Verdict::Accepted => Answer::Accepted,
         Verdict::Findings { written, total } => Answer::Findings { written, total },
-        Verdict::Refused { number, file, line } => Answer::Refused { number, file, line },
+        Verdict::Refused(fault) => {
+            Answer::Refused { number: fault.refusal.number(), file: fault.file.number(), line: fault.line }
+        }
     }
 }
 

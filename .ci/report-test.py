@@ -1,0 +1,379 @@
+# Opens reports in a browser and compares what they show with the JSON document: PROGRAM..., then the folder for pictures.
+import collections
+import json
+import os
+import subprocess
+import sys
+import tempfile
+import time
+
+sys.path.insert(0, os.path.dirname(os.path.abspath(__file__)))
+import feeds  # noqa: E402
+from browser import Browser  # noqa: E402
+
+TOP = os.path.dirname(os.path.dirname(os.path.abspath(__file__)))
+PROGRAM, PICTURES = sys.argv[1:-1], sys.argv[-1]
+PAGE = 50
+
+
+def same(what, have, wanted):
+    if have != wanted:
+        raise AssertionError(f"{what}:\n  have   {have!r}\n  wanted {wanted!r}")
+
+
+def holds(what, condition):
+    if not condition:
+        raise AssertionError(what)
+
+
+# A feed with its page and what the command says of it otherwise; all are made at the same time.
+class Case:
+    def __init__(self, folder, name, feed, plain=False):
+        self.name, self.page = name, os.path.join(folder, name + ".html")
+        self.feed = feed
+        words = {"report": ["report", feed, "-o", self.page], "json": ["check", "--json", feed]}
+        # Where all text is plain, the document shows it as the command does.
+        if not plain:
+            words["text"] = ["check", "--all", feed]
+        self.runs = {key: subprocess.Popen(PROGRAM + value, cwd=folder, stdout=subprocess.PIPE) for key, value in words.items()}
+
+    # What the runs printed; the statuses agree.
+    def wait(self):
+        said = {key: run.communicate()[0].decode() for key, run in self.runs.items()}
+        same(f"{self.name}: statuses", len({run.returncode for run in self.runs.values()}), 1)
+        self.json = json.loads(said["json"])
+        self.findings = self.json["findings"] or [self.json["refusal"]] * (self.json["refusal"] is not None)
+        # The lines as the command shows them: each stands below its place.
+        self.texts, place = {f"{found['name']}:{found['line']}": found["text"] for found in self.findings}, None
+        for line in said.get("text", "").splitlines():
+            if line.startswith(self.feed + "/"):
+                place = line[len(self.feed) + 1:].split(": ", 1)[0]
+            elif line.startswith("    "):
+                self.texts[place] = line[4:]
+        return self
+
+
+# What a card shows.
+CARDS = """[...document.querySelectorAll('#list > .finding')].map((card) => ({
+  place: Number(card.dataset.place), where: card.querySelector('.where').textContent, rule: card.querySelector('.rule').textContent,
+  words: card.querySelector('.words')?.textContent || '', text: card.querySelector('.own-line .line-text')?.textContent ?? null,
+  marks: [...card.querySelectorAll('.own-line mark')].map((mark) => [mark.title, mark.textContent]),
+  gaps: card.querySelectorAll('.own-line .gap').length, means: card.querySelectorAll('.body strong').length }))"""
+
+STATUS = "document.getElementById('status').textContent"
+
+
+def number(found):
+    return found.get("rule", found.get("number"))
+
+
+# The cards of the page that is shown are the findings that the document has there.
+def compare_cards(browser, case, wanted):
+    cards = browser.value(CARDS)
+    same(f"{case.name}: how many are shown", len(cards), len(wanted))
+    for card, found in zip(cards, wanted):
+        line = f", line {found['line']:,}" if found["line"] else ""
+        same(f"{case.name}: place", card["where"], found["name"] + line)
+        kind = "Rule" if "rule" in found else "Refusal"
+        same(f"{case.name}: rule", card["rule"], f"{kind} {number(found)}: {found['meaning']}")
+        same(f"{case.name}: words", card["words"], found["words"])
+        holds(f"{case.name}: how to mend {card}", card["means"] >= 3)
+        if found["text"] is not None and not card["gaps"]:
+            same(f"{case.name}: text of {card['where']}", card["text"], case.texts[f"{found['name']}:{found['line']}"])
+        compare_marks(case, card, found)
+
+
+# What is marked stands in the finding's own columns.
+def compare_marks(case, card, found):
+    columns = {20: 1, 21: 1, 22: 1, 23: 1, 24: 2, 26: 2, 27: 2, 28: 1, 29: 1, 30: 1, 31: 1, 5: 1, 6: 1, 8: 1, 11: 1, 12: 1, 13: 1}
+    holds(f"{case.name}: marks of {card}", len(card["marks"]) >= columns.get(number(found), 0))
+    about = found["about"]
+    if number(found) in (20, 11, 13):
+        same(f"{case.name}: mark", card["marks"][0][1].strip('"'), about["value"])
+    if number(found) == 24:
+        same(f"{case.name}: marks", [text for _, text in card["marks"]], [about["start_date"], about["end_date"]])
+    if number(found) == 28:
+        same(f"{case.name}: mark", int(card["marks"][0][1]), about["stop_sequence"])
+
+
+# Waits until so many are chosen, and the first page of them is shown.
+def chosen(browser, case, count):
+    word = "refusal" if case.json["refusal"] else "finding"
+    total = f", of {len(case.findings):,} in all" if count < len(case.findings) else ""
+    wanted = f"{f'1 to {PAGE} of ' if count > PAGE else ''}{count:,} {word}{'s' * (count != 1)}{total}"
+    if count == 0:
+        wanted = f"No {word} fits the filter{total}"
+    try:
+        browser.wait(f"{STATUS} === {json.dumps(wanted)}", 20)
+    except TimeoutError:
+        same(f"{case.name}: status", browser.value(STATUS), wanted)
+
+
+# Walks over pages by their buttons and compares each; of a long list the first two, one in the middle and the last.
+def walk(browser, case):
+    pages = max(1, -(-len(case.findings) // PAGE))
+    chosen(browser, case, len(case.findings))
+    for page in range(pages) if pages < 6 else [0, 1, pages // 2, pages - 1]:
+        if page == pages // 2 and pages >= 6:
+            browser.value(f"(() => {{ const box = document.querySelector('#pages-above input'); box.value = {page + 1}; box.dispatchEvent(new Event('change')); }})()")
+        elif page == pages - 1 and pages >= 6:
+            browser.value("document.querySelector('#pages-below [aria-label=\"Last page\"]').click()")
+        elif page:
+            browser.value("document.querySelector('#pages-above [aria-label=\"Next page\"]').click()")
+        compare_cards(browser, case, case.findings[page * PAGE:(page + 1) * PAGE])
+    holds(f"{case.name}: the next page", pages == 1 or browser.value("document.querySelector('[aria-label=\"Next page\"]').disabled"))
+    browser.value("document.getElementById('filter').reset()")
+
+
+# Verdict, totals and records.
+def compare_head(browser, case):
+    document = case.json
+    total = len(case.findings)
+    words = {"accepted": "✓Accepted", "refused": "✕Refused", "findings": f"!{total:,} finding{'s' * (total != 1)}"}
+    same(f"{case.name}: verdict", browser.value("document.getElementById('verdict').textContent"), words[document["verdict"]])
+    counts = collections.Counter(number(found) for found in case.findings)
+    rows = browser.value("[...document.querySelectorAll('#totals tbody tr')].map((row) => [Number(row.dataset.number), row.querySelector('.count').textContent])")
+    same(f"{case.name}: totals", rows, [[rule, f"{count:,}"] for rule, count in sorted(counts.items())])
+    if document["totals"]:
+        same(f"{case.name}: totals of the document", [[one["rule"], one["count"]] for one in document["totals"]], sorted(map(list, counts.items())))
+    records = browser.value("[...document.querySelectorAll('#read tbody tr')].map((row) => row.cells[1].textContent)")
+    same(f"{case.name}: records", records, [f"{count:,}" for count in document["records"] or []] or [""] * 5)
+    line = browser.value("document.getElementById('records')?.textContent ?? ''")
+    wanted = ", ".join(f"{name} {count:,}" for name, count in zip(feeds.NAMES, document["records"] or []))
+    same(f"{case.name}: records in a line", line, f"Records read: {wanted}. More" if wanted else "")
+
+
+def set_filter(browser, **values):
+    for name, value in values.items():
+        browser.value(f"(() => {{ const box = document.getElementById('filter-{name}'); box.value = {json.dumps(str(value))}; box.dispatchEvent(new Event('{'input' if name == 'text' else 'change'}', {{bubbles: true}})); }})()")
+
+
+# Each filter leaves the findings that the document has for it.
+def filters(browser, case, text):
+    for file in sorted({found["file"] for found in case.findings}):
+        wanted = [found for found in case.findings if found["file"] == file]
+        set_filter(browser, file=file)
+        chosen(browser, case, len(wanted))
+        compare_cards(browser, case, wanted[:PAGE])
+    set_filter(browser, file=0)
+    for rule in sorted({number(found) for found in case.findings}):
+        wanted = [found for found in case.findings if number(found) == rule]
+        browser.value(f"document.querySelector('#totals tr[data-number=\"{rule}\"] .count button').click()")
+        chosen(browser, case, len(wanted))
+        compare_cards(browser, case, wanted[:PAGE])
+    browser.value("document.getElementById('filter').reset()")
+    set_filter(browser, text=text)
+    wanted = [found for found in case.findings if text.lower() in (found["words"] + "\n" + (found["text"] or "")).lower()]
+    holds(f"{case.name}: some have '{text}' and some don't", 0 < len(wanted) < len(case.findings))
+    chosen(browser, case, len(wanted))
+    compare_cards(browser, case, wanted[:PAGE])
+    set_filter(browser, text="nobody has this text")
+    chosen(browser, case, 0)
+    browser.value("document.getElementById('filter').reset()")
+    chosen(browser, case, len(case.findings))
+
+
+# Where the nth dot of a layer of the map is on the screen.
+DOT = """(() => { const path = document.querySelector('#map .LAYER'), dot = path.getAttribute('d').split('M')[PLACE + 1].split(/[ h]/).map(Number);
+  document.getElementById('map').scrollIntoView({block: 'center', behavior: 'instant'});
+  const point = new DOMPoint(dot[0], dot[1]).matrixTransform(path.getScreenCTM()); return [point.x, point.y]; })()"""
+
+
+# Every stop is drawn, the faulty ones apart, and a click on one leads to its findings.
+def stops_map(browser, case):
+    own = sorted({found["line"] for found in case.findings if found["file"] == 1})
+    dots = "['stop', 'call', 'own'].map((name) => document.querySelector('#map .' + name).getAttribute('d').split('M').length - 1)"
+    plain, calls, marked = browser.value(dots)
+    same(f"{case.name}: stops with findings of their own", marked, len(own))
+    same(f"{case.name}: all stops", plain + calls + marked, case.json["records"][0])
+    for n, line in enumerate(own[:3]):
+        browser.click(*browser.value(DOT.replace("LAYER", "own").replace("PLACE", str(n))))
+        browser.wait("!document.getElementById('stop-filter').hidden")
+        lines = browser.value("[...document.querySelectorAll('#list .where')].map((where) => where.textContent)")
+        holds(f"{case.name}: a click on the stop of line {line} shows {lines}", f"stops.txt, line {line}" in lines)
+        same(f"{case.name}: the place of the focus", browser.value("document.activeElement.id"), "findings")
+        browser.value("document.getElementById('stop-filter-clear').click()")
+        chosen(browser, case, len(case.findings))
+    return calls
+
+
+# The trip's rows go by sequence, the step that falls is drawn once, and a departure before its arrival too.
+def time_diagram(browser, case):
+    picture = "document.querySelector('.diagram[open] svg')"
+    rows = browser.value(f"[...{picture}.querySelectorAll('text')].map((text) => text.firstChild.data).filter((text) => / /.test(text))")
+    same("shuffled: rows", [" ".join(row.split()) for row in rows], ["10 A", "20 B", "30 C", "40 D"])
+    same("shuffled: steps that fall", browser.value(f"{picture}.querySelectorAll('.fall').length"), 1)
+    same("shuffled: departures before arrivals", browser.value(f"{picture}.querySelectorAll('.back').length"), 1)
+    label = browser.value(f"{picture}.getAttribute('aria-label')")
+    holds(label, "line 4 arrives at 08:40:00, before line 2 departs at 08:50:00" in label)
+
+
+# By keys alone: the skip link first, then on to the filter; text typed there filters.
+def keyboard(browser, case):
+    browser.open(case.page)
+    browser.key("Tab", "Tab", 9)
+    same("the first stop of the focus", browser.value("document.activeElement.className"), "skip")
+    browser.key("Enter", "Enter", 13, "\r")
+    seen = []
+    for _ in range(8):
+        browser.key("Tab", "Tab", 9)
+        seen.append(browser.value("document.activeElement.id"))
+        if seen[-1] == "filter-text":
+            break
+    same("the way of the focus", seen, ["filter-file", "filter-number", "filter-text"])
+    browser.call("Input.insertText", text="stop_times.txt:")
+    chosen(browser, case, sum(found["file"] == 5 for found in case.findings))
+    browser.key("Tab", "Tab", 9)
+    browser.key("Enter", "Enter", 13, "\r")
+    chosen(browser, case, len(case.findings))
+
+
+# Whatever one can use has a name for a screen reader, and so has each picture.
+def names(browser, case):
+    roles = {"button", "combobox", "searchbox", "link", "spinbutton", "textbox", "image", "group", "list", "table", "navigation", "search"}
+    needing = roles - {"list", "table"}
+    seen = set()
+    for node in browser.call("Accessibility.getFullAXTree")["nodes"]:
+        role, name = node.get("role", {}).get("value"), node.get("name", {}).get("value")
+        if not node.get("ignored") and role in needing:
+            seen.add(role)
+            holds(f"{case.name}: a {role} without a name: {node}", name or role == "group")
+    return seen
+
+
+# The contrast of text against what it stands on, at its lowest.
+CONTRAST = """(() => { const parts = (color) => color.match(/[\\d.]+/g).map(Number);
+  const light = (color) => { const [r, g, b] = parts(color).map((part) => (part /= 255) <= .03928 ? part / 12.92 : ((part + .055) / 1.055) ** 2.4); return .2126 * r + .7152 * g + .0722 * b; };
+  const ground = (node) => { for (; node; node = node.parentElement) { const color = getComputedStyle(node).backgroundColor, [, , , opaque = 1] = parts(color); if (opaque > 0) return color; } return 'rgb(255, 255, 255)'; };
+  const nodes = [...document.querySelectorAll('p, h1, h2, h3, th, td, summary, mark, .place, .line-text, button:not(:disabled), label, code, a')].filter((node) => node.offsetParent && node.textContent.trim());
+  return nodes.map((node) => { const [one, other] = [light(getComputedStyle(node).color), light(ground(node))].sort((a, b) => b - a); return [(one + .05) / (other + .05), node.className || node.tagName, node.textContent.slice(0, 30)]; }).sort((a, b) => a[0] - b[0])[0]; })()"""
+
+
+# Light and dark can be read, and on a phone nothing sticks out.
+def looks(browser, case):
+    for dark in [False, True]:
+        browser.dark(dark)
+        lowest = browser.value(CONTRAST)
+        holds(f"{case.name}: contrast in the {'dark' if dark else 'light'}: {lowest}", lowest[0] >= 4.5)
+        browser.screenshot(os.path.join(PICTURES, f"{case.name}-{'dark' if dark else 'light'}.png"))
+    browser.dark(False)
+    for width in [320, 390]:
+        browser.size(width, 800, 1, True)
+        browser.wait("(document.querySelector('#map svg')?.viewBox.baseVal.width ?? 0) <= innerWidth")
+        time.sleep(0.3)
+        same(f"{case.name}: width on a phone", browser.value("document.documentElement.scrollWidth"), width)
+    browser.screenshot(os.path.join(PICTURES, f"{case.name}-phone.png"))
+    browser.size(1200, 900)
+
+
+# On paper stand more findings than on a page of the screen, and afterwards the page is as it was.
+def printed(browser, case):
+    browser.value("addEventListener('beforeprint', () => { window.printed = document.querySelectorAll('#list > .finding').length; })")
+    browser.pdf(os.path.join(PICTURES, f"{case.name}.pdf"))
+    same(f"{case.name}: printed", browser.value("window.printed"), min(300, len(case.findings)))
+    same(f"{case.name}: shown after printing", browser.value("document.querySelectorAll('#list > .finding').length"), min(PAGE, len(case.findings)))
+
+
+# Nothing of the feed became an element, a handler or a script.
+def harmless(browser, case):
+    same(f"{case.name}: scripts ran", browser.value("String(window.broken)"), "undefined")
+    odd = "[...document.querySelectorAll('img, iframe, object, embed, b, i, form:not(#filter), link, base')].filter((node) => !node.closest('noscript')).length"
+    same(f"{case.name}: odd elements", browser.value(odd), 0)
+    handlers = "[...document.querySelectorAll('*')].flatMap((node) => node.getAttributeNames()).filter((name) => name.startsWith('on')).length"
+    same(f"{case.name}: handlers", browser.value(handlers), 0)
+    same(f"{case.name}: styles", browser.value("document.querySelectorAll('style').length"), 1)
+    same(f"{case.name}: scripts", browser.value("[...document.scripts].filter((script) => script.type !== 'application/json').length"), 1)
+
+
+# What the content policy forbids doesn't happen, however it came into the page.
+def policy(browser, case):
+    browser.value("""(() => { for (const make of [() => { const script = document.createElement('script'); script.append('window.broken = 1'); document.body.append(script); },
+      () => { document.body.insertAdjacentHTML('beforeend', '<img src=x onerror="window.broken=1">'); }, () => { new Image().src = 'x.png'; },
+      () => { const link = document.createElement('link'); link.rel = 'stylesheet'; link.href = 'x.css'; document.head.append(link); }]) { try { make(); } catch (error) {} } })()""")
+    browser.value("new Promise((done) => setTimeout(done, 100))")
+    same(f"{case.name}: scripts ran", browser.value("String(window.broken)"), "undefined")
+    holds(f"{case.name}: the policy was broken and said so", len(browser.wrong()) >= 3)
+
+
+# Without its script the page still has the verdict, the totals and the first findings.
+def without_script(browser, case):
+    browser.call("Emulation.setScriptExecutionDisabled", value=True)
+    browser.call("Page.navigate", url="file://" + case.page)
+    browser.wait("document.readyState === 'complete'")
+    same(f"{case.name}: findings without a script", browser.value("document.querySelectorAll('noscript li').length"), min(100, len(case.findings)))
+    compare_head(browser, case)
+    browser.call("Emulation.setScriptExecutionDisabled", value=False)
+
+
+# 65,000 findings: few elements, no long standstill, and a text is found.
+def large(browser, case):
+    same("many: findings", len(case.findings), 65000)
+    seconds = browser.open(case.page)
+    holds(f"many: opened in {seconds:.1f} s", seconds < 20)
+    holds("many: elements", browser.value("document.querySelectorAll('main *').length") < 4000)
+    longest = browser.value("new Promise((done) => new PerformanceObserver((list) => done(Math.max(...list.getEntries().map((entry) => entry.duration)))).observe({type: 'longtask', buffered: true}) || setTimeout(() => done(0), 300))")
+    holds(f"many: the longest standstill was {longest} ms", longest < 4000)
+    print(f"report: 65,000 findings open in {seconds:.1f} s, the longest standstill {longest:.0f} ms", flush=True)
+
+
+# The README's picture: the totals, the map, and a finding with its time diagram.
+def picture(browser, case):
+    browser.size(1040, 1600, 0.7)
+    browser.open(case.page)
+    browser.value("document.querySelector('#totals tr[data-number=\"29\"] .count button').click()")
+    browser.wait("document.querySelectorAll('#list > .finding').length === 1")
+    browser.value("document.activeElement.blur(), scrollTo({top: 0, behavior: 'instant'})")
+    bottom = browser.value("document.getElementById('list').getBoundingClientRect().bottom")
+    browser.size(1040, int(bottom) + 20, 0.7)
+    browser.screenshot(os.path.join(PICTURES, "report.png"))
+
+
+def every_page(browser, case):
+    browser.open(case.page)
+    compare_head(browser, case)
+    if case.findings:
+        walk(browser, case)
+    same(f"{case.name}: what went wrong", browser.wrong(), [])
+    same(f"{case.name}: what was asked for", browser.asked(), ["file://" + case.page])
+    harmless(browser, case)
+
+
+def main():
+    os.makedirs(PICTURES, exist_ok=True)
+    with tempfile.TemporaryDirectory() as folder:
+        made = {name: getattr(feeds, name)(os.path.join(folder, name)) for name in ["many", "town", "hostile", "hostile_refused", "shuffled"]}
+        large_case = Case(folder, "many", "many", plain=True)
+        cases = {name: Case(folder, name, os.path.join(TOP, "examples", name)) for name in ["feed", "findings", "refused"]}
+        cases.update({name: Case(folder, name, name) for name in made if name != "many"})
+        browser = Browser()
+        try:
+            browser.size(1200, 900)
+            browser.dark(False)
+            for case in cases.values():
+                every_page(browser, case.wait())
+                looks(browser, case)
+            browser.open(cases["town"].page)
+            filters(browser, cases["town"], "entrance")
+            holds("town: stops where trips call", stops_map(browser, cases["town"]) >= 2)
+            seen = names(browser, cases["town"])
+            holds(f"roles: {seen}", {"button", "combobox", "searchbox", "image"} <= seen)
+            keyboard(browser, cases["town"])
+            browser.open(cases["shuffled"].page)
+            time_diagram(browser, cases["shuffled"])
+            browser.open(cases["hostile"].page)
+            filters(browser, cases["hostile"], "constructor")
+            stops_map(browser, cases["hostile"])
+            printed(browser, cases["hostile"])
+            harmless(browser, cases["hostile"])
+            policy(browser, cases["hostile"])
+            without_script(browser, cases["hostile"])
+            large(browser, large_case.wait())
+            every_page(browser, large_case)
+            filters(browser, large_case, "T3199,")
+            picture(browser, cases["town"])
+        finally:
+            browser.close()
+    print("report: three examples, a town, hostile feeds and 65,000 findings show in a browser what the JSON document says", flush=True)
+
+
+main()

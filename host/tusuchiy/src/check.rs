@@ -1,0 +1,204 @@
+//! A feed's files with the memory lent for them, and what the check hands out, page by page.
+
+use crate::kinds::{Fault, Finding};
+use crate::{try_check, Answer, Verdict, MOST_LINES, WIDTHS};
+use std::collections::TryReserveError;
+use std::fmt::{self, Display, Formatter};
+use std::io;
+
+/// How many findings a page of the iterator has: most feeds need one call.
+const PAGE: usize = 65_536;
+
+/// How many numbers the table of each file needs: its width times the file's lines.
+#[must_use]
+pub fn table_sizes(files: [&[u8]; 5]) -> [usize; 5] {
+    let mut sizes = WIDTHS;
+    for (size, file) in sizes.iter_mut().zip(files) {
+        // A file with more lines is refused before its table is measured.
+        *size *= file.iter().filter(|&&byte| byte == b'\n').count().min(MOST_LINES);
+    }
+    sizes
+}
+
+/// Why a call gave no answer; none of this is the feed's fault.
+#[derive(Debug)]
+pub enum Error {
+    /// There is no memory for the tables or the list.
+    Memory(TryReserveError),
+    /// There is no thread for the call.
+    Thread(io::Error),
+    /// An answer that include/tusuchiy.h doesn't know.
+    Unknown(Answer),
+}
+
+impl Display for Error {
+    fn fmt(&self, out: &mut Formatter) -> fmt::Result {
+        match self {
+            Error::Memory(error) => error.fmt(out),
+            Error::Thread(error) => write!(out, "can't run the check: {error}"),
+            Error::Unknown(answer) => write!(out, "the check gave an answer that nobody knows: {answer:?}"),
+        }
+    }
+}
+
+impl std::error::Error for Error {}
+
+impl From<TryReserveError> for Error {
+    fn from(error: TryReserveError) -> Self {
+        Error::Memory(error)
+    }
+}
+
+/// A place in the order of findings; findings are handed out after one.
+#[derive(Clone, Copy, Debug, Default, PartialEq, Eq)]
+pub struct Place(pub [i32; 3]);
+
+impl Place {
+    /// Before all findings.
+    pub const START: Place = Place([0, 0, 0]);
+}
+
+impl From<Finding> for Place {
+    fn from(finding: Finding) -> Self {
+        // Lines are at most 65,536.
+        Place([finding.file.number(), finding.line, finding.rule.number()].map(|number| number as i32))
+    }
+}
+
+/// The findings after a place, as many as there was room for, and the verdict, which depends on neither.
+#[derive(Clone, Debug, PartialEq, Eq)]
+pub struct Page {
+    pub verdict: Verdict,
+    pub findings: Vec<Finding>,
+}
+
+/// A feed to be checked: its five files, and tables that are long enough for them.
+#[derive(Debug)]
+#[must_use]
+pub struct Check<'a> {
+    files: [&'a [u8]; 5],
+    tables: [Vec<i32>; 5],
+}
+
+impl<'a> Check<'a> {
+    /// Lends tables for these files: stops, routes, calendar, trips and stop_times; one that isn't there is empty.
+    ///
+    /// # Errors
+    ///
+    /// Where there is no memory for them.
+    pub fn new(files: [&'a [u8]; 5]) -> Result<Self, Error> {
+        let mut tables: [Vec<i32>; 5] = Default::default();
+        for (table, size) in tables.iter_mut().zip(table_sizes(files)) {
+            *table = zeros(size)?;
+        }
+        Ok(Check { files, tables })
+    }
+
+    /// One call: the verdict, and the findings after a place, as many as there is room for.
+    ///
+    /// # Errors
+    ///
+    /// Where there is no memory for the list or no thread for the call.
+    pub fn page(&mut self, after: Place, room: usize) -> Result<Page, Error> {
+        let mut list = zeros(room.saturating_mul(3))?;
+        let tables = self.tables.each_mut().map(|table| &mut table[..]);
+        let answer = try_check(self.files, tables, &mut list, after.0).map_err(Error::Thread)?;
+        let verdict = answer.verdict().ok_or(Error::Unknown(answer))?;
+        let written = if let Verdict::Findings { written, .. } = verdict { written } else { 0 };
+        let numbers = list.get(..written * 3).ok_or(Error::Unknown(answer))?;
+        let mut findings = Vec::new();
+        findings.try_reserve_exact(written)?;
+        for numbers in numbers.chunks_exact(3) {
+            findings.push(Finding::of(numbers).ok_or(Error::Unknown(answer))?);
+        }
+        Ok(Page { verdict, findings })
+    }
+
+    /// The verdict alone.
+    ///
+    /// # Errors
+    ///
+    /// As [`Check::page`].
+    pub fn verdict(&mut self) -> Result<Verdict, Error> {
+        self.page(Place::START, 0).map(|page| page.verdict)
+    }
+
+    /// All findings in order; there are none where the feed is refused. Pages are asked for as they are needed.
+    pub fn findings(&mut self) -> Findings<'_, 'a> {
+        self.findings_by(PAGE)
+    }
+
+    /// The same with so many findings a page, at least one: less memory, but each page is a check of the whole feed.
+    pub fn findings_by(&mut self, room: usize) -> Findings<'_, 'a> {
+        Findings { check: self, room: room.max(1), after: Place::START, ready: Vec::new().into_iter(), over: false }
+    }
+
+    /// The tables, filled by the last call unless the feed was refused; include/tusuchiy.h says what stands in them.
+    #[must_use]
+    pub fn tables(&self) -> &[Vec<i32>; 5] {
+        &self.tables
+    }
+
+    /// The same, to be kept.
+    #[must_use]
+    pub fn into_tables(self) -> [Vec<i32>; 5] {
+        self.tables
+    }
+}
+
+/// Findings, one after the other.
+#[derive(Debug)]
+#[must_use]
+pub struct Findings<'c, 'a> {
+    check: &'c mut Check<'a>,
+    room: usize,
+    after: Place,
+    ready: std::vec::IntoIter<Finding>,
+    over: bool,
+}
+
+impl Iterator for Findings<'_, '_> {
+    type Item = Result<Finding, Error>;
+
+    fn next(&mut self) -> Option<Self::Item> {
+        if self.ready.len() == 0 && !self.over {
+            let page = match self.check.page(self.after, self.room) {
+                Ok(page) => page,
+                Err(error) => {
+                    self.over = true;
+                    return Some(Err(error));
+                }
+            };
+            // A page that isn't full is the last one.
+            self.over = page.findings.len() < self.room;
+            self.after = page.findings.last().map_or(self.after, |last| Place::from(*last));
+            self.ready = page.findings.into_iter();
+        }
+        self.ready.next().map(Ok)
+    }
+}
+
+impl std::iter::FusedIterator for Findings<'_, '_> {}
+
+fn zeros(length: usize) -> Result<Vec<i32>, TryReserveError> {
+    let mut numbers = Vec::new();
+    numbers.try_reserve_exact(length)?;
+    numbers.resize(length, 0);
+    Ok(numbers)
+}
+
+impl Finding {
+    /// A finding from its three numbers.
+    fn of(numbers: &[i32]) -> Option<Self> {
+        let number = |place: usize| usize::try_from(numbers[place]).ok();
+        Some(Finding { file: crate::File::new(number(0)?)?, line: number(1)?, rule: crate::Rule::new(number(2)?)? })
+    }
+}
+
+impl Fault {
+    /// A fault from the numbers of an answer.
+    pub(crate) fn of(answer: &Answer) -> Option<Self> {
+        let [number, file, line] = [answer.number, answer.file, answer.line].map(|number| usize::try_from(number).ok());
+        Some(Fault { file: crate::File::new(file?)?, line: line?, refusal: crate::Refusal::new(number?)? })
+    }
+}

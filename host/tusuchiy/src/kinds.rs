@@ -1,0 +1,158 @@
+//! The files, rules and refusals that the check has numbers for, with names and meanings.
+
+use crate::explain;
+use std::fmt::{self, Display, Formatter};
+
+/// One of the five files.
+#[derive(Clone, Copy, Debug, PartialEq, Eq, PartialOrd, Ord, Hash)]
+pub enum File {
+    Stops = 1,
+    Routes,
+    Calendar,
+    Trips,
+    StopTimes,
+}
+
+impl File {
+    /// In the order of their numbers.
+    pub const ALL: [File; 5] = [File::Stops, File::Routes, File::Calendar, File::Trips, File::StopTimes];
+
+    /// The file with this number, 1 to 5.
+    #[must_use]
+    pub fn new(number: usize) -> Option<Self> {
+        File::ALL.get(number.checked_sub(1)?).copied()
+    }
+
+    /// Its number, 1 to 5.
+    #[must_use]
+    pub fn number(self) -> usize {
+        self as usize
+    }
+
+    /// Its name in a feed.
+    #[must_use]
+    pub fn name(self) -> &'static str {
+        ["stops.txt", "routes.txt", "calendar.txt", "trips.txt", "stop_times.txt"][self.number() - 1]
+    }
+
+    /// How many numbers one of its records has in its table.
+    #[must_use]
+    pub fn width(self) -> usize {
+        crate::WIDTHS[self.number() - 1]
+    }
+}
+
+impl Display for File {
+    fn fmt(&self, out: &mut Formatter) -> fmt::Result {
+        out.write_str(self.name())
+    }
+}
+
+/// A rule that a feed which can be read may break, 20 to 31.
+#[derive(Clone, Copy, Debug, PartialEq, Eq, PartialOrd, Ord, Hash)]
+pub struct Rule(u8);
+
+/// A reason why a feed can't be read, 1 to 13.
+#[derive(Clone, Copy, Debug, PartialEq, Eq, PartialOrd, Ord, Hash)]
+pub struct Refusal(u8);
+
+macro_rules! numbered {
+    ($name:ident, $word:literal, $least:literal, $most:literal) => {
+        impl $name {
+            /// The one with this number, if there is one.
+            #[must_use]
+            pub fn new(number: usize) -> Option<Self> {
+                ($least..=$most).contains(&number).then_some($name(number as u8))
+            }
+
+            /// All of them, in order.
+            pub fn all() -> impl Iterator<Item = Self> {
+                ($least..=$most).map($name)
+            }
+
+            /// Its number.
+            #[must_use]
+            pub fn number(self) -> usize {
+                self.0.into()
+            }
+
+            /// What it says, in a few words; the words may change, the numbers don't.
+            #[must_use]
+            pub fn meaning(self) -> &'static str {
+                explain::meaning(self.number())
+            }
+
+            /// What it means and how to mend it: its section of docs/RULES.md.
+            #[must_use]
+            pub fn explanation(self) -> &'static str {
+                explain::page(self.number()).unwrap_or_default()
+            }
+        }
+
+        impl Display for $name {
+            fn fmt(&self, out: &mut Formatter) -> fmt::Result {
+                write!(out, concat!($word, " {}: {}"), self.0, self.meaning())
+            }
+        }
+    };
+}
+
+numbered!(Rule, "rule", 20, 31);
+numbered!(Refusal, "refusal", 1, 13);
+
+/// A place where a rule is broken.
+#[derive(Clone, Copy, Debug, PartialEq, Eq, PartialOrd, Ord, Hash)]
+pub struct Finding {
+    pub file: File,
+    /// The header is line 1.
+    pub line: usize,
+    pub rule: Rule,
+}
+
+impl Display for Finding {
+    fn fmt(&self, out: &mut Formatter) -> fmt::Result {
+        write!(out, "{}:{}: {}", self.file, self.line, self.rule)
+    }
+}
+
+/// A place that can't be read.
+#[derive(Clone, Copy, Debug, PartialEq, Eq, PartialOrd, Ord, Hash)]
+pub struct Fault {
+    pub file: File,
+    /// The header is line 1; 0 is the whole file.
+    pub line: usize,
+    pub refusal: Refusal,
+}
+
+impl Display for Fault {
+    fn fmt(&self, out: &mut Formatter) -> fmt::Result {
+        let line = if self.line == 0 { String::new() } else { format!(":{}", self.line) };
+        write!(out, "{}{line}: {}", self.file, self.refusal)
+    }
+}
+
+#[cfg(test)]
+mod tests {
+    use super::*;
+
+    #[test]
+    fn numbers_go_both_ways() {
+        for file in File::ALL {
+            assert_eq!(File::new(file.number()), Some(file));
+        }
+        assert!([0, 6].iter().all(|&number| File::new(number).is_none()));
+        assert!(Rule::all().map(Rule::number).eq(20..=31));
+        assert!(Refusal::all().map(Refusal::number).eq(1..=13));
+        assert!([19, 32, 276].iter().all(|&number| Rule::new(number).is_none()));
+        assert!([0, 14, 257].iter().all(|&number| Refusal::new(number).is_none()));
+    }
+
+    #[test]
+    fn in_words() {
+        let finding = Finding { file: File::Trips, line: 3, rule: Rule(21) };
+        assert_eq!(finding.to_string(), "trips.txt:3: rule 21: a reference names no line");
+        let fault = Fault { file: File::Stops, line: 0, refusal: Refusal(2) };
+        assert_eq!(fault.to_string(), "stops.txt: refusal 2: the file has more than 65,536 lines");
+        assert!(Rule(21).explanation().contains("**How to mend it.**"));
+    }
+}

@@ -1,0 +1,221 @@
+//! What the page's script reads: JSON in elements that nothing in it can end, in blocks that are parsed when they are shown.
+
+use super::marks::{Headers, Piece, Shown};
+use super::{Fault, Subject};
+use crate::explain::meaning;
+use crate::feed::NAMES;
+use crate::fields::value;
+use crate::safe;
+use crate::value::Value;
+use std::borrow::Cow;
+use std::collections::{BTreeSet, HashMap};
+use std::io::{self, Write};
+use tusuchiy::WIDTHS;
+
+/// How many findings stand in a block.
+const BLOCK: usize = 500;
+
+/// The longest part of a stop's or a trip's name that is shown, in bytes.
+const SHOWN_NAME: usize = safe::SHOWN_VALUE;
+
+/// Lets no byte through that could end a script element or begin markup. In JSON they stand in strings only.
+struct InScript<'a>(&'a mut dyn Write);
+
+impl Write for InScript<'_> {
+    fn write(&mut self, bytes: &[u8]) -> io::Result<usize> {
+        for piece in bytes.split_inclusive(|byte| b"<>&".contains(byte)) {
+            match piece.split_last() {
+                Some((byte, before)) if b"<>&".contains(byte) => {
+                    self.0.write_all(before)?;
+                    write!(self.0, "\\u{byte:04x}")?;
+                }
+                _ => self.0.write_all(piece)?,
+            }
+        }
+        Ok(bytes.len())
+    }
+
+    fn flush(&mut self) -> io::Result<()> {
+        self.0.flush()
+    }
+}
+
+/// An element with JSON in it.
+fn element(out: &mut dyn Write, id: &str, write: impl FnOnce(&mut dyn Write) -> io::Result<()>) -> io::Result<()> {
+    write!(out, "<script type=\"application/json\" id=\"{id}\">")?;
+    write(&mut InScript(out))?;
+    out.write_all(b"</script>\n")
+}
+
+/// A list whose elements are written one by one.
+fn list<Element>(
+    out: &mut dyn Write,
+    all: impl Iterator<Item = Element>,
+    write: impl Fn(&Element) -> Value,
+) -> io::Result<()> {
+    out.write_all(b"[")?;
+    for (place, element) in all.enumerate() {
+        write!(out, "{}{}", if place == 0 { "" } else { "," }, write(&element))?;
+    }
+    out.write_all(b"]")
+}
+
+/// Writes all elements.
+pub fn write(out: &mut dyn Write, subject: &Subject) -> io::Result<()> {
+    let headers = Headers::new(subject.feed);
+    let trips = Trips::of(subject, &headers);
+    let blocks = subject.faults.len().div_ceil(BLOCK);
+    element(out, "data", |out| write!(out, "{}", head(subject, blocks)))?;
+    element(out, "index", |out| {
+        let numbers =
+            subject.faults.iter().flat_map(|fault| [fault.file, fault.line, fault.number, stop(subject, fault)]);
+        list(out, numbers, |number| Value::size(*number))
+    })?;
+    for (place, block) in subject.faults.chunks(BLOCK).enumerate() {
+        let id = format!("block-{place}");
+        element(out, &id, |out| list(out, block.iter(), |fault| row(subject, &headers, &trips, fault)))?;
+    }
+    element(out, "stops", |out| list(out, stop_lines(subject), |line| stop_row(subject, &headers, *line)))?;
+    element(out, "trips", |out| list(out, trips.lines.iter(), |lines| trip_row(subject, &headers, lines)))
+}
+
+fn head(subject: &Subject, blocks: usize) -> Value {
+    let numbers: BTreeSet<usize> = subject.faults.iter().map(|fault| fault.number).collect();
+    let meanings =
+        numbers.into_iter().map(|number| Value::List(vec![Value::size(number), Value::text(meaning(number))]));
+    Value::Members(vec![
+        ("files", Value::texts(NAMES)),
+        ("meanings", Value::List(meanings.collect())),
+        ("word", Value::text(if subject.refused() { "refusal" } else { "finding" })),
+        ("total", Value::size(subject.faults.len())),
+        ("block", Value::size(BLOCK)),
+        ("blocks", Value::size(blocks)),
+    ])
+}
+
+/// A number of the record of a line.
+fn number(subject: &Subject, file: usize, line: usize, place: usize) -> i32 {
+    let table = &subject.report.tables[file - 1];
+    table.get((line - 1) * WIDTHS[file - 1] + place).copied().unwrap_or(0)
+}
+
+/// The line in stops.txt of the stop that a finding is about, or at which its line calls; 0 is none.
+fn stop(subject: &Subject, fault: &Fault) -> usize {
+    match (fault.number, fault.file) {
+        (20.., 1) => fault.line,
+        (20.., 5) => line_of(number(subject, 5, fault.line, 1)),
+        _ => 0,
+    }
+}
+
+/// The line of a record; 0 for none.
+fn line_of(record: i32) -> usize {
+    usize::try_from(record).ok().filter(|record| *record > 0).map_or(0, |record| record + 1)
+}
+
+/// What is said of a fault, the lines that go with it, and its trip among those that are drawn (-1 is none).
+fn row(subject: &Subject, headers: &Headers, trips: &Trips, fault: &Fault) -> Value {
+    let about = subject.about(fault);
+    let lines = headers.lines(fault.file, fault.line, fault.number, &about);
+    let trip = trips.place(subject, headers, fault).map_or(-1, |place| place as i64);
+    Value::List(vec![Value::text(about.words), Value::List(lines.iter().map(shown).collect()), Value::Number(trip)])
+}
+
+fn shown(line: &Shown) -> Value {
+    let pieces = line.pieces.iter().map(|piece| match piece {
+        Piece::Plain(text) => Value::text(text),
+        Piece::Marked(text, name) => Value::texts([text, name]),
+        Piece::Gap(bytes) => Value::size(*bytes),
+    });
+    Value::List(vec![Value::size(line.file), Value::size(line.line), Value::List(pieces.collect())])
+}
+
+/// The lines of stops.txt that have a record; none in a feed that was refused.
+fn stop_lines(subject: &Subject) -> std::ops::RangeInclusive<usize> {
+    2..=if subject.refused() { 0 } else { subject.feed.line_count(1) }
+}
+
+/// Latitude and longitude in ten-millionths of a degree, id and name of a stop.
+fn stop_row(subject: &Subject, headers: &Headers, line: usize) -> Value {
+    let [latitude, longitude] = [2, 3].map(|place| Value::Number(number(subject, 1, line, place).into()));
+    let [id, name] = ["stop_id", "stop_name"].map(|column| Value::text(name(subject, headers, 1, line, column)));
+    Value::List(vec![latitude, longitude, id, name])
+}
+
+/// A value that is shown as a name.
+fn name(subject: &Subject, headers: &Headers, file: usize, line: usize, column: &str) -> String {
+    let value = id(subject, headers, file, line, column);
+    let (beginning, cut) = safe::beginning(&value, SHOWN_NAME);
+    format!("{}{}", safe::text(beginning), if cut { "..." } else { "" })
+}
+
+fn id<'a>(subject: &Subject<'a>, headers: &Headers, file: usize, line: usize, column: &str) -> Cow<'a, [u8]> {
+    let text = subject.feed.line(file, line).unwrap_or(&[]);
+    headers.field(file, line, column).map_or(Cow::Borrowed(&[]), |field| value(&text[field]))
+}
+
+/// The trips that have a finding about time: their lines of stop_times.txt.
+struct Trips<'a> {
+    places: HashMap<Cow<'a, [u8]>, usize>,
+    lines: Vec<Vec<usize>>,
+}
+
+/// Rules about the times and the order of a trip's lines.
+fn is_about_time(fault: &Fault) -> bool {
+    matches!((fault.number, fault.file), (26..=29, 5) | (31, 4))
+}
+
+impl<'a> Trips<'a> {
+    fn of(subject: &Subject<'a>, headers: &Headers) -> Self {
+        let mut trips = Trips { places: HashMap::new(), lines: Vec::new() };
+        for fault in subject.faults.iter().filter(|fault| is_about_time(fault)) {
+            let next = trips.places.len();
+            trips.places.entry(id(subject, headers, fault.file, fault.line, "trip_id")).or_insert(next);
+        }
+        if trips.places.is_empty() {
+            return trips;
+        }
+        trips.lines = vec![Vec::new(); trips.places.len()];
+        for line in 2..=subject.feed.line_count(5) {
+            if let Some(&place) = trips.places.get(&id(subject, headers, 5, line, "trip_id")) {
+                trips.lines[place].push(line);
+            }
+        }
+        trips
+    }
+
+    fn place(&self, subject: &Subject, headers: &Headers, fault: &Fault) -> Option<usize> {
+        let trip = is_about_time(fault).then(|| id(subject, headers, fault.file, fault.line, "trip_id"))?;
+        self.places.get(&trip).copied()
+    }
+}
+
+/// A trip's id, and for each of its lines in the order of stop_sequence: line, sequence, arrival, departure, stop's line.
+fn trip_row(subject: &Subject, headers: &Headers, lines: &[usize]) -> Value {
+    let mut lines = lines.to_vec();
+    lines.sort_by_key(|&line| (number(subject, 5, line, 2), line));
+    let of_line = |&line: &usize| {
+        let [sequence, arrival, departure] =
+            [2, 3, 4].map(|place| Value::Number(number(subject, 5, line, place).into()));
+        let stop = line_of(number(subject, 5, line, 1));
+        Value::List(vec![Value::size(line), sequence, arrival, departure, Value::size(stop)])
+    };
+    let id = lines.first().map_or(String::new(), |&line| name(subject, headers, 5, line, "trip_id"));
+    Value::List(vec![Value::text(id), Value::List(lines.iter().map(of_line).collect())])
+}
+
+#[cfg(test)]
+mod tests {
+    use super::*;
+
+    /// Nothing that HTML looks for in a script element gets through, and the text stays the same to a JSON reader.
+    #[test]
+    fn nothing_ends_the_element() {
+        let mut out = Vec::new();
+        let hostile = "</script><!--<script>&amp;\u{2028}\u{2029}]]>";
+        element(&mut out, "x", |out| write!(out, "{}", Value::text(hostile))).expect("a vector takes all");
+        let wanted = "<script type=\"application/json\" id=\"x\">\
+            \"\\u003c/script\\u003e\\u003c!--\\u003cscript\\u003e\\u0026amp;\\u2028\\u2029]]\\u003e\"</script>\n";
+        assert_eq!(String::from_utf8(out).expect("ASCII"), wanted);
+    }
+}

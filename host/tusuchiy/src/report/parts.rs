@@ -1,0 +1,274 @@
+//! The parts of the page that stand without its script: verdict, what was read, totals, the first faults, the rules.
+
+use super::digest::{hex, sha256};
+use super::{Fault, Subject};
+use crate::explain;
+use crate::feed::NAMES;
+use crate::paging::Outcome;
+use crate::safe;
+use std::collections::BTreeMap;
+use std::os::unix::ffi::OsStrExt;
+
+/// How many faults stand in the page for readers without a script.
+const PLAIN: usize = 100;
+
+/// Text that can't become markup, in an element or in an attribute.
+fn escaped(text: &str) -> String {
+    let mut out = String::with_capacity(text.len());
+    for char in text.chars() {
+        match char {
+            '&' => out.push_str("&amp;"),
+            '<' => out.push_str("&lt;"),
+            '>' => out.push_str("&gt;"),
+            '"' => out.push_str("&quot;"),
+            '\'' => out.push_str("&#39;"),
+            _ => out.push(char),
+        }
+    }
+    out
+}
+
+/// Bytes of the feed, safe to show.
+fn shown(bytes: &[u8]) -> String {
+    escaped(&safe::text(bytes))
+}
+
+/// A number with commas, as people read it.
+fn grouped(number: usize) -> String {
+    let digits = number.to_string();
+    let comma = |place: usize| if place > 0 && (digits.len() - place) % 3 == 0 { "," } else { "" };
+    digits.char_indices().map(|(place, digit)| format!("{}{digit}", comma(place))).collect()
+}
+
+fn word(number: usize) -> &'static str {
+    if number < 20 {
+        "refusal"
+    } else {
+        "rule"
+    }
+}
+
+fn path(subject: &Subject) -> String {
+    shown(subject.feed.place.path.as_os_str().as_bytes())
+}
+
+pub fn title(subject: &Subject) -> String {
+    let verdict = match subject.report.outcome {
+        Outcome::Accepted => "accepted".to_string(),
+        Outcome::Findings { total, .. } => format!("{} findings", grouped(total)),
+        Outcome::Refused { .. } => "refused".to_string(),
+    };
+    format!("{}: {verdict}", path(subject))
+}
+
+/// The feed's path, and its folder in a zip file.
+pub fn feed(subject: &Subject) -> String {
+    let folder = &subject.feed.place.folder;
+    let folder = if folder.is_empty() { String::new() } else { format!(" <small>folder {}</small>", shown(folder)) };
+    path(subject) + &folder
+}
+
+/// The verdict in a word, and what it says.
+pub fn verdict(subject: &Subject) -> String {
+    let (kind, sign, head, words) = match subject.report.outcome {
+        Outcome::Accepted => ("accepted", "✓", "Accepted".to_string(), "All five files can be read, and no rule is broken."),
+        Outcome::Findings { total, .. } => (
+            "findings",
+            "!",
+            format!("{} {}", grouped(total), if total == 1 { "finding" } else { "findings" }),
+            "All five files can be read, but something in them doesn't fit together. Not accepted until each finding is mended.",
+        ),
+        Outcome::Refused { .. } => (
+            "refused",
+            "✕",
+            "Refused".to_string(),
+            "A file can't be read as it stands, so nothing else was looked at. Mend it and check again.",
+        ),
+    };
+    format!(
+        "<p class=\"verdict {kind}\" id=\"verdict\"><span class=\"sign\" aria-hidden=\"true\">{sign}</span>{head}</p>\n\
+         <p class=\"lead\">{words}</p>"
+    )
+}
+
+/// How many records were read, in a line; of a feed that was refused nobody says what its records are.
+pub fn records(subject: &Subject) -> String {
+    if subject.refused() {
+        return String::new();
+    }
+    let of_file = |file: usize| format!("{} {}", NAMES[file - 1], grouped(subject.feed.line_count(file) - 1));
+    let files: Vec<String> = (1..=5).map(of_file).collect();
+    format!("<p class=\"lead\" id=\"records\">Records read: {}. <a href=\"#read\">More</a></p>", files.join(", "))
+}
+
+/// The five files with what was read of them, and the others, which weren't.
+pub fn read(subject: &Subject) -> String {
+    let feed = subject.feed;
+    let missing = feed.missing();
+    let row = |file: usize| {
+        let (name, bytes) = (NAMES[file - 1], feed.slices()[file - 1]);
+        if missing.contains(&name) {
+            return format!("<tr><th scope=\"row\">{name}</th><td colspan=\"3\" class=\"missing\">missing</td></tr>\n");
+        }
+        let lines = feed.line_count(file);
+        let records = if subject.refused() { String::new() } else { grouped(lines.saturating_sub(1)) };
+        format!(
+            "<tr><th scope=\"row\">{name}</th><td class=\"number\">{records}</td><td class=\"number\">{}</td>\
+             <td class=\"digest\"><code>{}</code></td></tr>\n",
+            grouped(bytes.len()),
+            hex(&sha256(bytes))
+        )
+    };
+    let rows: String = (1..=5).map(row).collect();
+    format!(
+        "<div class=\"wide\"><table id=\"read\">\n<thead><tr><th scope=\"col\">File</th><th scope=\"col\" class=\"number\">Records</th>\
+         <th scope=\"col\" class=\"number\">Bytes</th><th scope=\"col\">SHA-256</th></tr></thead>\n<tbody>\n{rows}</tbody></table></div>\n{}",
+        unread(subject)
+    )
+}
+
+fn unread(subject: &Subject) -> String {
+    let unread = &subject.feed.unread;
+    if unread.count == 0 {
+        return String::new();
+    }
+    let names: Vec<String> = unread.names.iter().map(|name| format!("<code>{}</code>", shown(name))).collect();
+    let more = unread.count - names.len();
+    let more = if more == 0 { String::new() } else { format!(" and {} more", grouped(more)) };
+    format!("<p class=\"note\" id=\"unread\">Not looked at: {}{more}.</p>\n", names.join(", "))
+}
+
+/// How many faults there are of each number.
+fn counts(faults: &[Fault]) -> BTreeMap<usize, usize> {
+    let mut counts = BTreeMap::new();
+    faults.iter().for_each(|fault| *counts.entry(fault.number).or_insert(0) += 1);
+    counts
+}
+
+/// The totals by rule; the script makes each number a filter.
+pub fn totals(subject: &Subject) -> String {
+    let counts = counts(&subject.faults);
+    let most = counts.values().copied().max().unwrap_or(1);
+    let row = |(&number, &count): (&usize, &usize)| {
+        // A bar is seen however short it is.
+        let width = (count * 100).div_ceil(most);
+        format!(
+            "<tr data-number=\"{number}\"><th scope=\"row\"><a href=\"#rule-{number}\">{} {number}</a></th><td>{}</td>\
+             <td class=\"number count\">{}</td><td class=\"bar\" aria-hidden=\"true\"><svg width=\"100\" height=\"10\" \
+             viewBox=\"0 0 100 10\"><rect width=\"{width}\" height=\"10\" rx=\"2\"/></svg></td></tr>\n",
+            capital(word(number)),
+            escaped(explain::meaning(number)),
+            grouped(count)
+        )
+    };
+    if counts.is_empty() {
+        return "<p>No refusal, and no rule is broken.</p>".to_string();
+    }
+    let rows: String = counts.iter().map(row).collect();
+    format!(
+        "<table id=\"totals\">\n<thead><tr><th scope=\"col\">Rule</th><th scope=\"col\">What it says</th>\
+         <th scope=\"col\" class=\"number\">Count</th><th class=\"bar\" aria-hidden=\"true\"></th></tr></thead>\n<tbody>\n{rows}</tbody></table>"
+    )
+}
+
+fn capital(word: &str) -> String {
+    let (first, rest) = word.split_at(1);
+    first.to_uppercase() + rest
+}
+
+/// The first faults as a plain list.
+pub fn plain(subject: &Subject) -> String {
+    let item = |fault: &Fault| {
+        let line = if fault.line == 0 { String::new() } else { format!(", line {}", fault.line) };
+        let text = subject.feed.line(fault.file, fault.line).map_or(String::new(), |text| {
+            let (text, cut) = safe::beginning(text, safe::SHOWN_LINE);
+            format!("<br><code>{}{}</code>", shown(text), if cut { " ..." } else { "" })
+        });
+        format!(
+            "<li><b>{}{line}</b>, {} {}: {}{text}</li>\n",
+            NAMES[fault.file - 1],
+            word(fault.number),
+            fault.number,
+            escaped(&subject.about(fault).words)
+        )
+    };
+    let items: String = subject.faults.iter().take(PLAIN).map(item).collect();
+    let more = subject.faults.len().saturating_sub(PLAIN);
+    let more = if more == 0 { String::new() } else { format!("<p>And {} more.</p>", grouped(more)) };
+    format!("<ol>\n{items}</ol>{more}")
+}
+
+/// What each broken rule means and how to mend it, from the clerk's page.
+pub fn rules(subject: &Subject) -> String {
+    let article = |number: usize| {
+        let page = explain::page(number).unwrap_or_default();
+        let (_, body) = page.split_once('\n').unwrap_or((page, ""));
+        format!(
+            "<article id=\"rule-{number}\"><h3>{} {number}: {}</h3>\n<div class=\"body\">{}</div></article>\n",
+            capital(word(number)),
+            escaped(explain::meaning(number)),
+            marked_up(body)
+        )
+    };
+    counts(&subject.faults).keys().map(|&number| article(number)).collect()
+}
+
+/// The little Markdown that docs/RULES.md has: paragraphs, lines, bold words, code.
+fn marked_up(text: &str) -> String {
+    let mut out = String::new();
+    for (place, part) in text.split("```").enumerate() {
+        if place % 2 == 1 {
+            out += &format!("<pre>{}</pre>\n", escaped(part.trim_matches('\n')));
+            continue;
+        }
+        for paragraph in part.split("\n\n").map(str::trim).filter(|paragraph| !paragraph.is_empty()) {
+            out += &format!("<p>{}</p>\n", inline(paragraph).replace('\n', "<br>\n"));
+        }
+    }
+    out
+}
+
+/// Code between backquotes, and bold words outside of it.
+fn inline(text: &str) -> String {
+    let part = |(place, part): (usize, &str)| match place % 2 {
+        1 => format!("<code>{}</code>", escaped(part)),
+        _ => {
+            let bold = |(place, part): (usize, &str)| match place % 2 {
+                1 => format!("<strong>{}</strong>", escaped(part)),
+                _ => escaped(part),
+            };
+            part.split("**").enumerate().map(bold).collect()
+        }
+    };
+    text.split('`').enumerate().map(part).collect()
+}
+
+#[cfg(test)]
+mod tests {
+    use super::*;
+
+    #[test]
+    fn text_is_no_markup() {
+        assert_eq!(escaped("<b a=\"1\" c='2'>&"), "&lt;b a=&quot;1&quot; c=&#39;2&#39;&gt;&amp;");
+        assert_eq!(shown(b"<\xFF\x1b"), "&lt;\\xFF\\x1B");
+    }
+
+    #[test]
+    fn numbers_have_commas() {
+        let shown = [0, 999, 1000, 65_536, 1_234_567].map(grouped);
+        assert_eq!(shown, ["0", "999", "1,000", "65,536", "1,234,567"]);
+    }
+
+    #[test]
+    fn the_clerks_page_becomes_paragraphs() {
+        let text = "**What.** `<A>` is **so**\nand so.\n\n**Example.** Of\n```\nA,1\nB,2\n```\n\n**How.** Mend.";
+        let wanted = "<p><strong>What.</strong> <code>&lt;A&gt;</code> is <strong>so</strong><br>\nand so.</p>\n\
+            <p><strong>Example.</strong> Of</p>\n<pre>A,1\nB,2</pre>\n<p><strong>How.</strong> Mend.</p>\n";
+        assert_eq!(marked_up(text), wanted);
+        for number in (1..=13).chain(20..=31) {
+            let page = explain::page(number).expect("a section");
+            let body = marked_up(page);
+            assert!(!body.contains("**") && !body.contains('`'), "{number}: {body}");
+        }
+    }
+}

@@ -1,0 +1,51 @@
+//! The report as the command writes it: its statuses, its file, and that a feed's bytes stay text. .ci/report opens it in a browser.
+
+mod common;
+
+use common::{assert_cannot, example, out, run, said, status, Folder};
+use std::fs;
+
+#[test]
+fn the_status_is_the_verdict_and_the_page_is_the_file() {
+    let folder = Folder::empty("report");
+    let path = folder.at("report.html");
+    for (name, wanted, verdict) in [("feed", 0, "accepted"), ("findings", 1, "findings: 6"), ("refused", 2, "refused")]
+    {
+        let output = run(&["report", &example(name), "-o", &path]);
+        assert_eq!((status(&output), out(&output), said(&output)), (wanted, &format!("{verdict}\n")[..], ""));
+        let page = fs::read_to_string(&path).expect("a page");
+        let output = run(&["report", &example(name)]);
+        assert_eq!((status(&output), out(&output)), (wanted, &page[..]));
+        assert!(page.starts_with("<!DOCTYPE html>") && page.ends_with("</html>\n"), "{name}");
+        assert!(!page.contains("{{"), "{name}");
+    }
+}
+
+#[test]
+fn what_cannot_be_read_or_written() {
+    let folder = Folder::empty("report-nowhere");
+    let page = folder.at("report.html");
+    assert_cannot(&["report", &folder.at("nowhere"), "-o", &page], &["No such file"]);
+    assert!(!std::path::Path::new(&page).exists());
+    assert_cannot(&["report", &example("feed"), "-o", &folder.at("no/where.html")], &["can't write"]);
+    assert_cannot(&["report", &example("feed"), "-o", "/dev/full"], &["can't write /dev/full"]);
+    assert_cannot(&["report", &example("feed"), &example("feed")], &["report takes one feed"]);
+}
+
+/// Elements of the page are the frame's: however hostile a feed, their number is that of a tame feed with as many lines.
+#[test]
+fn a_feed_adds_no_markup() {
+    let folder = Folder::empty("report-markup");
+    let page = |name: &str, id: &str| {
+        let stops = format!("stop_id,stop_name,stop_lat,stop_lon\n\"{id}\",\"{id}\",1,2\n\"{id}\",\"{id}\",1,2\n");
+        let mut files = common::example_files("feed");
+        files[0] = stops.into_bytes();
+        let output = run(&["report", &folder.put_feed(name, &files)]);
+        assert_eq!(status(&output), 1, "{}", said(&output));
+        out(&output).to_string()
+    };
+    let [tame, hostile] = [page("tame", "x"), page("hostile", "</script><b>'&\u{2028}")];
+    for sign in ["<", ">", "<script", "</script", "<!--"] {
+        assert_eq!(hostile.matches(sign).count(), tame.matches(sign).count(), "{sign}");
+    }
+}
