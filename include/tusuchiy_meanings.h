@@ -28,10 +28,10 @@ static inline const char *tusuchiy_meaning(int32_t number) {
     case 25: return "the route has no name";
     case 26: return "only one of the two times is given, or a timepoint lacks a time";
     case 27: return "the departure is before the arrival";
-    case 28: return "the stop_sequence doesn't rise within the trip";
-    case 29: return "the trip arrives before it left the timed line before";
+    case 28: return "the stop_sequence stands on an earlier line of the trip";
+    case 29: return "the trip arrives before it departs from a stop with a smaller stop_sequence";
     case 30: return "the trip has fewer than two lines in stop_times.txt";
-    case 31: return "the trip's first or last line in stop_times.txt lacks a time";
+    case 31: return "the trip's first or last line by stop_sequence lacks a time";
     default: return "";
     }
 }
