@@ -115,7 +115,7 @@ def walk(browser, case):
     chosen(browser, case, len(case.findings))
     for page in range(pages) if pages < 6 else [0, 1, pages // 2, pages - 1]:
         if page == pages // 2 and pages >= 6:
-            browser.value(f"(() => {{ const box = document.querySelector('#pages-above input'); box.value = {page + 1}; box.dispatchEvent(new Event('change')); }})()")
+            browser.value(f"{{ const box = document.querySelector('#pages-above input'); box.value = {page + 1}; box.dispatchEvent(new Event('change')); }}")
         elif page == pages - 1 and pages >= 6:
             browser.value("document.querySelector('#pages-below [aria-label=\"Last page\"]').click()")
         elif page:
@@ -145,7 +145,8 @@ def compare_head(browser, case):
 
 def set_filter(browser, **values):
     for name, value in values.items():
-        browser.value(f"(() => {{ const box = document.getElementById('filter-{name}'); box.value = {json.dumps(str(value))}; box.dispatchEvent(new Event('{'input' if name == 'text' else 'change'}', {{bubbles: true}})); }})()")
+        event = "input" if name == "text" else "change"
+        browser.value(f"{{ const box = document.getElementById('filter-{name}'); box.value = {json.dumps(str(value))}; box.dispatchEvent(new Event('{event}')); }}")
 
 
 # Each filter leaves the findings that the document has for it.
@@ -242,11 +243,24 @@ def names(browser, case):
 
 
 # The contrast of text against what it stands on, at its lowest.
-CONTRAST = """(() => { const parts = (color) => color.match(/[\\d.]+/g).map(Number);
-  const light = (color) => { const [r, g, b] = parts(color).map((part) => (part /= 255) <= .03928 ? part / 12.92 : ((part + .055) / 1.055) ** 2.4); return .2126 * r + .7152 * g + .0722 * b; };
-  const ground = (node) => { for (; node; node = node.parentElement) { const color = getComputedStyle(node).backgroundColor, [, , , opaque = 1] = parts(color); if (opaque > 0) return color; } return 'rgb(255, 255, 255)'; };
-  const nodes = [...document.querySelectorAll('p, h1, h2, h3, th, td, summary, mark, .place, .line-text, button:not(:disabled), label, code, a')].filter((node) => node.offsetParent && node.textContent.trim());
-  return nodes.map((node) => { const [one, other] = [light(getComputedStyle(node).color), light(ground(node))].sort((a, b) => b - a); return [(one + .05) / (other + .05), node.className || node.tagName, node.textContent.slice(0, 30)]; }).sort((a, b) => a[0] - b[0])[0]; })()"""
+CONTRAST = """(() => {
+  const parts = (color) => color.match(/[\\d.]+/g).map(Number);
+  const even = (part) => (part / 255 <= .03928 ? part / 255 / 12.92 : ((part / 255 + .055) / 1.055) ** 2.4);
+  const light = (color) => { const [r, g, b] = parts(color).map(even); return .2126 * r + .7152 * g + .0722 * b; };
+  const ground = (node) => {
+    for (; node; node = node.parentElement) {
+      const color = getComputedStyle(node).backgroundColor, [, , , opaque = 1] = parts(color);
+      if (opaque > 0) return color;
+    }
+    return 'rgb(255, 255, 255)';
+  };
+  const all = document.querySelectorAll('p, h1, h2, h3, th, td, summary, mark, .place, .line-text, button:not(:disabled), label, code, a');
+  const ratio = (node) => {
+    const [one, other] = [light(getComputedStyle(node).color), light(ground(node))].sort((a, b) => b - a);
+    return [(one + .05) / (other + .05), node.className || node.tagName, node.textContent.slice(0, 30)];
+  };
+  return [...all].filter((node) => node.offsetParent && node.textContent.trim()).map(ratio).sort((a, b) => a[0] - b[0])[0];
+})()"""
 
 
 # Light and dark can be read, and on a phone nothing sticks out.
@@ -287,9 +301,9 @@ def harmless(browser, case):
 
 # What the content policy forbids doesn't happen, however it came into the page.
 def policy(browser, case):
-    browser.value("""(() => { for (const make of [() => { const script = document.createElement('script'); script.append('window.broken = 1'); document.body.append(script); },
+    browser.value("""{ for (const make of [() => { const script = document.createElement('script'); script.append('window.broken = 1'); document.body.append(script); },
       () => { document.body.insertAdjacentHTML('beforeend', '<img src=x onerror="window.broken=1">'); }, () => { new Image().src = 'x.png'; },
-      () => { const link = document.createElement('link'); link.rel = 'stylesheet'; link.href = 'x.css'; document.head.append(link); }]) { try { make(); } catch (error) {} } })()""")
+      () => { const link = document.createElement('link'); link.rel = 'stylesheet'; link.href = 'x.css'; document.head.append(link); }]) { try { make(); } catch (error) {} } }""")
     browser.value("new Promise((done) => setTimeout(done, 100))")
     same(f"{case.name}: scripts ran", browser.value("String(window.broken)"), "undefined")
     holds(f"{case.name}: the policy was broken and said so", len(browser.wrong()) >= 3)
@@ -311,7 +325,10 @@ def large(browser, case):
     seconds = browser.open(case.page)
     holds(f"many: opened in {seconds:.1f} s", seconds < 20)
     holds("many: elements", browser.value("document.querySelectorAll('main *').length") < 4000)
-    longest = browser.value("new Promise((done) => new PerformanceObserver((list) => done(Math.max(...list.getEntries().map((entry) => entry.duration)))).observe({type: 'longtask', buffered: true}) || setTimeout(() => done(0), 300))")
+    longest = browser.value("""new Promise((done) => {
+      new PerformanceObserver((list) => done(Math.max(...list.getEntries().map((entry) => entry.duration)))).observe({type: 'longtask', buffered: true});
+      setTimeout(() => done(0), 1000);
+    })""")
     holds(f"many: the longest standstill was {longest} ms", longest < 4000)
     print(f"report: 65,000 findings open in {seconds:.1f} s, the longest standstill {longest:.0f} ms", flush=True)
 

@@ -1,6 +1,6 @@
 //! A feed's files with the memory lent for them, and what the check hands out, page by page.
 
-use crate::kinds::{Fault, Finding};
+use crate::kinds::{Fault, File, Finding, Refusal, Rule};
 use crate::{try_check, Answer, Verdict, MOST_LINES, WIDTHS};
 use std::collections::TryReserveError;
 use std::fmt::{self, Display, Formatter};
@@ -61,7 +61,7 @@ impl Place {
 impl From<Finding> for Place {
     fn from(finding: Finding) -> Self {
         // Lines are at most 65,536.
-        Place([finding.file.number(), finding.line, finding.rule.number()].map(|number| number as i32))
+        Place([finding.file.number() as i32, finding.line as i32, finding.rule.number() as i32])
     }
 }
 
@@ -190,15 +190,15 @@ fn zeros(length: usize) -> Result<Vec<i32>, TryReserveError> {
 impl Finding {
     /// A finding from its three numbers.
     fn of(numbers: &[i32]) -> Option<Self> {
-        let number = |place: usize| usize::try_from(numbers[place]).ok();
-        Some(Finding { file: crate::File::new(number(0)?)?, line: number(1)?, rule: crate::Rule::new(number(2)?)? })
+        let [file, rule] = [0, 2].map(|place| usize::try_from(numbers[place]).ok());
+        Some(Finding { file: File::new(file?)?, line: numbers[1].try_into().ok()?, rule: Rule::new(rule?)? })
     }
 }
 
 impl Fault {
     /// A fault from the numbers of an answer.
     pub(crate) fn of(answer: &Answer) -> Option<Self> {
-        let [number, file, line] = [answer.number, answer.file, answer.line].map(|number| usize::try_from(number).ok());
-        Some(Fault { file: crate::File::new(file?)?, line: line?, refusal: crate::Refusal::new(number?)? })
+        let [number, file] = [answer.number, answer.file].map(|number| usize::try_from(number).ok());
+        Some(Fault { file: File::new(file?)?, line: answer.line.try_into().ok()?, refusal: Refusal::new(number?)? })
     }
 }

@@ -105,7 +105,7 @@ numbered!(Refusal, "refusal", 1, 13);
 pub struct Finding {
     pub file: File,
     /// The header is line 1.
-    pub line: usize,
+    pub line: u32,
     pub rule: Rule,
 }
 
@@ -120,7 +120,7 @@ impl Display for Finding {
 pub struct Fault {
     pub file: File,
     /// The header is line 1; 0 is the whole file.
-    pub line: usize,
+    pub line: u32,
     pub refusal: Refusal,
 }
 

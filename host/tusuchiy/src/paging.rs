@@ -49,7 +49,7 @@ fn call(check: &mut Check, after: [i32; 3], room: usize, list: &mut Vec<Finding>
     list.try_reserve_exact(page.findings.len()).map_err(|error| error.to_string())?;
     list.extend(page.findings.iter().map(|found| Finding {
         file: found.file.number(),
-        line: found.line,
+        line: found.line as usize,
         rule: found.rule.number(),
     }));
     Ok(page.verdict)
@@ -75,7 +75,7 @@ fn check_by(feed: &Feed, page: Option<Page>, room: usize, progress: &Progress) -
     let outcome = match verdict {
         Verdict::Accepted => Outcome::Accepted,
         Verdict::Refused(fault) => {
-            Outcome::Refused { number: fault.refusal.number(), file: fault.file.number(), line: fault.line }
+            Outcome::Refused { number: fault.refusal.number(), file: fault.file.number(), line: fault.line as usize }
         }
         Verdict::Findings { total, .. } if page.is_none() && total != list.len() => {
             return Err(format!("the check handed out {} findings and counts {total}", list.len()));

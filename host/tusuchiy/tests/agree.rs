@@ -28,7 +28,7 @@ fn words(answer: &Answer) -> model::Answer {
         Verdict::Findings { written, total } => model::Answer::Findings { written, total },
         Verdict::Refused(fault) => {
             let (number, file) = (fault.refusal.number(), fault.file.number());
-            model::Answer::Refused { number, file, line: fault.line }
+            model::Answer::Refused { number, file, line: fault.line as usize }
         }
     }
 }

@@ -18,7 +18,8 @@ fn wanted(files: &[Vec<u8>; 5]) -> Vec<Finding> {
     };
     assert_eq!(written, total);
     let finding = |numbers: &[i32]| {
-        let [file, line, rule] = [0, 1, 2].map(|place| numbers[place] as usize);
+        let [file, rule] = [0, 2].map(|place| numbers[place] as usize);
+        let line = numbers[1] as u32;
         Finding { file: File::new(file).expect("a file"), line, rule: Rule::new(rule).expect("a rule") }
     };
     list[..written * 3].chunks(3).map(finding).collect()

@@ -43,7 +43,7 @@ fn words(answer: &tusuchiy::Answer) -> Answer {
         Verdict::Accepted => Answer::Accepted,
         Verdict::Findings { written, total } => Answer::Findings { written, total },
         Verdict::Refused(fault) => {
-            Answer::Refused { number: fault.refusal.number(), file: fault.file.number(), line: fault.line }
+            Answer::Refused { number: fault.refusal.number(), file: fault.file.number(), line: fault.line as usize }
         }
     }
 }

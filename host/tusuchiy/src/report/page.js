@@ -134,10 +134,17 @@ function card(place, drawn) {
     el("h3", {}, el("span", { class: "where" }, where), el("span", { class: "rule" }, rule)),
     words ? el("p", { class: "words" }, words) : null,
     lines.length ? el("div", { class: "lines" }, ...lines.map((shown) => oneLine(shown, file, line))) : null,
-    trip >= 0 ? el("details", { class: "diagram", open, "data-trip": trip, "data-line": file === 5 ? line : 0, "data-number": number, toggle: (event) => drawTrip(event.target) }, el("summary", {}, "The trip's times as a picture")) : null,
-    stop && file === 5 && stops()[stop - 2] ? el("p", { class: "note" }, "At the stop ", el("button", { type: "button", class: "link", click: () => chooseStop(stop) }, stopName(stop)), ".") : null,
+    trip >= 0 ? tripDetails(trip, file === 5 ? line : 0, open) : null,
+    stop && file === 5 ? el("p", { class: "note" }, "At the stop ", stopButton(stop), ".") : null,
     el("details", {}, el("summary", {}, "What it means and how to mend it"), meaningOf(number)));
 }
+
+// The place for a time diagram, which is drawn when it is opened.
+const tripDetails = (trip, line, open) =>
+  el("details", { class: "diagram", open, "data-trip": trip, "data-line": line, toggle: (event) => drawTrip(event.target) },
+    el("summary", {}, "The trip's times as a picture"));
+
+const stopButton = (line) => el("button", { type: "button", class: "link", "data-stop": line, click: () => chooseStop(line) }, stopName(line));
 
 // The rule's section of this page, once more.
 function meaningOf(number) {
@@ -195,31 +202,38 @@ function drawTrip(details) {
 }
 
 function diagram(id, all, line, width) {
-  const lines = rowsAround(all, line), height = 26, top = 30;
+  const lines = rowsAround(all, line), height = 26, top = 30, bottom = top + lines.length * height;
   const left = Math.min(260, width * .42), right = width - 34;
   const times = lines.flatMap((one) => [one[2], one[3]]).filter((time) => time >= 0);
   const from = Math.min(...times), until = Math.max(...times, from + 1);
   const x = (time) => left + 14 + (time - from) / (until - from) * (right - left - 14);
   const y = (place) => top + place * height + height / 2;
-  const most = Math.floor(left / 7) - 4;
-  const picture = draw("svg", { role: "img", viewBox: `0 0 ${width} ${top + lines.length * height + 8}`, height: top + lines.length * height + 8, "aria-label": spoken(id, all, line) });
-  if (times.length) for (const at of ticks(from, until, Math.max(2, Math.floor((right - left) / 80)))) {
-    picture.append(draw("path", { class: "grid", d: `M${x(at)} ${top - 6}V${top + lines.length * height}` }), draw("text", { x: x(at), y: top - 12, "text-anchor": "middle" }, clock(at)));
+  const at = { x, y, left, width, height, most: Math.floor(left / 7) - 4 };
+  const picture = draw("svg", { role: "img", viewBox: `0 0 ${width} ${bottom + 8}`, height: bottom + 8, "aria-label": spoken(id, all, line) });
+  for (const time of times.length ? ticks(from, until, Math.max(2, Math.floor((right - left) / 80))) : []) {
+    picture.append(draw("path", { class: "grid", d: `M${x(time)} ${top - 6}V${bottom}` }),
+      draw("text", { x: x(time), y: top - 12, "text-anchor": "middle" }, clock(time)));
   }
-  lines.forEach((one, place) => picture.append(...drawRow(one, place, { x, y, left, width, height, most, here: one[0] === line })));
-  let last = null;
-  lines.forEach((one, place) => {
-    if (!timed(one)) return;
-    if (last && last.one[3] <= one[2]) picture.append(draw("path", { class: "run", d: `M${x(last.one[3])} ${y(last.place)}L${x(one[2])} ${y(place)}` }));
-    last = { one, place };
-  });
-  lines.forEach((one, place) => picture.append(...drawFall(lines, one, place, x, y)));
+  lines.forEach((one, place) => picture.append(...drawRow(one, place, { ...at, here: one[0] === line })));
+  picture.append(...drawRuns(lines, at));
+  lines.forEach((one, place) => picture.append(...drawFall(all, lines, one, place, at)));
   lines.forEach((one, place) => {
     if (timed(one)) picture.append(draw("path", { class: one[3] < one[2] ? "back" : "wait", d: `M${x(one[2])} ${y(place)}H${x(one[3]) + .01}` }));
   });
-  const figure = el("div", { class: "picture" }, picture);
-  if (lines.length < all.length) figure.append(el("p", { class: "note" }, `${lines.length} of the trip's ${grouped(all.length)} lines.`));
-  return figure;
+  const note = `${lines.length} of the trip's ${grouped(all.length)} lines.`;
+  return el("div", { class: "picture" }, picture, lines.length < all.length ? el("p", { class: "note" }, note) : null);
+}
+
+// From each timed line to the next, where time goes on.
+function drawRuns(lines, { x, y }) {
+  const runs = [];
+  let last = -1;
+  lines.forEach((one, place) => {
+    if (!timed(one)) return;
+    if (last >= 0 && lines[last][3] <= one[2]) runs.push(draw("path", { class: "run", d: `M${x(lines[last][3])} ${y(last)}L${x(one[2])} ${y(place)}` }));
+    last = place;
+  });
+  return runs;
 }
 
 function drawRow(one, place, { x, y, left, width, height, most, here }) {
@@ -229,14 +243,16 @@ function drawRow(one, place, { x, y, left, width, height, most, here }) {
     draw("text", { x: 4, y: y(place) + 4, class: here ? "here" : false }, cut, draw("title", {}, `line ${one[0]}, stop_sequence ${name}`))];
   if (here) parts.unshift(draw("rect", { class: "row-here", x: 0, y: y(place) - height / 2, width, height }));
   const lone = one[2] >= 0 ? one[2] : one[3];
-  if (!timed(one)) parts.push(draw("text", { x: lone >= 0 ? x(lone) : left + 14, y: y(place) + 4, class: "bad", "text-anchor": "start" }, lone >= 0 ? "one time only" : "no times"));
+  const words = lone >= 0 ? "one time only" : "no times";
+  if (!timed(one)) parts.push(draw("text", { x: lone >= 0 ? x(lone) : left + 14, y: y(place) + 4, class: "bad" }, words));
   return parts;
 }
 
 // The step that falls: from a departure to an arrival before it.
-function drawFall(lines, one, place, x, y) {
-  const before = timed(one) ? fallsFrom(lines, one) : null;
+function drawFall(all, lines, one, place, { x, y }) {
+  const before = timed(one) ? fallsFrom(all, one) : null;
   if (!before) return [];
+  // A row that isn't shown lies above the first one.
   const from = [x(before[3]), y(lines.indexOf(before))], to = [x(one[2]), y(place)];
   const long = Math.hypot(to[0] - from[0], to[1] - from[1]) || 1;
   const [right, down] = [(to[0] - from[0]) / long, (to[1] - from[1]) / long];
@@ -295,7 +311,8 @@ function startMap() {
   ground = project();
   const own = [...faulty.keys()].filter((line) => faulty.get(line).own), calls = [...faulty.keys()].filter((line) => !faulty.get(line).own);
   const plain = ground.points.map((_, place) => place + 2).filter((line) => !faulty.has(line));
-  ground.layer = draw("g", { class: faulty.size > 300 ? "dense" : false }, draw("path", { class: "stop", d: dots(plain) }), draw("path", { class: "call", d: dots(calls) }), draw("path", { class: "call-hole", d: dots(calls) }), draw("path", { class: "own", d: dots(own) }));
+  const layer = (name, lines) => draw("path", { class: name, d: dots(lines) });
+  ground.layer = draw("g", { class: faulty.size > 300 ? "dense" : false }, layer("stop", plain), layer("call", calls), layer("call-hole", calls), layer("own", own));
   ground.grid = draw("g", {});
   ground.labels = draw("g", {});
   ground.svg = draw("svg", { role: "img", "aria-label": mapWords(own.length, calls.length) }, ground.grid, ground.layer, ground.labels);
@@ -315,15 +332,20 @@ function mapWords(own, calls) {
 }
 
 function showLegend(own, calls) {
-  const sign = (...classes) => draw("svg", { width: 18, height: 18, viewBox: "-9 -9 18 18", "aria-hidden": "true" }, ...classes.map((name) => draw("path", { class: name, d: "M0 0h.01" })));
-  const items = [own ? [sign("own"), "findings on the stop's own line"] : null, calls ? [sign("call", "call-hole"), "findings where trips call"] : null, [sign("stop"), "other stops"]];
+  const dot = (name) => draw("path", { class: name, d: "M0 0h.01" });
+  const sign = (...names) => draw("svg", { width: 18, height: 18, viewBox: "-9 -9 18 18", "aria-hidden": "true" }, ...names.map(dot));
+  const items = [
+    own ? [sign("own"), "findings on the stop's own line"] : null,
+    calls ? [sign("call", "call-hole"), "findings where trips call"] : null,
+    [sign("stop"), "other stops"]];
+  byId("legend").hidden = !own && !calls;
   byId("legend").replaceChildren(...items.filter(Boolean).map((item) => el("span", {}, ...item)));
 }
 
 function showFaulty(most) {
   const total = (line) => faulty.get(line).own + faulty.get(line).calls;
   const all = [...faulty.keys()].sort((one, other) => total(other) - total(one) || one - other);
-  const item = (line) => el("li", {}, el("button", { type: "button", class: "link", "data-stop": line, click: () => chooseStop(line) }, stopName(line)), ` ${grouped(total(line))}`);
+  const item = (line) => el("li", {}, stopButton(line), ` ${grouped(total(line))}`);
   byId("faulty").replaceChildren(...all.slice(0, most).map(item));
   const more = byId("faulty-more");
   more.hidden = all.length <= most;
