@@ -1,5 +1,5 @@
 -- Laws: the numbers of an answer are small.
-use Prim.Native.Nat.{ℕ, zero, suc, _-_, _≤_, _<_}
+use Prim.Native.Nat.{ℕ, zero, suc, _-_, _*_, _≤_, _<_}
 use mathlib.Core.Path.{_≡_, refl, sym, ap, _∙_}
 use mathlib.Core.List.{List, [], _∷_, List·Memᴰ, List·Memᴰ·head, List·Memᴰ·tail}
 use mathlib.Core.Bool.{Bool, true, false, cond}
@@ -104,7 +104,7 @@ page-within p room ds = omega (arith, length-take room (keep (after p) ds), kept
 pub small-findings :
     (p : Place) (ds : List Finding) (lent list : List ℤ) (k : Sink) (r : Answer)
     → state list k ≡ handedOut p ds lent
-    → k .total ≤ 1441792
+    → k .total ≤ 17 * maxLines
     → r ≡ cond (eqb (k .total) 0) Accepted (Findings (k .written) (k .total))
     → Small r
 small-findings p ds lent list k r g h e =
@@ -112,6 +112,6 @@ small-findings p ds lent list k r g h e =
     let m : k .total ≡ length ds = ap (λ (z : State). z .total) g in
     rw e (go (eqb (k .total) 0) (omega (arith, page-within p (roomOf lent) ds)))
   where
-    go : (b : Bool) → k .written ≤ 1441792 → Small (cond b Accepted (Findings (k .written) (k .total)))
+    go : (b : Bool) → k .written ≤ 17 * maxLines → Small (cond b Accepted (Findings (k .written) (k .total)))
     go true w = tt
     go false w = (w, h)

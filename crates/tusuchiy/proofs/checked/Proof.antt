@@ -1,5 +1,6 @@
 -- `tusuchiy::checked` meets its contract.
-use Prim.Native.Nat.{_≤_}
+use Prim.Native.Nat.{_*_, _≤_}
+use Rattle.meaning.specs.Refusals.{maxLines}
 use native.Mathlib.Omega.{arith}
 use Rattle.tusuchiy.proofs.Bounds.{small-findings}
 use Rattle.tusuchiy.proofs.Laws.{rooms-kept, few-kept, tabled, outcome-read}
@@ -53,7 +54,7 @@ returns c =
     let z = c .before .before .before .before .before .before .before .before .before .before .before .before .before .before .before .before .before .before .before .before .before .before .before .before .before .before .before .before .before in
     let f = c .before .before .before .before .before .before .before .before .before .before .before .before .before .before .before .before .fill-all .ensures in
     let k = c .before .before .list-findings .ensures in
-    let total : c .before .before .list-findings .result .total ≤ 1441792 = omega (arith, k .1) in
+    let total : c .before .before .list-findings .result .total ≤ 17 * maxLines = omega (arith, k .1) in
     let h = k .0 _ (tabled (z .args .stops .now) (z .args .routes .now) (z .args .calendar .now) (z .args .trips .now) (z .args .stop-times .now) (z .args .stops-table .now) (z .args .routes-table .now) (z .args .calendar-table .now) (z .args .trips-table .now) (z .args .stop-times-table .now) (z .pre) _ _ _ _ _ _ (f .0) (f .1 .0) (f .1 .1 .0) (f .1 .1 .1 .0) (f .1 .1 .1 .1 .0) (f .1 .1 .1 .1 .1 .0) (f .1 .1 .1 .1 .1 .1)) in (
       outcome-read (z .args .stops .now) (z .args .routes .now) (z .args .calendar .now) (z .args .trips .now) (z .args .stop-times .now) (z .args .stops-table .now) (z .args .routes-table .now) (z .args .calendar-table .now) (z .args .trips-table .now) (z .args .stop-times-table .now) (z .pre) _ _ _ _ _ (z .args .findings .now) _ (z .args .from) (c .before .before .list-findings .result) _
           (f .0) (f .1 .0) (f .1 .1 .0) (f .1 .1 .1 .0) (f .1 .1 .1 .1 .0)
