@@ -14,7 +14,8 @@ use Rattle.meaning.specs.Tables.{Feed, stopIds, refer, parentStation, startDate
 use Rattle.meaning.specs.Rules.{row, dangling, rule21·stops, rule21·trips, rule21·times, kindOf, otherKind, rule22, rule23, rule24, given, secondsOf, timed, untimed, arrives, departs, rule26, rule27, ofTripLine, firstOfTrip, rule30, openEnded, rule31, stopRules, routeRules, serviceRules, tripRules, timeRules}
 use Rattle.meaning.proofs.References.{dangling-refer}
 use Rattle.judging.specs.Judging.{loose, offKind, bothGiven, halfTimed, sooner, stopJudged, routeJudged, serviceJudged, tripJudged, timeJudged, testsFrom}
-use Rattle.judging.proofs.Stored.{kind-number, one-number, day-number, given-stored, seconds-stored}
+use Rattle.judging.proofs.Stored.{kind-number, one-number, day-number}
+use Rattle.rows.proofs.Stored.{given-stored, seconds-stored}
 use Rattle.judging.proofs.Seen.{Refers, KindAt, IsTime, StopSeen, RouteSeen, ServiceSeen, TripSeen, TimeSeen}
 
 -- ---- one rule

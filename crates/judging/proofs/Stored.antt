@@ -8,8 +8,6 @@ use lib.Dec.{eqb}
 use lib.IntN.{ℤ}
 use borrow.Author.Tests.{eqb-true}
 use Rattle.num.specs.Signs.{natOf}
-use Rattle.meaning.specs.declared.Time.{Time}
-use Rattle.meaning.specs.declared.Time.the-variants.{Seconds, Untimed, NoTime}
 use Rattle.meaning.specs.declared.Date.{Date}
 use Rattle.meaning.specs.declared.Date.the-variants.{Day, NoDate}
 use Rattle.meaning.specs.declared.Choice.{Choice}
@@ -17,9 +15,8 @@ use Rattle.meaning.specs.declared.Choice.the-variants.{Picked, NoChoice}
 use Rattle.meaning.specs.Lists.{empty}
 use Rattle.meaning.specs.Columns.{Row}
 use Rattle.meaning.specs.Forms.{noMark, formed, digitText, choiceOf}
-use Rattle.meaning.specs.Tables.{locationType, seconds, day, picked, choiceOr, orZero, orMinus, oneIf}
-use Rattle.meaning.specs.Rules.{kindOf, dayOf, given, secondsOf, isOne}
-use Rattle.rows.specs.Cells.{timeIn}
+use Rattle.meaning.specs.Tables.{locationType, day, picked, choiceOr, orZero, orMinus, oneIf}
+use Rattle.meaning.specs.Rules.{kindOf, dayOf, isOne}
 
 -- ---- choices
 
@@ -68,18 +65,8 @@ one-number m v = stored _ m v (λ z. eqb (natOf z) 1) isOne go refl
     go (Picked n) = refl
     go NoChoice = refl
 
--- ---- days, times
+-- ---- days
 
 pub day-number : (d : Date) → natOf (day d) ≡ dayOf d
 day-number (Day n) = refl
 day-number NoDate = refl
-
-pub given-stored : (t : Time) → given (timeIn (seconds t)) ≡ given t
-given-stored (Seconds n) = refl
-given-stored Untimed = refl
-given-stored NoTime = refl
-
-pub seconds-stored : (t : Time) → secondsOf (timeIn (seconds t)) ≡ secondsOf t
-seconds-stored (Seconds n) = refl
-seconds-stored Untimed = refl
-seconds-stored NoTime = refl

@@ -10,21 +10,18 @@ use lib.IntN.{ℤ, pos}
 use lib.ListN.{length, getD, length-map}
 use borrow.Author.Tests.{eq-eqb, eqb-true, eqb-false}
 use Rattle.num.specs.Signs.{natOf}
-use Rattle.meaning.specs.declared.Number.{Number}
-use Rattle.meaning.specs.declared.Number.the-variants.{Value, NoNumber}
-use Rattle.meaning.specs.declared.Time.{Time}
-use Rattle.meaning.specs.declared.Time.the-variants.{Seconds, Untimed, NoTime}
 use Rattle.meaning.specs.Lists.{same}
 use Rattle.meaning.specs.Bytes.{Line, part, value, countLf, linesOf, startOf}
 use Rattle.meaning.specs.Columns.{Row, places, headerOf, rowOf, rowsOf}
 use Rattle.meaning.specs.Forms.{timeOf, sequenceOf}
-use Rattle.meaning.specs.Tables.{Feed, under, number, seconds, refer, tripIds, idPlace, timeTrip, stopSequence, arrivalTime, departureTime}
-use Rattle.meaning.specs.Rules.{timeRow, sequenceAt, sequence, isOf, valueOf, given, secondsOf, timed, arrives, departs, ofTripLine}
+use Rattle.meaning.specs.Tables.{Feed, under, seconds, refer, tripIds, idPlace, timeTrip, stopSequence, arrivalTime, departureTime}
+use Rattle.meaning.specs.Rules.{timeRow, sequenceAt, sequence, isOf, valueOf, secondsOf, timed, arrives, departs, ofTripLine}
 use Rattle.meaning.proofs.ListLaws.{both, same-self, same-equal}
 use Rattle.meaning.proofs.References.{refer-same}
 use Rattle.text.proofs.Lines.{lines-all}
 use Rattle.columns.proofs.Laws.{row-at}
 use Rattle.rows.specs.Cells.{boundsAt, timeIn}
+use Rattle.rows.proofs.Stored.{number-stored, given-stored, seconds-stored}
 use Rattle.ordering.specs.Ids.{tripOf, keyOf, strayId}
 use Rattle.marks.specs.Marks.{marked}
 use Rattle.marks.specs.Noted.{Noted, TripsNoted}
@@ -55,21 +52,6 @@ trips-same u v ids = go (same u v) refl
     go : (b : Bool) → same u v ≡ b → eqb (refer u ids) (refer v ids) && same (cond (eqb (refer u ids) 0) u []) (cond (eqb (refer v ids) 0) v []) ≡ b
     go true e = rw (same-equal u v e, eq-eqb (refer v ids) (refer v ids) refl) (same-self (cond (eqb (refer v ids) 0) v []))
     go false e = other e (eqb (refer u ids) (refer v ids)) refl
-
--- what is stored of a number and a time says all that rules ask
-stored-number : (n : Number) → natOf (number n) ≡ valueOf n
-stored-number (Value n) = refl
-stored-number NoNumber = refl
-
-stored-given : (z : Time) → given (timeIn (seconds z)) ≡ given z
-stored-given (Seconds n) = refl
-stored-given Untimed = refl
-stored-given NoTime = refl
-
-stored-seconds : (z : Time) → secondsOf (timeIn (seconds z)) ≡ secondsOf z
-stored-seconds (Seconds n) = refl
-stored-seconds Untimed = refl
-stored-seconds NoTime = refl
 
 module _ (w : Feed) (s : List ℕ) (lent : List ℤ) (some : 1 ≤ countLf s) (own : w .stopTimes ≡ rowsOf 5 s) where
   -- line x
@@ -108,7 +90,7 @@ module _ (w : Feed) (s : List ℕ) (lent : List ℤ) (some : 1 ≤ countLf s) (o
     unfolding keyOf sequenceAt sequence waitingOf at-line
     key-is =
         ap natOf (waits-at w s lent some x 2 low high (omega arith))
-        ∙ stored-number (sequenceOf (stopSequence (rowOf (places 5 (headerOf (linesOf s))) (at-line .text))))
+        ∙ number-stored (sequenceOf (stopSequence (rowOf (places 5 (headerOf (linesOf s))) (at-line .text))))
         ∙ ap (λ (r : Row). valueOf (sequenceOf (stopSequence r))) row-is
 
     arrival-is : getD (written 5 w s lent) (x * 8 + 3) (pos 0) ≡ seconds (timeOf (arrivalTime (timeRow w (x - 1))))
@@ -123,15 +105,15 @@ module _ (w : Feed) (s : List ℕ) (lent : List ℤ) (some : 1 ≤ countLf s) (o
     unfolding timedIn timed
     timed-is =
         let r : Row = timeRow w (x - 1) in
-        rw (arrival-is, departure-is, stored-given (timeOf (arrivalTime r)), stored-given (timeOf (departureTime r)))
+        rw (arrival-is, departure-is, given-stored (timeOf (arrivalTime r)), given-stored (timeOf (departureTime r)))
 
     arrives-is : secondsOf (timeIn (getD (written 5 w s lent) (x * 8 + 3) (pos 0))) ≡ arrives (timeRow w (x - 1))
     unfolding arrives
-    arrives-is = rw arrival-is (stored-seconds (timeOf (arrivalTime (timeRow w (x - 1)))))
+    arrives-is = rw arrival-is (seconds-stored (timeOf (arrivalTime (timeRow w (x - 1)))))
 
     departs-is : secondsOf (timeIn (getD (written 5 w s lent) (x * 8 + 4) (pos 0))) ≡ departs (timeRow w (x - 1))
     unfolding departs
-    departs-is = rw departure-is (stored-seconds (timeOf (departureTime (timeRow w (x - 1)))))
+    departs-is = rw departure-is (seconds-stored (timeOf (departureTime (timeRow w (x - 1)))))
 
   count-is : length (w .stopTimes) ≡ countLf s - 1
   count-is = rw own (rows-count 5 s)
