@@ -10,8 +10,8 @@ extern "C" {
 #endif
 
 /* The version of the check, as a text and as a number: 10000 for each major, 100 for each minor step. */
-#define TUSUCHIY_VERSION "0.1.0"
-#define TUSUCHIY_VERSION_NUMBER 100
+#define TUSUCHIY_VERSION "0.2.0"
+#define TUSUCHIY_VERSION_NUMBER 200
 
 /* The five files have numbers: in `file` of an answer and of a finding. */
 enum {
