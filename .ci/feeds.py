@@ -74,13 +74,20 @@ def many(folder, trips=32500):
     return put(folder, stops, ["route_id,route_short_name,route_type", "R,1,3"], CALENDAR + [WEEK], names, times)
 
 
-MARKUP = ['</script><script>window.broken=1</script>', '<img src=x onerror=window.broken=1>', '<!--<script>', ']]>&lt;b&gt;&amp;', "'\"><svg onload=window.broken=1>",
-          '${window.broken=1}{{data}}', '\u2028window.broken=1\u2029', 'javascript:window.broken=1', '</style><style>*{display:none}', '\u202eesrever\u0000\x1b[31m\\', '__proto__', 'constructor']
+MARKUP = [
+    "</script><script>window.broken=1</script>", "<img src=x onerror=window.broken=1>", "<!--<script>", "]]>&lt;b&gt;&amp;",
+    "'\"><svg onload=window.broken=1>", "${window.broken=1}{{data}}", "\u2028window.broken=1\u2029", "javascript:window.broken=1",
+    "</style><style>*{display:none}", "\u202eesrever\u0000\x1b[31m\\", "__proto__", "constructor",
+]
 
 
 # A value as a field.
 def quoted(value):
     return '"' + value.replace('"', '""') + '"'
+
+
+# A folder's name that would like to be markup.
+HOSTILE_NAME = "hostile<img src=x onerror=window.broken=1>&amp;'\""
 
 
 # Markup and script wherever a feed has room for them, with findings on each line, so that all of it is shown.
@@ -96,7 +103,9 @@ def hostile(folder):
     # What isn't UTF-8.
     stops.append(b"\xff\xfe<b>,\xc3,1,1,1,\x80")
     trips.append(b"\xff,W,\xed\xa0\x80<i>")
-    return put(folder, stops, routes, CALENDAR + [WEEK], trips, times)
+    put(folder, stops, routes, CALENDAR + [WEEK], trips, times)
+    open(os.path.join(folder, "<svg onload=window.broken=1>.txt"), "w").close()
+    return folder
 
 
 # Refused at a line of markup, and not by a word that is plain.
@@ -106,6 +115,7 @@ def hostile_refused(folder):
 
 # One trip whose lines stand in another order than their sequence: the third departs late, so the fourth arrives before it.
 def shuffled(folder):
-    times = ["trip_id,arrival_time,departure_time,stop_id,stop_sequence", "T,08:20:00,08:50:00,C,30", "T,08:10:00,08:05:00,B,20", "T,08:40:00,08:41:00,D,40", "T,08:00:00,08:01:00,A,10"]
+    times = ["trip_id,arrival_time,departure_time,stop_id,stop_sequence"]
+    times += ["T,08:20:00,08:50:00,C,30", "T,08:10:00,08:05:00,B,20", "T,08:40:00,08:41:00,D,40", "T,08:00:00,08:01:00,A,10"]
     stops = ["stop_id,stop_name,stop_lat,stop_lon"] + [f"{name},{name},{n},{n}" for n, name in enumerate("ABCD")]
     return put(folder, stops, ["route_id,route_short_name,route_type", "R,1,3"], CALENDAR + [WEEK], ["route_id,service_id,trip_id", "R,W,T"], times)

@@ -131,6 +131,9 @@ def compare_head(browser, case):
     total = len(case.findings)
     words = {"accepted": "✓Accepted", "refused": "✕Refused", "findings": f"!{total:,} finding{'s' * (total != 1)}"}
     same(f"{case.name}: verdict", browser.value("document.getElementById('verdict').textContent"), words[document["verdict"]])
+    same(f"{case.name}: feed", browser.value("document.querySelector('h1').textContent"), document["feed"])
+    unread = browser.value("[...document.querySelectorAll('#unread code')].map((name) => name.textContent)")
+    same(f"{case.name}: files not read", unread, document["unread"]["names"])
     counts = collections.Counter(number(found) for found in case.findings)
     rows = browser.value("[...document.querySelectorAll('#totals tbody tr')].map((row) => [Number(row.dataset.number), row.querySelector('.count').textContent])")
     same(f"{case.name}: totals", rows, [[rule, f"{count:,}"] for rule, count in sorted(counts.items())])
@@ -358,10 +361,13 @@ def every_page(browser, case):
 def main():
     os.makedirs(PICTURES, exist_ok=True)
     with tempfile.TemporaryDirectory() as folder:
-        made = {name: getattr(feeds, name)(os.path.join(folder, name)) for name in ["many", "town", "hostile", "hostile_refused", "shuffled"]}
+        for name in ["many", "town", "hostile_refused", "shuffled"]:
+            getattr(feeds, name)(os.path.join(folder, name))
+        feeds.hostile(os.path.join(folder, feeds.HOSTILE_NAME))
         large_case = Case(folder, "many", "many", plain=True)
         cases = {name: Case(folder, name, os.path.join(TOP, "examples", name)) for name in ["feed", "findings", "refused"]}
-        cases.update({name: Case(folder, name, name) for name in made if name != "many"})
+        cases.update({name: Case(folder, name, name) for name in ["town", "hostile_refused", "shuffled"]})
+        cases["hostile"] = Case(folder, "hostile", feeds.HOSTILE_NAME)
         browser = Browser()
         try:
             browser.size(1200, 900)
