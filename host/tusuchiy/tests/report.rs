@@ -9,7 +9,7 @@ use std::fs;
 fn the_status_is_the_verdict_and_the_page_is_the_file() {
     let folder = Folder::empty("report");
     let path = folder.at("report.html");
-    for (name, wanted, verdict) in [("feed", 0, "accepted"), ("findings", 1, "findings: 6"), ("refused", 2, "refused")]
+    for (name, wanted, verdict) in [("feed", 0, "accepted"), ("findings", 1, "findings: 5"), ("refused", 2, "refused")]
     {
         let output = run(&["report", &example(name), "-o", &path]);
         assert_eq!((status(&output), out(&output), said(&output)), (wanted, &format!("{verdict}\n")[..], ""));
