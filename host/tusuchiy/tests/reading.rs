@@ -116,15 +116,25 @@ fn links_in_a_feed_are_not_followed() {
 
 /// Checks with so much address space, in MiB.
 fn within(most: usize, words: &[&str]) -> Output {
-    command_after(&format!("ulimit -v {}", most << 10)).args(words).output().expect("the command runs")
+    limited(most, 900, words)
+}
+
+/// The same, for so many seconds: an emulator with too little for itself may go on for ever.
+fn limited(most: usize, seconds: usize, words: &[&str]) -> Output {
+    let limits = format!("ulimit -v {} && exec timeout {seconds} \"$0\" \"$@\"", most << 10);
+    command_after(&limits).args(words).output().expect("the command runs")
+}
+
+/// Is a small feed accepted with so much?
+fn starts(most: usize) -> bool {
+    limited(most, 30, &["check", "--quiet", &common::example("feed")]).status.code() == Some(0)
 }
 
 /// The address space that the program itself takes, and an emulator where there is one: in MiB, to the next 16.
 /// It isn't the same in every run, so this is where it is always enough, here and with more.
 fn own() -> usize {
     static OWN: OnceLock<usize> = OnceLock::new();
-    let runs = |most: usize| within(most, &["check", "--quiet", &common::example("feed")]).status.code() == Some(0);
-    let always = |most: &usize| (0..40).all(|run| runs(*most + run % 5 * 16));
+    let always = |most: &usize| (0..40).all(|run| starts(*most + run % 5 * 16));
     *OWN.get_or_init(|| (1..256).map(|step| step * 16).find(always).expect("memory"))
 }
 
@@ -164,9 +174,7 @@ fn memory_has_a_bound() {
 #[test]
 fn want_of_memory_is_no_abort() {
     let folder = huge("want");
-    let small = common::example("feed");
-    let starts = |most: &usize| within(*most, &["check", "--quiet", &small]).status.code() == Some(0);
-    let least = (1..256).map(|step| step * 8).find(starts).expect("memory");
+    let least = (1..256).map(|step| step * 8).find(|most| starts(*most)).expect("memory");
     let emulated = std::env::var_os(RUNNER).is_some();
     let mut told = 0;
     for most in (least..least + 192).step_by(16) {
