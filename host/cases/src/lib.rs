@@ -1,6 +1,7 @@
 //! Test cases for the check: vectors from a file, and feeds made from fixed seeds.
 #![forbid(unsafe_code)]
 
+pub mod agree;
 pub mod damage;
 pub mod edges;
 pub mod faults;

@@ -1,12 +1,12 @@
 //! The hash-map check against the customer's cases and the model: the answer, all tables and the list, whole.
 
 use cases::large::{self, families::FAMILIES};
-use cases::{by_model, difference, edges, generate, vectors, Case, Outcome};
+use cases::{agree, Case, Outcome};
 use model::fields::line_ends;
 use model::Answer;
 
 /// How many seeds it is compared with the model on.
-const SEEDS: u64 = 4000;
+const SEEDS: usize = 4000;
 
 fn by_quick(case: &Case) -> Outcome {
     let mut tables = case.tables.clone();
@@ -15,47 +15,25 @@ fn by_quick(case: &Case) -> Outcome {
     Outcome { answer, tables, list }
 }
 
-/// Fails where the outcome is not the one wanted.
-fn compare(case: &Case, wanted: &Outcome) {
-    if let Some(difference) = difference(wanted, &by_quick(case)) {
-        panic!("{}: {difference}", case.name);
-    }
-}
-
 #[test]
 fn on_every_vector() {
-    for (case, wanted) in vectors::customers() {
-        compare(&case, &wanted);
-    }
+    agree::on_every_vector(by_quick);
 }
 
 #[test]
 fn on_every_edge_case() {
-    for case in edges::cases() {
-        compare(&case, &by_model(&case));
-    }
+    agree::on_every_edge_case(by_quick);
 }
 
 #[test]
 fn on_generated_feeds() {
-    for seed in 0..SEEDS {
-        let case = generate::case(seed);
-        compare(&case, &by_model(&case));
-    }
+    agree::on_generated_feeds(by_quick, SEEDS);
 }
 
 /// The benchmark's feeds, with a list for all findings and with one that ends before them.
 #[test]
 fn on_the_benchmarks_feeds() {
-    for family in &FAMILIES {
-        for (lines, room) in [(64, 1000), (64, 10), (4096, 100_000)] {
-            let files = (family.feed)(lines);
-            let tables = large::tables(&files, -1);
-            let name = format!("{}, {lines} lines", family.name);
-            let case = Case { name, files, tables, list: vec![-1; room], start: [0, 0, 0] };
-            compare(&case, &by_model(&case));
-        }
-    }
+    agree::on_the_benchmarks_feeds(by_quick, &[(64, 1000), (64, 10), (4096, 100_000)]);
 }
 
 /// The model would take minutes here under an emulator, so this only shows that none is refused.
@@ -73,7 +51,7 @@ fn the_benchmarks_largest_feeds_can_be_read() {
 fn compare_files(name: &str, files: [Vec<u8>; 5]) {
     let tables = large::tables(&files, -1);
     let case = Case { name: name.to_string(), files, tables, list: vec![-1; 10], start: [0, 0, 0] };
-    compare(&case, &by_model(&case));
+    agree::with_model(by_quick, &case);
 }
 
 /// Rules 1 and 2, at the limit and one over it.

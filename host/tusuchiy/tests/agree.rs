@@ -1,11 +1,10 @@
 //! The archive against the model and the customer's cases: the answer, all tables and the list, whole.
 
-use cases::large::families::FAMILIES;
-use cases::{by_model, difference, edges, generate, vectors, Case, Outcome};
+use cases::{agree, by_model, generate, Case, Outcome};
 use tusuchiy::{Answer, Verdict};
 
 /// How many seeds the archive and the model are compared on.
-const SEEDS: u64 = 8000;
+const SEEDS: usize = 8000;
 
 /// The seven numbers that an answer must have.
 fn numbers(answer: model::Answer) -> Answer {
@@ -63,16 +62,12 @@ fn by_archive(case: &Case) -> Outcome {
 
 /// Fails where the archive's outcome is not the one wanted.
 fn compare(case: &Case, wanted: &Outcome) {
-    if let Some(difference) = difference(wanted, &by_archive(case)) {
-        panic!("{}: {difference}", case.name);
-    }
+    agree::with_outcome(by_archive, case, wanted);
 }
 
 #[test]
 fn on_every_vector() {
-    for (case, wanted) in vectors::customers() {
-        compare(&case, &wanted);
-    }
+    agree::on_every_vector(by_archive);
 }
 
 /// A caller's thread may be small: the call has a stack of its own.
@@ -85,31 +80,18 @@ fn from_a_thread_with_a_small_stack() {
 
 #[test]
 fn on_every_edge_case() {
-    for case in edges::cases() {
-        compare(&case, &by_model(&case));
-    }
+    agree::on_every_edge_case(by_archive);
 }
 
 #[test]
 fn on_generated_feeds() {
-    for seed in 0..SEEDS {
-        let case = generate::case(seed);
-        compare(&case, &by_model(&case));
-    }
+    agree::on_generated_feeds(by_archive, SEEDS);
 }
 
 /// The benchmark's feeds: every order of a trip's lines.
 #[test]
 fn on_the_benchmarks_feeds() {
-    for family in &FAMILIES {
-        for lines in [64, 1024] {
-            let files = (family.feed)(lines);
-            let tables = cases::large::tables(&files, -1);
-            let name = format!("{}, {lines} lines", family.name);
-            let case = Case { name, files, tables, list: vec![-1; 12_000], start: [0, 0, 0] };
-            compare(&case, &by_model(&case));
-        }
-    }
+    agree::on_the_benchmarks_feeds(by_archive, &[(64, 12_000), (1024, 12_000)]);
 }
 
 /// Pages of one and of two findings, each from the last one handed out, join to the whole list.

@@ -1,0 +1,81 @@
+//! A check held to the customer's cases and to the model, on as many threads as there are processors.
+
+use crate::large::{self, families::FAMILIES};
+use crate::{by_model, difference, edges, generate, vectors, Case, Outcome};
+use std::thread;
+
+/// What a check makes of a case.
+pub type Checks = fn(&Case) -> Outcome;
+
+/// Fails where the outcome is not the one wanted.
+pub fn with_outcome(check: Checks, case: &Case, wanted: &Outcome) {
+    if let Some(difference) = difference(wanted, &check(case)) {
+        panic!("{}: {difference}", case.name);
+    }
+}
+
+/// Fails where the outcome is not the model's.
+pub fn with_model(check: Checks, case: &Case) {
+    with_outcome(check, case, &by_model(case));
+}
+
+/// Each number below `count` by one of the threads; where one of them fails, so does this.
+fn share(count: usize, each: impl Fn(usize) + Sync) {
+    let threads = thread::available_parallelism().map_or(1, Into::into);
+    thread::scope(|scope| {
+        for first in 0..threads {
+            let each = &each;
+            scope.spawn(move || (first..count).step_by(threads).for_each(each));
+        }
+    });
+}
+
+pub fn on_every_vector(check: Checks) {
+    for (case, wanted) in vectors::customers() {
+        with_outcome(check, &case, &wanted);
+    }
+}
+
+pub fn on_every_edge_case(check: Checks) {
+    let cases = edges::cases();
+    share(cases.len(), |place| with_model(check, &cases[place]));
+}
+
+pub fn on_generated_feeds(check: Checks, seeds: usize) {
+    share(seeds, |seed| with_model(check, &generate::case(seed as u64)));
+}
+
+/// The benchmark's feeds, with so many lines and so long a list.
+pub fn on_the_benchmarks_feeds(check: Checks, sizes: &[(usize, usize)]) {
+    for family in &FAMILIES {
+        for &(lines, room) in sizes {
+            let files = (family.feed)(lines);
+            let tables = large::tables(&files, -1);
+            let name = format!("{}, {lines} lines", family.name);
+            with_model(check, &Case { name, files, tables, list: vec![-1; room], start: [0, 0, 0] });
+        }
+    }
+}
+
+#[cfg(test)]
+mod tests {
+    use super::*;
+    use model::Answer;
+
+    /// Accepts everything and writes nothing.
+    fn wrong(case: &Case) -> Outcome {
+        Outcome { answer: Answer::Accepted, tables: case.tables.clone(), list: case.list.clone() }
+    }
+
+    #[test]
+    #[should_panic(expected = "thread panicked")]
+    fn a_wrong_check_fails_on_edge_cases() {
+        on_every_edge_case(wrong);
+    }
+
+    #[test]
+    #[should_panic(expected = "thread panicked")]
+    fn a_wrong_check_fails_on_generated_feeds() {
+        on_generated_feeds(wrong, 100);
+    }
+}
