@@ -49,3 +49,23 @@ fn a_feed_adds_no_markup() {
         assert_eq!(hostile.matches(sign).count(), tame.matches(sign).count(), "{sign}");
     }
 }
+
+/// A line of 10 MB that 5,000 findings name is looked through once: 50 GB would take this test's time many times over.
+#[test]
+fn a_long_line_that_many_findings_name() {
+    let folder = Folder::empty("report-long");
+    let note = "x".repeat(10_000_000);
+    let late = format!("T,9:00:00,9:00:00,A,1,{note}\n");
+    let lines: String = (2..5002).map(|sequence| format!("T,8:00:00,8:00:00,A,{sequence},\n")).collect();
+    let header = "trip_id,arrival_time,departure_time,stop_id,stop_sequence,note\n";
+    let mut files = common::example_files("feed");
+    files[0] = b"stop_id,stop_name,stop_lat,stop_lon\nA,Alder,1,2\n".to_vec();
+    files[3] = b"route_id,service_id,trip_id\nB7,WEEKDAYS,T\n".to_vec();
+    files[4] = format!("{header}{late}{lines}").into_bytes();
+    let feed = folder.put_feed("feed", &files);
+    let began = std::time::Instant::now();
+    let output = run(&["report", &feed, "-o", &folder.at("report.html")]);
+    assert_eq!((status(&output), out(&output)), (1, "findings: 5000\n"));
+    assert!(began.elapsed().as_secs() < 120, "{:?}", began.elapsed());
+    assert!(fs::metadata(folder.at("report.html")).expect("a page").len() < 10_000_000);
+}

@@ -5,7 +5,8 @@ use crate::feed::Feed;
 use crate::fields::split;
 use crate::safe;
 use crate::value::Value;
-use std::cell::OnceCell;
+use std::cell::{OnceCell, RefCell};
+use std::collections::HashMap;
 use std::ops::Range;
 
 /// A line longer than this many bytes is shown with gaps; so much is kept of a marked field, before a gap and after it.
@@ -32,10 +33,17 @@ pub enum Piece {
     Gap(usize),
 }
 
-/// The headers of a feed, split once.
+/// A line longer than this is split once, however many findings name it: one of 16 MB may be named by 65,535.
+const LONG: usize = 4096;
+
+/// Where the fields of a line stand.
+type Fields = Vec<Range<usize>>;
+
+/// The headers of a feed, and its long lines by file and line, split once.
 pub struct Headers<'a> {
     feed: &'a Feed,
     names: [OnceCell<Vec<Vec<u8>>>; 5],
+    long: RefCell<HashMap<(usize, usize), Fields>>,
 }
 
 /// A part of a line that is to be marked, and what it is called.
@@ -43,14 +51,19 @@ type Mark = (Range<usize>, String);
 
 impl<'a> Headers<'a> {
     pub fn new(feed: &'a Feed) -> Self {
-        Headers { feed, names: Default::default() }
+        Headers { feed, names: Default::default(), long: RefCell::default() }
     }
 
     /// Where the value of a column stands in a line, if it does.
     pub fn field(&self, file: usize, line: usize, column: &str) -> Option<Range<usize>> {
         let header = self.names[file - 1].get_or_init(|| names(self.feed, file));
         let place = header.iter().position(|name| name == column.as_bytes())?;
-        split(self.feed.line(file, line)?).ok()?.into_iter().nth(place)
+        let text = self.feed.line(file, line)?;
+        if text.len() <= LONG {
+            return split(text).ok()?.into_iter().nth(place);
+        }
+        let mut long = self.long.borrow_mut();
+        long.entry((file, line)).or_insert_with(|| split(text).unwrap_or_default()).get(place).cloned()
     }
 
     /// The lines that go with a finding or a refusal: its own first, then those that its members name.
