@@ -31,8 +31,8 @@ use Rattle.meaning.proofs.Held.{triples-length, tables-long, list-long}
 
 -- ---- other tables that are long enough
 
-module _ (files : List (List ℕ)) (tables others : List (List ℤ)) (five : length tables ≡ length files) (read : verdictOf files (map length tables) ≡ Readable) (enough : LongEnough files others) where
-  whole : (f : ℕ) → 1 ≤ f → f ≤ length files → WholeKept f (fileOf files f) (getD (map length tables) (f - 1) 0)
+module _ (files : List (List ℕ)) (tables others : List (List ℤ)) (count : length tables ≡ length files) (read : verdictOf files (map length tables) ≡ Readable) (enough : LongEnough files others) where
+  whole : (f : ℕ) → 1 ≤ f → f ≤ length files → WholeKept files f (fileOf files f) (getD (map length tables) (f - 1) 0)
   whole f low high = whole-kept files (map length tables) read f low high (omega (arith, length-map tables length))
 
   -- what rules 1 to 4 say of a file with another table
@@ -92,11 +92,11 @@ module _ (files : List (List ℕ)) (tables : List (List ℤ)) (list : List ℤ) 
 
 -- ---- calls one after the other
 
-module _ (files : List (List ℕ)) (five : length files ≡ 5) where
+module _ (files : List (List ℕ)) (six : length files ≡ 6) where
   abbrev all : List Finding
   all = findingsOf (feedOf files)
 
-  -- what the calls from here on need: five tables with which the feed reads, room for a finding, and what is left
+  -- what the calls from here on need: six tables with which the feed reads, room for a finding, and what is left
   record Ready (tables : List (List ℤ)) (list : List ℤ) (p : Place) (rest : List Finding) : Type 0 where
     count : length tables ≡ length files
     reads : verdictOf files (map length tables) ≡ Readable
@@ -117,7 +117,7 @@ module _ (files : List (List ℕ)) (five : length files ≡ 5) where
   next-ready : (tables : List (List ℤ)) (list : List ℤ) (p : Place) (rest : List Finding) → Ready tables list p rest
       → (o : Outcome) → outcome files tables list p ≡ o → Ready (o .tables) (o .list) (lastPlace p (written o)) (drop (length list / 3) rest)
   next-ready tables list p rest h o e =
-      let long : map length (o .tables) ≡ map length tables = rw (← e) (tables-long files tables list p five) in
+      let long : map length (o .tables) ≡ map length tables = rw (← e) (tables-long files tables list p six) in
       let same : length (o .list) ≡ length list = rw (← e) (list-long files tables list p) in
       let n : length (o .tables) ≡ length tables = sym (length-map (o .tables) length) ∙ ap length long ∙ length-map tables length in
       let g = handed-now files tables list p (h .reads) rest (h .left) in
@@ -194,11 +194,11 @@ module _ (files : List (List ℕ)) (five : length files ≡ 5) where
       (fewer-then x tables list p rest q h (length (y ∷ xs)) k (omega arith))
 
   -- Calls from the list's beginning until one hands out none together give the whole list; each tells the same total; they end.
-  pub calls-join : (tables : List (List ℤ)) (list : List ℤ) → length tables ≡ 5 → verdictOf files (map length tables) ≡ Readable → 3 ≤ length list
+  pub calls-join : (tables : List (List ℤ)) (list : List ℤ) → length tables ≡ 6 → verdictOf files (map length tables) ≡ Readable → 3 ≤ length list
       → (xs : List Lending) → Each (Enough files) xs → CallsJoin files tables list xs
   calls-join tables list count reads room xs enough =
       let start : Left all beginning all = record { front = []; whole = refl; kept = keep-all (after beginning) all (findings-from-beginning (feedOf files)) } in
-      let ready : Ready tables list beginning all = record { count = count ∙ sym five; reads = reads; room = room; left = start } in
+      let ready : Ready tables list beginning all = record { count = count ∙ sym six; reads = reads; room = room; left = start } in
       record {
         whole = joined xs tables list beginning all enough ready;
         total = totals xs tables list beginning all enough ready;

@@ -122,9 +122,9 @@ module _ (files : List (List ℕ)) where
           let u : Linewise noLine (p .file) (testsOn (p .file) ls) 1 ls p = record { file = refl; from = t .first; to = omega arith; rule = t .rule } in
           along-of [] inText 1 files p (record { number = p .file; from = t .from; to = omega arith; here = rw (file-along (p .file) ls) (linewise-exactly noLine (p .file) (testsOn (p .file) ls) 1 ls p .1 u) })
 
-file-rising : (f : ℕ) (s : List ℕ) (room : ℕ) → rising 0 5 (fileTests f s room) ≡ true
+file-rising : (files : List (List ℕ)) (f : ℕ) (s : List ℕ) (room : ℕ) → rising 0 5 (fileTests files f s room) ≡ true
 unfolding rising fileTests
-file-rising f s room = refl
+file-rising files f s room = refl
 
 tests-rising : (f : ℕ) (ls : List Line) (n : ℕ) (l : Line) → rising 4 14 (testsOn f ls n l) ≡ true
 unfolding rising testsOn headTests lineTests textTests rowTests
@@ -162,7 +162,7 @@ pub file-number : (files : List (List ℕ)) (rooms : List ℕ) (p : Claim) → F
 file-number files rooms p t =
     let s = fileOf files (p .file) in
     let room = getD rooms (p .file - 1) 0 in
-    rising-within 0 5 (fileTests (p .file) s room) (file-rising (p .file) s room) (testOf p) (t .rule)
+    rising-within 0 5 (fileTests files (p .file) s room) (file-rising files (p .file) s room) (testOf p) (t .rule)
 
 pub line-number : (files : List (List ℕ)) (p : Claim) → LineClaim files p → Within 4 14 (testOf p)
 line-number files p t =
@@ -217,12 +217,12 @@ module _ (files : List (List ℕ)) (rooms : List ℕ) where
   pub claims-ordered : Ordered speaksBefore (claims files rooms)
   unfolding claims
   claims-ordered =
-      rule-queue 1 rule1 _ (omega arith) (rule-queue 2 rule2 _ (omega arith) (rule-queue 3 rule3 _ (omega arith) (rule-queue 4 rule4 _ (omega arith) lines-queue))) .ordered
+      rule-queue 1 rule1 _ (omega arith) (rule-queue 2 rule2 _ (omega arith) (rule-queue 3 rule3 _ (omega arith) (rule-queue 4 (rule4 files) _ (omega arith) lines-queue))) .ordered
 
 module _ (files : List (List ℕ)) (rooms : List ℕ) (p : Claim) where
   -- rule n is among the tests of a file
   abbrev Tested : ℕ → (ℕ → List ℕ → ℕ → Bool) → Type 0
-  Tested n P = (f : ℕ) (s : List ℕ) (room : ℕ) → List·Memᴰ (test n (P f s room)) (fileTests f s room)
+  Tested n P = (f : ℕ) (s : List ℕ) (room : ℕ) → List·Memᴰ (test n (P f s room)) (fileTests files f s room)
 
   abbrev testHere : ℕ → (ℕ → List ℕ → ℕ → Bool) → Test
   testHere n P = test n (P (p .file) (fileOf files (p .file)) (getD rooms (p .file - 1) 0))
@@ -265,15 +265,15 @@ module _ (files : List (List ℕ)) (rooms : List ℕ) (p : Claim) where
           over-in 1 rule1 _ (λ f s room. List·Memᴰ·head refl)
           (over-in 2 rule2 _ (λ f s room. List·Memᴰ·tail (List·Memᴰ·head refl))
           (over-in 3 rule3 _ (λ f s room. List·Memᴰ·tail (List·Memᴰ·tail (List·Memᴰ·head refl)))
-          (over-in 4 rule4 _ (λ f s room. List·Memᴰ·tail (List·Memᴰ·tail (List·Memᴰ·tail (List·Memᴰ·head refl))))
+          (over-in 4 (rule4 files) _ (λ f s room. List·Memᴰ·tail (List·Memᴰ·tail (List·Memᴰ·tail (List·Memᴰ·head refl))))
           (λ m. inr (line-exactly files p .0 m)))))
 
-      whole : FileClaim files rooms p → List·Memᴰ (testOf p) (fileTests (p .file) (fileOf files (p .file)) (getD rooms (p .file - 1) 0)) → List·Memᴰ p (claims files rooms)
+      whole : FileClaim files rooms p → List·Memᴰ (testOf p) (fileTests files (p .file) (fileOf files (p .file)) (getD rooms (p .file - 1) 0)) → List·Memᴰ p (claims files rooms)
       whole t =
           over-of 1 rule1 _ _ t
           (over-of 2 rule2 _ _ t
           (over-of 3 rule3 _ _ t
-          (over-of 4 rule4 _ _ t
+          (over-of 4 (rule4 files) _ _ t
           (λ m. absurd (List·Memᴰ·not-nil m)))))
 
       lines : List·Memᴰ p (inFiles 1 files) → List·Memᴰ p (claims files rooms)
@@ -281,7 +281,7 @@ module _ (files : List (List ℕ)) (rooms : List ℕ) (p : Claim) where
           Memᴰ·append-right (overFiles 1 rule1 1 files rooms)
           (Memᴰ·append-right (overFiles 2 rule2 1 files rooms)
           (Memᴰ·append-right (overFiles 3 rule3 1 files rooms)
-          (Memᴰ·append-right (overFiles 4 rule4 1 files rooms) m)))
+          (Memᴰ·append-right (overFiles 4 (rule4 files) 1 files rooms) m)))
 
   -- Of a file as a whole the tests of rules 1 to 4 are claimed, and nothing else.
   pub claim-of-file : p .line ≡ 0 → List·Memᴰ p (claims files rooms) ↔ FileClaim files rooms p

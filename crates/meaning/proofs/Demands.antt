@@ -1,4 +1,4 @@
--- The three demands hold of every outcome of five files and five tables.
+-- The three demands hold of every outcome of six files and six tables.
 use Prim.Native.Nat.{ℕ}
 use native.Mathlib.Omega.{arith}
 use mathlib.Core.Path.{_≡_}
@@ -37,15 +37,15 @@ module _ (files : List (List ℕ)) (tables : List (List ℤ)) (list : List ℤ) 
         untouched = refused-untouched files tables list p;
       }
 
-  module _ (five : length files ≡ 5) (lent : length tables ≡ 5) where
+  module _ (six : length files ≡ 6) (lent : length tables ≡ 6) where
     pub demand-2 : Demand2 files tables (outcome files tables list p)
     demand-2 =
         let exactly = accepted-exactly files tables list p in
         let read = readable-exactly files (map length tables) in
         record {
           values = λ n f i k low high inside known. values-kept files (map length tables) (readable n) f low (omega arith) i inside k known;
-          held = λ n. tables-held files tables list p five (readable n) lent;
-          long = tables-long files tables list p five;
+          held = λ n. tables-held files tables list p six (readable n) lent;
+          long = tables-long files tables list p six;
           accepted = (λ e. let k = exactly .0 e in (read .0 (k .0), k .1), λ k. exactly .1 (read .1 (k .0), k .1));
           times = accepted-times files tables list p;
           sequences = accepted-sequences files tables list p;
@@ -57,5 +57,5 @@ module _ (files : List (List ℕ)) (tables : List (List ℤ)) (list : List ℤ) 
       ordered = list-ordered (feedOf files);
       handed-out = λ n. page-told files tables list p (readable n);
       long = list-long files tables list p;
-      joins = λ n room. calls-join files five tables list lent (readable n) room;
+      joins = λ n room. calls-join files six tables list lent (readable n) room;
     }

@@ -13,16 +13,16 @@ use Rattle.meaning.specs.declared.Verdict.the-variants.{Readable, Unread
 use Rattle.meaning.specs.Lists.{keep}
 use Rattle.meaning.specs.Bytes.{linesOf}
 use Rattle.meaning.specs.Columns.{Row, places, headerOf, rowsOf}
-use Rattle.meaning.specs.Tables.{Feed, fileOf, feedOf, refer, packFrom, packedDays, stopNumbers, routeNumbers, serviceNumbers, tripNumbers, timeNumbers, widths, widthOf, idColumn, numbersOf, idPlace, recordOf, filled}
+use Rattle.meaning.specs.Tables.{Feed, fileOf, feedOf, refer, packFrom, packedDays, stopNumbers, routeNumbers, serviceNumbers, tripNumbers, timeNumbers, exceptionNumbers, widths, widthOf, idColumn, numbersOf, idPlace, recordOf, filled}
 use Rattle.meaning.specs.Refusals.{verdictOf}
 use Rattle.meaning.specs.Rules.{row}
 use Rattle.meaning.specs.Findings.{Finding, findingsOf, after, page, roomOf, triples, handed}
 use Rattle.meaning.specs.Outcome.{outcome, readOutcome, refusedOr, filledFrom}
 use Rattle.meaning.specs.Promises.{WholeKept}
-use Rattle.meaning.specs.Held.{Names, lineAt, StopHeld, RouteHeld, mark, ServiceHeld, TripHeld, TimeHeld, TableHeld, TablesHeld}
+use Rattle.meaning.specs.Held.{Names, lineAt, StopHeld, RouteHeld, mark, ServiceHeld, TripHeld, TimeHeld, ExceptionHeld, TableHeld, TablesHeld}
 use Rattle.meaning.proofs.References.{find-first}
 use Rattle.meaning.proofs.Readable.{whole-kept, getD-map-in}
-use Rattle.meaning.proofs.Records.{laid-length, zero-held, rest-held, length-held, number-held, row-held}
+use Rattle.meaning.proofs.Records.{laid-length, rows-count, zero-held, rest-held, length-held, number-held, row-held}
 
 -- a reference is stored as the first line with that id, or 0
 refers : (v : List ℕ) (ids : List (List ℕ)) (z : ℤ) → z ≡ pos (refer v ids) → Names v ids z
@@ -41,15 +41,15 @@ recordBy f w s i r =
     cond (eqb f 5) (numbersOf f w r) (id ++ numbersOf f w r)
 
 -- a table that is filled for a file with these rows
-module _ (f : ℕ) (low : 1 ≤ f) (high : f ≤ 5) (w : Feed) (s : List ℕ) (lent : List ℤ) (rows : List Row) (are : rows ≡ rowsOf f s) where
+module _ (f : ℕ) (low : 1 ≤ f) (high : f ≤ 6) (w : Feed) (s : List ℕ) (lent : List ℤ) (rows : List Row) (are : rows ≡ rowsOf f s) where
   table-held :
       (Record : ℕ → (ℕ → ℤ) → Type 0)
       → ((i : ℕ) → i < length rows → Record i (λ j. getD (filled f w s lent) ((i + 1) * widthOf f + j) (pos 0)))
-      → TableHeld (widthOf f) (length rows) Record lent (filled f w s lent)
+      → TableHeld (widthOf f) (length (linesOf s)) Record lent (filled f w s lent)
   table-held Record each = record {
-    zeroth = λ j h. zero-held f low high w s lent j h (pos 1);
-    records = each;
-    rest = rw are (rest-held f low high w s lent);
+    zeroth = λ some j h. zero-held f low high w s lent some j h (pos 1);
+    records = λ i h. each i (omega (arith, ap length are, rows-count f s));
+    rest = rest-held f low high w s lent;
   }
 
   -- number j of the record of a line
@@ -61,7 +61,7 @@ module _ (f : ℕ) (low : 1 ≤ f) (high : f ≤ 5) (w : Feed) (s : List ℕ) (l
       ∙ ap (λ (r : Row). getD (recordBy f w s i r) j (pos 0)) (sym (row-held f low high w s lent i m) ∙ ap (λ (l : List Row). row l i) (sym are))
 
 module _ (w : Feed) (s : List ℕ) (lent : List ℤ) where
-  stops-held : w .stops ≡ rowsOf 1 s → TableHeld 6 (length (w .stops)) (StopHeld w s) lent (filled 1 w s lent)
+  stops-held : w .stops ≡ rowsOf 1 s → TableHeld 6 (length (linesOf s)) (StopHeld w s) lent (filled 1 w s lent)
   unfolding widthOf widths idPlace idColumn numbersOf stopNumbers
   stops-held e = table-held 1 (omega arith) (omega arith) w s lent (w .stops) e (StopHeld w s) each
     where
@@ -76,7 +76,7 @@ module _ (w : Feed) (s : List ℕ) (lent : List ℤ) where
             parent = refers _ _ _ (at 5 (omega arith));
           }
 
-  routes-held : w .routes ≡ rowsOf 2 s → TableHeld 3 (length (w .routes)) (RouteHeld w s) lent (filled 2 w s lent)
+  routes-held : w .routes ≡ rowsOf 2 s → TableHeld 3 (length (linesOf s)) (RouteHeld w s) lent (filled 2 w s lent)
   unfolding widthOf widths idPlace idColumn numbersOf routeNumbers
   routes-held e = table-held 2 (omega arith) (omega arith) w s lent (w .routes) e (RouteHeld w s) each
     where
@@ -85,7 +85,7 @@ module _ (w : Feed) (s : List ℕ) (lent : List ℤ) where
           let at = cell 2 (omega arith) (omega arith) w s lent (w .routes) e i h in
           record { id = record { from = at 0 (omega arith); to = at 1 (omega arith) }; kind = at 2 (omega arith) }
 
-  calendar-held : w .calendar ≡ rowsOf 3 s → TableHeld 5 (length (w .calendar)) (ServiceHeld w s) lent (filled 3 w s lent)
+  calendar-held : w .calendar ≡ rowsOf 3 s → TableHeld 5 (length (linesOf s)) (ServiceHeld w s) lent (filled 3 w s lent)
   unfolding widthOf widths idPlace idColumn numbersOf serviceNumbers
   calendar-held e = table-held 3 (omega arith) (omega arith) w s lent (w .calendar) e (ServiceHeld w s) each
     where
@@ -99,11 +99,11 @@ module _ (w : Feed) (s : List ℕ) (lent : List ℤ) where
             end = at 4 (omega arith);
           }
 
-  trips-held : w .trips ≡ rowsOf 4 s → TableHeld 7 (length (w .trips)) (TripHeld w s) lent (filled 4 w s lent)
+  trips-held : w .trips ≡ rowsOf 4 s → TableHeld 8 (length (linesOf s)) (TripHeld w s) lent (filled 4 w s lent)
   unfolding widthOf widths idPlace idColumn numbersOf tripNumbers
   trips-held e = table-held 4 (omega arith) (omega arith) w s lent (w .trips) e (TripHeld w s) each
     where
-      each : (i : ℕ) → i < length (w .trips) → TripHeld w s i (λ j. getD (filled 4 w s lent) ((i + 1) * 7 + j) (pos 0))
+      each : (i : ℕ) → i < length (w .trips) → TripHeld w s i (λ j. getD (filled 4 w s lent) ((i + 1) * 8 + j) (pos 0))
       each i h =
           let at = cell 4 (omega arith) (omega arith) w s lent (w .trips) e i h in
           record {
@@ -113,9 +113,10 @@ module _ (w : Feed) (s : List ℕ) (lent : List ℤ) where
             direction = at 4 (omega arith);
             wheelchair = at 5 (omega arith);
             bikes = at 6 (omega arith);
+            dated = refers _ _ _ (at 7 (omega arith));
           }
 
-  times-held : w .stopTimes ≡ rowsOf 5 s → TableHeld 8 (length (w .stopTimes)) (TimeHeld w s) lent (filled 5 w s lent)
+  times-held : w .stopTimes ≡ rowsOf 5 s → TableHeld 8 (length (linesOf s)) (TimeHeld w s) lent (filled 5 w s lent)
   unfolding widthOf widths idPlace idColumn numbersOf timeNumbers
   times-held e = table-held 5 (omega arith) (omega arith) w s lent (w .stopTimes) e (TimeHeld w s) each
     where
@@ -132,6 +133,15 @@ module _ (w : Feed) (s : List ℕ) (lent : List ℤ) where
             dropOff = at 6 (omega arith);
             point = at 7 (omega arith);
           }
+
+  dates-held : w .dates ≡ rowsOf 6 s → TableHeld 4 (length (linesOf s)) (ExceptionHeld w s) lent (filled 6 w s lent)
+  unfolding widthOf widths idPlace idColumn numbersOf exceptionNumbers
+  dates-held e = table-held 6 (omega arith) (omega arith) w s lent (w .dates) e (ExceptionHeld w s) each
+    where
+      each : (i : ℕ) → i < length (w .dates) → ExceptionHeld w s i (λ j. getD (filled 6 w s lent) ((i + 1) * 4 + j) (pos 0))
+      each i h =
+          let at = cell 6 (omega arith) (omega arith) w s lent (w .dates) e i h in
+          record { id = record { from = at 0 (omega arith); to = at 1 (omega arith) }; date = at 2 (omega arith); kind = at 3 (omega arith) }
 
 -- ---- the outcome
 
@@ -167,9 +177,9 @@ unfolding triples
 triples-length [] = omega arith
 triples-length (d ∷ r) = omega (arith, triples-length r)
 
-module _ (files : List (List ℕ)) (tables : List (List ℤ)) (list : List ℤ) (p : Place) (five : length files ≡ 5) where
+module _ (files : List (List ℕ)) (tables : List (List ℤ)) (list : List ℤ) (p : Place) (six : length files ≡ 6) where
   module _ (read : verdictOf files (map length tables) ≡ Readable) where
-    kept : (k : ℕ) → k < length files → k < length tables → WholeKept (1 + k) (getD files k []) (length (getD tables k []))
+    kept : (k : ℕ) → k < length files → k < length tables → WholeKept files (1 + k) (getD files k []) (length (getD tables k []))
     unfolding fileOf
     kept k h l =
         let y : 1 + k - 1 ≡ k = omega arith in
@@ -180,9 +190,9 @@ module _ (files : List (List ℕ)) (tables : List (List ℤ)) (list : List ℤ) 
     read-long : map length (filledFrom 1 (feedOf files) files tables) ≡ map length tables
     read-long =
         filled-long 1 (feedOf files) files tables
-        (λ k h l. length-held (1 + k) (omega arith) (omega arith) (feedOf files) (getD files k []) (getD tables k []) (kept k h l))
+        (λ k h l. length-held (1 + k) (omega arith) (omega arith) (feedOf files) (getD files k []) (getD tables k []) (kept k h l .roomy))
 
-    pub tables-held : length tables ≡ 5 → TablesHeld files tables (outcome files tables list p .tables)
+    pub tables-held : length tables ≡ 6 → TablesHeld files tables (outcome files tables list p .tables)
     unfolding outcome readOutcome feedOf fileOf
     tables-held lent =
         let at = filled-at 1 (feedOf files) files tables in
@@ -193,6 +203,7 @@ module _ (files : List (List ℕ)) (tables : List (List ℤ)) (list : List ℤ) 
           calendar = rw (at 2 (omega arith) (omega arith)) (calendar-held w (getD files 2 []) (getD tables 2 []) refl);
           trips = rw (at 3 (omega arith) (omega arith)) (trips-held w (getD files 3 []) (getD tables 3 []) refl);
           stopTimes = rw (at 4 (omega arith) (omega arith)) (times-held w (getD files 4 []) (getD tables 4 []) refl);
+          dates = rw (at 5 (omega arith) (omega arith)) (dates-held w (getD files 5 []) (getD tables 5 []) refl);
         })
 
   -- Every table is as long as it was lent.

@@ -36,18 +36,18 @@ getD-map-in g (x ∷ l) zero d e h = refl
 getD-map-in g (x ∷ l) (suc i) d e h = getD-map-in g l i d e (omega arith)
 
 module _ (files : List (List ℕ)) (rooms : List ℕ) (read : verdictOf files rooms ≡ Readable) (f : ℕ) (from : 1 ≤ f) (to : f ≤ length files) where
-  none-whole : (room : f ≤ length rooms) (t : Test) → List·Memᴰ t (fileTests f (fileOf files f) (getD rooms (f - 1) 0)) → t .broken ≡ false
+  none-whole : (room : f ≤ length rooms) (t : Test) → List·Memᴰ t (fileTests files f (fileOf files f) (getD rooms (f - 1) 0)) → t .broken ≡ false
   none-whole room t m =
       readable-exactly files rooms .0 read (claim (t .number) f 0 (t .broken))
       (claim-of-file files rooms (claim (t .number) f 0 (t .broken)) refl .1 (record { line = refl; from = from; to = to; room = room; rule = m }))
 
-  pub whole-kept : f ≤ length rooms → WholeKept f (fileOf files f) (getD rooms (f - 1) 0)
+  pub whole-kept : f ≤ length rooms → WholeKept files f (fileOf files f) (getD rooms (f - 1) 0)
   unfolding fileTests rule1 rule2 rule3
   whole-kept room = record {
     short = ltb-false _ _ (none-whole room (test 1 (rule1 f (fileOf files f) (getD rooms (f - 1) 0))) (List·Memᴰ·head refl));
     few = ltb-false _ _ (none-whole room (test 2 (rule2 f (fileOf files f) (getD rooms (f - 1) 0))) (List·Memᴰ·tail (List·Memᴰ·head refl)));
     roomy = ltb-false _ _ (none-whole room (test 3 (rule3 f (fileOf files f) (getD rooms (f - 1) 0))) (List·Memᴰ·tail (List·Memᴰ·tail (List·Memᴰ·head refl))));
-    ended = none-whole room (test 4 (rule4 f (fileOf files f) (getD rooms (f - 1) 0))) (List·Memᴰ·tail (List·Memᴰ·tail (List·Memᴰ·tail (List·Memᴰ·head refl))));
+    ended = none-whole room (test 4 (rule4 files f (fileOf files f) (getD rooms (f - 1) 0))) (List·Memᴰ·tail (List·Memᴰ·tail (List·Memᴰ·tail (List·Memᴰ·head refl))));
   }
 
   module _ (i : ℕ) (h : i < length (rowsOf f (fileOf files f))) where

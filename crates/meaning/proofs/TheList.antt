@@ -5,7 +5,7 @@ use native.Mathlib.Nat.{add-sub-cancel, mul-suc}
 use mathlib.Core.Path.{_≡_, refl, sym, ap, _∙_}
 use mathlib.Core.Logic.{_↔_, ⊎-elim}
 use mathlib.Core.Bool.{Bool, true, false, cond}
-use mathlib.Core.List.{List, [], _∷_, map, append-nil, List·Memᴰ, List·Memᴰ·head, List·Memᴰ·tail, List·Memᴰ·not-nil, List·Memᴰ·cases-cons}
+use mathlib.Core.List.{List, [], _∷_, map, List·Memᴰ, List·Memᴰ·head, List·Memᴰ·tail, List·Memᴰ·not-nil, List·Memᴰ·cases-cons}
 use lib.IntN.{ℤ}
 use lib.ListN.{length, getD, replicate, length-replicate, length-append, List·getD-eq-default}
 use lib.Dec.{ltb, eqb}
@@ -15,9 +15,10 @@ use Rattle.meaning.specs.declared.Place.{Place}
 use Rattle.meaning.specs.declared.Verdict.{Verdict}
 use Rattle.meaning.specs.declared.Verdict.the-variants.{Readable, Unreadable}
 use Rattle.meaning.specs.declared.Answer.the-variants.{Accepted, Findings}
-use Rattle.meaning.specs.Tables.{Feed, feedOf}
+use Rattle.meaning.specs.Lists.{flat}
+use Rattle.meaning.specs.Tables.{Feed, feedOf, rowsIn}
 use Rattle.meaning.specs.Refusals.{Test, test, Claim, claim, onLine, verdictOf}
-use Rattle.meaning.specs.Rules.{stopRules, routeRules, serviceRules, tripRules, timeRules, recordCounts, recordCount, rulesOf, onRecords, bindingsOf, bindings}
+use Rattle.meaning.specs.Rules.{stopRules, routeRules, serviceRules, tripRules, timeRules, dateRules, recordCount, rulesOf, onRecords, bindingsOf, bindings}
 use Rattle.meaning.specs.Findings.{Finding, finding, listed, findingsOf, above, after, page, roomOf, answerOf, answerNumbers}
 use Rattle.meaning.specs.Outcome.{readOutcome, refusedOr, outcome}
 use Rattle.meaning.specs.Promises.{Ordered, Each, saysAccepted, saysFindings, saysRefused, Ends, accepted, findings, refused, BrokenAt, Findable, comesBefore, beginning}
@@ -96,39 +97,40 @@ records-along f rules i (suc n) =
     rw (records-along f rules (i + 1) n, e, add-sub-cancel i 2)
 
 rules-rising : (w : Feed) (f i : ℕ) → rising 19 32 (rulesOf w f i) ≡ true
-unfolding rising rulesOf stopRules routeRules serviceRules tripRules timeRules
+unfolding rising rulesOf stopRules routeRules serviceRules tripRules timeRules dateRules
 rules-rising w zero i = refl
 rules-rising w (suc zero) i = refl
 rules-rising w (suc (suc zero)) i = refl
 rules-rising w (suc (suc (suc zero))) i = refl
 rules-rising w (suc (suc (suc (suc zero)))) i = refl
 rules-rising w (suc (suc (suc (suc (suc zero))))) i = refl
-rules-rising w (suc (suc (suc (suc (suc (suc f)))))) i = refl
+rules-rising w (suc (suc (suc (suc (suc (suc zero)))))) i = refl
+rules-rising w (suc (suc (suc (suc (suc (suc (suc f))))))) i = refl
 
--- the files with records are 1 to 5
-counted-files : (w : Feed) (f : ℕ) → 0 < recordCount w f → (1 ≤ f) × (f < 6)
-unfolding recordCount recordCounts
+-- the files with records are 1 to 6
+counted-files : (w : Feed) (f : ℕ) → 0 < recordCount w f → (1 ≤ f) × (f < 7)
+unfolding recordCount rowsIn
 counted-files w zero h = absurd (omega arith)
-counted-files w (suc f) h = (omega arith, go (ltb f 5) refl)
+counted-files w (suc f) h = (omega arith, go (ltb f 6) refl)
   where
-    go : (t : Bool) → ltb f 5 ≡ t → suc f < 6
-    go true e = omega (arith, ltb-true f 5 e)
+    go : (t : Bool) → ltb f 6 ≡ t → suc f < 7
+    go true e = omega (arith, ltb-true f 6 e)
     go false e =
-        let k : 6 ≤ suc f = omega (arith, ltb-false f 5 e) in
-        let z = List·getD-eq-default (recordCounts w) 0 k in
-        absurd (omega arith)
+        let k : 7 ≤ suc f = omega (arith, ltb-false f 6 e) in
+        let z = List·getD-eq-default ([] ∷ w .stops ∷ w .routes ∷ w .calendar ∷ w .trips ∷ w .stopTimes ∷ w .dates ∷ []) [] k in
+        absurd (omega (arith, ap length z))
 
 module _ (w : Feed) where
   -- the files, counted from 1
-  abbrev five : List (Unit {0})
-  five = replicate 5 tt
+  abbrev six : List (Unit {0})
+  six = replicate 6 tt
 
   abbrev ofNumber : ℕ → Unit {0} → List Claim
   ofNumber f u = bindingsOf w f
 
-  bindings-along : bindings w ≡ along ofNumber 1 five
-  unfolding bindings along
-  bindings-along = rw append-nil
+  bindings-along : bindings w ≡ along ofNumber 1 six
+  unfolding bindings along flat
+  bindings-along = refl
 
   abbrev records : ℕ → List (Unit {0})
   records f = replicate (recordCount w f) tt
@@ -148,7 +150,7 @@ module _ (w : Feed) where
   file-exactly f p = rw (file-along f) (linewise-exactly tt f (ruled f) 2 (records f) p)
 
   bindings-ordered : Ordered rank (bindings w)
-  bindings-ordered = rw bindings-along (along-ordered tt ofNumber rank own apart 1 five)
+  bindings-ordered = rw bindings-along (along-ordered tt ofNumber rank own apart 1 six)
     where
       own : (f : ℕ) (u : Unit {0}) → Ordered rank (bindingsOf w f)
       own f u = rw (file-along f) (linewise-ordered tt f (ruled f) 2 (records f) 19 32 (λ k b. rules-rising w f (k - 2)))
@@ -160,13 +162,13 @@ module _ (w : Feed) where
           rank-file x y (omega arith)
 
   module _ (f n r : ℕ) where
-    broken-in : Along tt ofNumber 1 five (claim r f n true) → BrokenAt w f n r
+    broken-in : Along tt ofNumber 1 six (claim r f n true) → BrokenAt w f n r
     broken-in t =
         let u = file-exactly (t .number) (claim r f n true) .0 (t .here) in
         let count = records-count (t .number) in
         rw (u .file) (record { from = u .from; to = omega arith; rule = u .rule })
 
-    broken-of : BrokenAt w f n r → Along tt ofNumber 1 five (claim r f n true)
+    broken-of : BrokenAt w f n r → Along tt ofNumber 1 six (claim r f n true)
     broken-of b =
         let file = counted-files w f (omega arith) in
         let count = records-count f in
@@ -176,8 +178,8 @@ module _ (w : Feed) where
     pub listed-exactly : List·Memᴰ (finding f n r) (findingsOf w) ↔ BrokenAt w f n r
     unfolding findingsOf
     listed-exactly = (
-      λ m. broken-in (along-in tt ofNumber 1 five (claim r f n true) (rw bindings-along at (listed-in f n r (bindings w) m))),
-      λ b. listed-of f n r (bindings w) (rw bindings-along (along-of tt ofNumber 1 five (claim r f n true) (broken-of b))),
+      λ m. broken-in (along-in tt ofNumber 1 six (claim r f n true) (rw bindings-along at (listed-in f n r (bindings w) m))),
+      λ b. listed-of f n r (bindings w) (rw bindings-along (along-of tt ofNumber 1 six (claim r f n true) (broken-of b))),
     )
 
   -- The list rises strictly by file, line, rule, so each finding stands once.
@@ -185,7 +187,7 @@ module _ (w : Feed) where
   unfolding findingsOf
   list-ordered = listed-ordered (bindings w) bindings-ordered
 
--- A finding's file is 1 to 5, its line one of that file's records, its rule 20 to 31.
+-- A finding's file is 1 to 6, its line one of that file's records, its rule 20 to 31.
 pub finding-numbers : (w : Feed) → Each (Findable w) (findingsOf w)
 finding-numbers w d m =
     let b = listed-exactly w (d .file) (d .line) (d .rule) .0 m in
@@ -209,8 +211,8 @@ records-length f m rules each i zero = omega arith
 records-length f m rules each i (suc n) = simp (length-append, line-length, each, mul-suc) (omega (arith, records-length f m rules each (i + 1) n))
 
 -- The list has at most one finding for each rule of each line.
-pub total-bound : (w : Feed) → length (findingsOf w) ≤ 3 * length (w .stops) + 2 * length (w .routes) + 2 * length (w .calendar) + 4 * length (w .trips) + 6 * length (w .stopTimes)
-unfolding findingsOf bindings bindingsOf rulesOf recordCount recordCounts stopRules routeRules serviceRules tripRules timeRules
+pub total-bound : (w : Feed) → length (findingsOf w) ≤ 3 * length (w .stops) + 2 * length (w .routes) + 2 * length (w .calendar) + 4 * length (w .trips) + 6 * length (w .stopTimes) + length (w .dates)
+unfolding findingsOf bindings bindingsOf rulesOf recordCount rowsIn stopRules routeRules serviceRules tripRules timeRules dateRules flat
 total-bound w =
     omega (
       arith,
@@ -220,6 +222,7 @@ total-bound w =
       records-length 3 2 (serviceRules w) (λ i. refl) 0 (length (w .calendar)),
       records-length 4 4 (tripRules w) (λ i. refl) 0 (length (w .trips)),
       records-length 5 6 (timeRules w) (λ i. refl) 0 (length (w .stopTimes)),
+      records-length 6 1 (dateRules w) (λ i. refl) 0 (length (w .dates)),
     )
 
 -- a feed that reads is not refused

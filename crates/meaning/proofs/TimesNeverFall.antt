@@ -9,9 +9,9 @@ use lib.IntN.{ℤ}
 use lib.ListN.{length}
 use borrow.Author.Tests.{ltb-false, lt-ltb, eqb-false}
 use Rattle.meaning.specs.declared.Place.{Place}
-use Rattle.meaning.specs.Tables.{Feed, feedOf}
+use Rattle.meaning.specs.Tables.{Feed, feedOf, rowsIn}
 use Rattle.meaning.specs.Refusals.{test}
-use Rattle.meaning.specs.Rules.{sequenceAt, isOf, outruns, rule28, rule29, timeRules, rulesOf, recordCounts, recordCount}
+use Rattle.meaning.specs.Rules.{sequenceAt, isOf, outruns, rule28, rule29, timeRules, rulesOf, recordCount}
 use Rattle.meaning.specs.Findings.{findingsOf, answerNumbers}
 use Rattle.meaning.specs.Outcome.{outcome}
 use Rattle.meaning.specs.Promises.{saysAccepted, TimesNeverFall, SequencesDiffer}
@@ -32,11 +32,11 @@ module _ (w : Feed) (clean : findingsOf w ≡ []) where
   unbroken f i r false h m = refl
 
   no-28 : (j : ℕ) → j < length (w .stopTimes) → rule28 w j ≡ false
-  unfolding recordCount recordCounts rulesOf timeRules
+  unfolding recordCount rowsIn rulesOf timeRules
   no-28 j h = unbroken 5 j 28 (rule28 w j) h (List·Memᴰ·tail (List·Memᴰ·tail (List·Memᴰ·tail (List·Memᴰ·tail (List·Memᴰ·head refl)))))
 
   no-29 : (j : ℕ) → j < length (w .stopTimes) → rule29 w j ≡ false
-  unfolding recordCount recordCounts rulesOf timeRules
+  unfolding recordCount rowsIn rulesOf timeRules
   no-29 j h = unbroken 5 j 29 (rule29 w j) h (List·Memᴰ·tail (List·Memᴰ·tail (List·Memᴰ·tail (List·Memᴰ·tail (List·Memᴰ·tail (List·Memᴰ·head refl))))))
 
 -- ---- between two lines of one trip

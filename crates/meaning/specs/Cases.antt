@@ -55,20 +55,20 @@ Holds (longitude s d) = longitudeOf (ascii s) ≡ d
 Holds (line s vs) = (good (ascii s) ≡ true) × (values (ascii s) ≡ map ascii vs)
 Holds (refusedLine s) = good (ascii s) ≡ false
 Holds (found files ds) = findingsOf (feedOf (map ascii files)) ≡ ds
-Holds (read files v) = verdictOf (map ascii files) (replicate 5 99) ≡ v
+Holds (read files v) = verdictOf (map ascii files) (replicate 6 99) ≡ v
 Holds (records f files rs) = recordsOf f (feedOf (map ascii files)) (fileOf (map ascii files) f) ≡ rs
 Holds (call files tables list p o) = outcome (map ascii files) tables list p ≡ o
 Holds (handed files list p a after) =
-    let o = outcome (map ascii files) (replicate 5 (sevens 99)) list p in
+    let o = outcome (map ascii files) (replicate 6 (sevens 99)) list p in
     (o .answer ≡ a) × (o .list ≡ after)
 Holds (called files list lendings each) =
-    map written (calls (map ascii files) (replicate 5 (sevens 99)) list beginning lendings) ≡ each
+    map written (calls (map ascii files) (replicate 6 (sevens 99)) list beginning lendings) ≡ each
 
 abbrev pub AllHold : List Case → Type 0
 AllHold [] = Unit {0}
 AllHold (c ∷ r) = Holds c × AllHold r
 
--- One feed in full.
+-- One feed in full, without calendar_dates.txt.
 abbrev pub example : List String
 example =
     "stop_id,stop_name,stop_lat,stop_lon\nA,Alder,1.5,2\nB,Birch,1.6,2\n"
@@ -76,6 +76,7 @@ example =
     ∷ "service_id,monday,tuesday,wednesday,thursday,friday,saturday,sunday,start_date,end_date\nW,1,1,1,1,1,0,0,20240101,20241231\n"
     ∷ "route_id,service_id,trip_id\nR,W,T\nR,X,U\n"
     ∷ "trip_id,arrival_time,departure_time,stop_id,stop_sequence\nT,08:00:00,08:00:00,A,1\nT,07:59:59,08:05:00,B,2\nT,,,C,2\n"
+    ∷ ""
     ∷ []
 
 -- Values at the edges, starred, and the feed above.
@@ -92,7 +93,7 @@ starred =
     ∷ line "\"a\"\"b\",c" ("a\"b" ∷ "c" ∷ [])
     ∷ refusedLine "a\"b"
     ∷ refusedLine "\"a\"b"
-    ∷ call example (sevens 19 ∷ sevens 6 ∷ sevens 12 ∷ sevens 21 ∷ sevens 33 ∷ []) (sevens 20) beginning (record {
+    ∷ call example (sevens 19 ∷ sevens 6 ∷ sevens 12 ∷ sevens 24 ∷ sevens 33 ∷ sevens 5 ∷ []) (sevens 20) beginning (record {
       answer = Findings 5 5;
       tables =
           (pos 0 ∷ pos 0 ∷ pos 0 ∷ pos 0 ∷ pos 0 ∷ pos 0
@@ -104,14 +105,15 @@ starred =
           ∷ (pos 0 ∷ pos 0 ∷ pos 0 ∷ pos 0 ∷ pos 0
           ∷ pos 88 ∷ pos 89 ∷ pos 31 ∷ pos 20240101 ∷ pos 20241231
           ∷ pos 7 ∷ pos 7 ∷ [])
-          ∷ (pos 0 ∷ pos 0 ∷ pos 0 ∷ pos 0 ∷ pos 0 ∷ pos 0 ∷ pos 0
-          ∷ pos 32 ∷ pos 33 ∷ pos 1 ∷ pos 1 ∷ negsuc 0 ∷ pos 0 ∷ pos 0
-          ∷ pos 38 ∷ pos 39 ∷ pos 1 ∷ pos 0 ∷ negsuc 0 ∷ pos 0 ∷ pos 0 ∷ [])
+          ∷ (pos 0 ∷ pos 0 ∷ pos 0 ∷ pos 0 ∷ pos 0 ∷ pos 0 ∷ pos 0 ∷ pos 0
+          ∷ pos 32 ∷ pos 33 ∷ pos 1 ∷ pos 1 ∷ negsuc 0 ∷ pos 0 ∷ pos 0 ∷ pos 0
+          ∷ pos 38 ∷ pos 39 ∷ pos 1 ∷ pos 0 ∷ negsuc 0 ∷ pos 0 ∷ pos 0 ∷ pos 0 ∷ [])
           ∷ (pos 0 ∷ pos 0 ∷ pos 0 ∷ pos 0 ∷ pos 0 ∷ pos 0 ∷ pos 0 ∷ pos 0
           ∷ pos 1 ∷ pos 1 ∷ pos 1 ∷ pos 28800 ∷ pos 28800 ∷ pos 0 ∷ pos 0 ∷ negsuc 0
           ∷ pos 1 ∷ pos 2 ∷ pos 2 ∷ pos 28799 ∷ pos 29100 ∷ pos 0 ∷ pos 0 ∷ negsuc 0
           ∷ pos 1 ∷ pos 0 ∷ pos 2 ∷ negsuc 0 ∷ negsuc 0 ∷ pos 0 ∷ pos 0 ∷ negsuc 0
           ∷ pos 7 ∷ [])
+          ∷ sevens 5
           ∷ [];
       list =
           pos 4 ∷ pos 3 ∷ pos 21
@@ -131,6 +133,7 @@ hurriedFeed =
     ∷ "service_id,monday,tuesday,wednesday,thursday,friday,saturday,sunday,start_date,end_date\nW,1,1,1,1,1,0,0,20240101,20241231\n"
     ∷ "route_id,service_id,trip_id\nR,W,T\n"
     ∷ "trip_id,arrival_time,departure_time,stop_id,stop_sequence\nT,08:00:00,08:05:00,A,1\nT,,,A,2\nT,08:04:59,08:10:00,A,3\n"
+    ∷ ""
     ∷ []
 
 abbrev pub hurried : List Case
@@ -142,14 +145,19 @@ hurried =
 
 -- ---- worked examples: what a reader would get wrong soonest, from document 01's own words
 
--- five files around these three: one route and one service
+-- one service
+abbrev pub oneService : String
+oneService = "service_id,monday,tuesday,wednesday,thursday,friday,saturday,sunday,start_date,end_date\nW,1,1,1,1,1,0,0,20240101,20241231\n"
+
+-- the files around these three: one route, one service, no calendar_dates.txt
 abbrev pub around : String → String → String → List String
 around stops trips times =
     stops
     ∷ "route_id,route_short_name,route_type\nR,7,3\n"
-    ∷ "service_id,monday,tuesday,wednesday,thursday,friday,saturday,sunday,start_date,end_date\nW,1,1,1,1,1,0,0,20240101,20241231\n"
+    ∷ oneService
     ∷ trips
     ∷ times
+    ∷ ""
     ∷ []
 
 -- one stop, one trip, and its two timed lines
@@ -166,7 +174,7 @@ twoTimes = "trip_id,arrival_time,departure_time,stop_id,stop_sequence\nT,8:00:00
 abbrev pub acceptedCall : Case
 acceptedCall =
     let times : String = "trip_id,arrival_time,departure_time,stop_id,stop_sequence\nT,08:00:00,08:00:00,A,1\nT,,,A,2\nT,08:05:00,08:05:00,A,3\n" in
-    call (around oneStop oneTrip times) (sevens 12 ∷ sevens 6 ∷ sevens 10 ∷ sevens 15 ∷ sevens 33 ∷ []) (sevens 4) beginning (record {
+    call (around oneStop oneTrip times) (sevens 12 ∷ sevens 6 ∷ sevens 10 ∷ sevens 17 ∷ sevens 33 ∷ [] ∷ []) (sevens 4) beginning (record {
       answer = Accepted;
       tables =
           (pos 0 ∷ pos 0 ∷ pos 0 ∷ pos 0 ∷ pos 0 ∷ pos 0
@@ -175,14 +183,15 @@ acceptedCall =
           ∷ pos 37 ∷ pos 38 ∷ pos 3 ∷ [])
           ∷ (pos 0 ∷ pos 0 ∷ pos 0 ∷ pos 0 ∷ pos 0
           ∷ pos 88 ∷ pos 89 ∷ pos 31 ∷ pos 20240101 ∷ pos 20241231 ∷ [])
-          ∷ (pos 0 ∷ pos 0 ∷ pos 0 ∷ pos 0 ∷ pos 0 ∷ pos 0 ∷ pos 0
-          ∷ pos 32 ∷ pos 33 ∷ pos 1 ∷ pos 1 ∷ negsuc 0 ∷ pos 0 ∷ pos 0
+          ∷ (pos 0 ∷ pos 0 ∷ pos 0 ∷ pos 0 ∷ pos 0 ∷ pos 0 ∷ pos 0 ∷ pos 0
+          ∷ pos 32 ∷ pos 33 ∷ pos 1 ∷ pos 1 ∷ negsuc 0 ∷ pos 0 ∷ pos 0 ∷ pos 0
           ∷ pos 7 ∷ [])
           ∷ (pos 0 ∷ pos 0 ∷ pos 0 ∷ pos 0 ∷ pos 0 ∷ pos 0 ∷ pos 0 ∷ pos 0
           ∷ pos 1 ∷ pos 1 ∷ pos 1 ∷ pos 28800 ∷ pos 28800 ∷ pos 0 ∷ pos 0 ∷ negsuc 0
           ∷ pos 1 ∷ pos 1 ∷ pos 2 ∷ negsuc 0 ∷ negsuc 0 ∷ pos 0 ∷ pos 0 ∷ negsuc 0
           ∷ pos 1 ∷ pos 1 ∷ pos 3 ∷ pos 29100 ∷ pos 29100 ∷ pos 0 ∷ pos 0 ∷ negsuc 0
           ∷ pos 7 ∷ [])
+          ∷ []
           ∷ [];
       list = sevens 4;
     })
@@ -195,7 +204,7 @@ refusedAs n f l = record { number = n; file = f; line = l; column = 0 }
 abbrev pub refusedCall : Case
 refusedCall =
     let times : String = "trip_id,arrival_time,departure_time,stop_id,stop_sequence\nT,8:00:00,8:00:00,A,1\nT,9:60:00,9:60:00,A,2\n" in
-    let tables : List (List ℤ) = sevens 12 ∷ sevens 6 ∷ sevens 10 ∷ sevens 14 ∷ sevens 24 ∷ [] in
+    let tables : List (List ℤ) = sevens 12 ∷ sevens 6 ∷ sevens 10 ∷ sevens 16 ∷ sevens 24 ∷ sevens 3 ∷ [] in
     call (around oneStop oneTrip times) tables (sevens 4) beginning (record { answer = Refused (refusedAs 13 5 3); tables = tables; list = sevens 4 })
 
 -- The feed in full, from its first finding on, with room for two: its second and its third, and the total of five.
@@ -310,6 +319,88 @@ abbrev pub id65 : Case
 id65 =
     read (around "stop_id,stop_name,stop_lat,stop_lon\n12345678901234567890123456789012345678901234567890123456789012345,Alder,1.5,2\n" oneTrip twoTimes) (Unreadable (refusedAs 11 1 2))
 
+-- ---- services by date, from document 02's words
+
+-- one stop, one route and a trip with two lines; its service is as these two files have it
+abbrev pub serviced : String → String → List String
+serviced calendar dates =
+    oneStop
+    ∷ "route_id,route_short_name,route_type\nR,7,3\n"
+    ∷ calendar
+    ∷ oneTrip
+    ∷ twoTimes
+    ∷ dates
+    ∷ []
+
+-- calendar.txt isn't supplied: its table is left as lent, record 0 too, and references into it are 0. The eighth number of a trip is the
+-- first record of its service, not the earliest date: W on line 3, though line 4 has an earlier day. "W" is W.
+abbrev pub datesOnly : Case
+datesOnly =
+    call (serviced "" "service_id,date,exception_type\nV,20240101,1\n\"W\",20240301,2\nW,20240201,1\n")
+    (sevens 12 ∷ sevens 6 ∷ sevens 2 ∷ sevens 16 ∷ sevens 24 ∷ sevens 17 ∷ []) (sevens 1) beginning (record {
+      answer = Accepted;
+      tables =
+          (pos 0 ∷ pos 0 ∷ pos 0 ∷ pos 0 ∷ pos 0 ∷ pos 0
+          ∷ pos 36 ∷ pos 37 ∷ pos 15000000 ∷ pos 20000000 ∷ pos 0 ∷ pos 0 ∷ [])
+          ∷ (pos 0 ∷ pos 0 ∷ pos 0
+          ∷ pos 37 ∷ pos 38 ∷ pos 3 ∷ [])
+          ∷ sevens 2
+          ∷ (pos 0 ∷ pos 0 ∷ pos 0 ∷ pos 0 ∷ pos 0 ∷ pos 0 ∷ pos 0 ∷ pos 0
+          ∷ pos 32 ∷ pos 33 ∷ pos 1 ∷ pos 0 ∷ negsuc 0 ∷ pos 0 ∷ pos 0 ∷ pos 2 ∷ [])
+          ∷ (pos 0 ∷ pos 0 ∷ pos 0 ∷ pos 0 ∷ pos 0 ∷ pos 0 ∷ pos 0 ∷ pos 0
+          ∷ pos 1 ∷ pos 1 ∷ pos 1 ∷ pos 28800 ∷ pos 28800 ∷ pos 0 ∷ pos 0 ∷ negsuc 0
+          ∷ pos 1 ∷ pos 1 ∷ pos 2 ∷ pos 29100 ∷ pos 29100 ∷ pos 0 ∷ pos 0 ∷ negsuc 0 ∷ [])
+          ∷ (pos 0 ∷ pos 0 ∷ pos 0 ∷ pos 0
+          ∷ pos 31 ∷ pos 32 ∷ pos 20240101 ∷ pos 1
+          ∷ pos 44 ∷ pos 47 ∷ pos 20240301 ∷ pos 2
+          ∷ pos 59 ∷ pos 60 ∷ pos 20240201 ∷ pos 1
+          ∷ pos 7 ∷ [])
+          ∷ [];
+      list = sevens 1;
+    })
+
+-- A service that stands in both files: number 4 is its calendar.txt record, number 8 its first file 6 record.
+abbrev pub inBoth : Case
+inBoth =
+    records 4 (serviced oneService "service_id,date,exception_type\nW,20240301,2\n")
+    ((pos 0 ∷ pos 0 ∷ pos 0 ∷ pos 0 ∷ pos 0 ∷ pos 0 ∷ pos 0 ∷ pos 0 ∷ [])
+    ∷ (pos 32 ∷ pos 33 ∷ pos 1 ∷ pos 1 ∷ negsuc 0 ∷ pos 0 ∷ pos 0 ∷ pos 1 ∷ [])
+    ∷ [])
+
+-- If both are empty, it is file 3 that breaks rule 4.
+abbrev pub bothEmpty : Case
+bothEmpty = read (serviced "" "") (Unreadable (refusedAs 4 3 0))
+
+-- .. in its turn among the files
+abbrev pub inItsTurn : Case
+inItsTurn =
+    read (oneStop ∷ "" ∷ "" ∷ oneTrip ∷ twoTimes ∷ "" ∷ []) (Unreadable (refusedAs 4 2 0))
+
+-- A file with bytes is supplied: file 6 without its last ending breaks rule 4, and calendar.txt may be empty beside it.
+abbrev pub datesUnended : Case
+datesUnended = read (serviced "" "service_id,date,exception_type") (Unreadable (refusedAs 4 6 0))
+
+-- .. and so is a header alone: the feed reads, and 21 says that the service stands in neither file
+abbrev pub datesHeaderOnly : Case
+datesHeaderOnly = found (serviced "" "service_id,date,exception_type\n") (finding 4 2 21 ∷ [])
+
+-- 13: exception_type is 1 or 2
+abbrev pub exceptionZero : Case
+exceptionZero =
+    read (serviced oneService "service_id,date,exception_type\nW,20240101,0\n") (Unreadable (refusedAs 13 6 2))
+
+-- files are read in order: file 5 speaks before file 6
+abbrev pub timesBeforeDates : Case
+timesBeforeDates =
+    let times : String = "trip_id,arrival_time,departure_time,stop_id,stop_sequence\nT,9:60:00,9:60:00,A,2\n" in
+    read (oneStop ∷ "route_id,route_short_name,route_type\nR,7,3\n" ∷ oneService ∷ oneTrip ∷ times ∷ "service_id\n" ∷ []) (Unreadable (refusedAs 13 5 2))
+
+-- 20: the same service and date, whatever the type; the service alone may stand again, and so may the date.
+abbrev pub datesTwice : Case
+datesTwice =
+    found (serviced oneService "service_id,date,exception_type\nW,20240101,1\nW,20240102,1\nV,20240101,1\n\"W\",20240101,2\nV,20240102,1\nW,20240101,1\n")
+    (finding 6 5 20 ∷ finding 6 7 20 ∷ [])
+
 abbrev pub worked : List Case
 worked =
     acceptedCall
@@ -332,6 +423,15 @@ worked =
     ∷ fields32
     ∷ id64
     ∷ id65
+    ∷ datesOnly
+    ∷ inBoth
+    ∷ bothEmpty
+    ∷ inItsTurn
+    ∷ datesUnended
+    ∷ datesHeaderOnly
+    ∷ exceptionZero
+    ∷ timesBeforeDates
+    ∷ datesTwice
     ∷ longitude "180" (TenMillionths (pos 1800000000))
     ∷ time "9:60:00" NoTime
     ∷ []

@@ -46,6 +46,9 @@ upTo3 = 8
 abbrev pub aRouteType : ℕ
 aRouteType = 9
 
+abbrev pub anException : ℕ
+anException = 10
+
 -- must be present, with a non-empty value
 abbrev pub needed : String → ℕ → Known
 needed s k = record { name = ascii s; column = record { must = true; need = true; ident = false; form = k } }
@@ -122,9 +125,24 @@ stopTimesColumns =
     ∷ optional "timepoint" upTo1
     ∷ []
 
+unfoldable pub calendarDatesColumns : List Known
+calendarDatesColumns =
+    neededId "service_id"
+    ∷ needed "date" aDate
+    ∷ needed "exception_type" anException
+    ∷ []
+
 -- the known columns of each file, by its number
 unfoldable pub schemas : List (List Known)
-schemas = [] ∷ stopsColumns ∷ routesColumns ∷ calendarColumns ∷ tripsColumns ∷ stopTimesColumns ∷ []
+schemas =
+    []
+    ∷ stopsColumns
+    ∷ routesColumns
+    ∷ calendarColumns
+    ∷ tripsColumns
+    ∷ stopTimesColumns
+    ∷ calendarDatesColumns
+    ∷ []
 
 unfoldable pub schema : ℕ → List Known
 schema f = getD schemas f []

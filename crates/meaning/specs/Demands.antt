@@ -39,7 +39,7 @@ pub record Demand2 (files : List (List ℕ)) (tables : List (List ℤ)) (o : Out
       Reads files tables
       → (f i k : ℕ)
       → 1 ≤ f
-      → f ≤ 5
+      → f ≤ 6
       → i < length (rowsOf f (fileOf files f))
       → k < countOf f
       → ValueKept (columnOf f k) (getD (row (rowsOf f (fileOf files f)) i) k [])

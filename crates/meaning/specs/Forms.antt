@@ -147,22 +147,26 @@ latitudeOf v = formed NoDegrees (degreesText 90) v
 unfoldable pub longitudeOf : List ℕ → Degrees
 longitudeOf v = formed NoDegrees (degreesText 180) v
 
--- Choices, written exactly: one digit from 0 to m
-unfoldable pub digitText : ℕ → List ℕ → Choice
-digitText m v =
-    cond (eqb (length v) 1 && (leb 48 (getD v 0 0) && leb (getD v 0 0) (48 + m)))
+-- Choices, written exactly: one digit from a to m
+unfoldable pub digitText : ℕ → ℕ → List ℕ → Choice
+digitText a m v =
+    cond (eqb (length v) 1 && (leb (48 + a) (getD v 0 0) && leb (getD v 0 0) (48 + m)))
     (Picked (getD v 0 0 - 48))
     NoChoice
 
 unfoldable pub choiceOf : ℕ → List ℕ → Choice
-choiceOf m v = formed NoChoice (digitText m) v
+choiceOf m v = formed NoChoice (digitText 0 m) v
 
 -- route_type 0 to 7, 11, 12
 unfoldable pub routeTypeText : List ℕ → Choice
-routeTypeText v = cond (same v (ascii "11")) (Picked 11) (cond (same v (ascii "12")) (Picked 12) (digitText 7 v))
+routeTypeText v = cond (same v (ascii "11")) (Picked 11) (cond (same v (ascii "12")) (Picked 12) (digitText 0 7 v))
 
 unfoldable pub routeTypeOf : List ℕ → Choice
 routeTypeOf v = formed NoChoice routeTypeText v
+
+-- exception_type 1, 2
+unfoldable pub exceptionOf : List ℕ → Choice
+exceptionOf v = formed NoChoice (digitText 1 2) v
 
 -- is there a time, a date, ..
 abbrev pub isTime : Time → Bool
@@ -199,6 +203,7 @@ shapes =
     ∷ (λ v. isChoice (choiceOf 2 v))
     ∷ (λ v. isChoice (choiceOf 3 v))
     ∷ (λ v. isChoice (routeTypeOf v))
+    ∷ (λ v. isChoice (exceptionOf v))
     ∷ []
 
 -- is a value of the form with this number

@@ -8,8 +8,8 @@ use lib.ListN.{length, getD, drop}
 use Rattle.meaning.specs.Lists.{empty}
 use Rattle.meaning.specs.Bytes.{Line, linesOf}
 use Rattle.meaning.specs.Columns.{Row, places, headerOf, fieldAt}
-use Rattle.meaning.specs.Forms.{timeOf, dateOf, latitudeOf, longitudeOf, sequenceOf, choiceOf, routeTypeOf}
-use Rattle.meaning.specs.Tables.{Feed, feedOf, fileOf, stopLat, stopLon, locationType, parentStation, routeType, dayMark, startDate, endDate, tripRoute, tripService, directionId, wheelchairAccessible, bikesAllowed, timeTrip, arrivalTime, departureTime, timeStop, stopSequence, pickupType, dropOffType, timepoint, stopIds, routeIds, serviceIds, tripIds, seconds, day, degrees, number, picked, orZero, orMinus, oneIf}
+use Rattle.meaning.specs.Forms.{timeOf, dateOf, latitudeOf, longitudeOf, sequenceOf, choiceOf, routeTypeOf, exceptionOf}
+use Rattle.meaning.specs.Tables.{Feed, feedOf, fileOf, stopLat, stopLon, locationType, parentStation, routeType, dayMark, startDate, endDate, tripRoute, tripService, directionId, wheelchairAccessible, bikesAllowed, timeTrip, arrivalTime, departureTime, timeStop, stopSequence, pickupType, dropOffType, timepoint, exceptionDate, exceptionType, stopIds, routeIds, serviceIds, tripIds, datedIds, seconds, day, degrees, number, picked, orZero, orMinus, oneIf}
 use Rattle.meaning.specs.Rules.{row}
 use Rattle.meaning.specs.Promises.{First, noLine}
 
@@ -55,7 +55,7 @@ pub record ServiceHeld (w : Feed) (s : List ℕ) (i : ℕ) (n : ℕ → ℤ) : T
   pub start : n 3 ≡ day (dateOf (startDate (row (w .calendar) i)))
   pub end : n 4 ≡ day (dateOf (endDate (row (w .calendar) i)))
 
--- trips, 7
+-- trips, 8: the first file 6 record of the service last
 pub record TripHeld (w : Feed) (s : List ℕ) (i : ℕ) (n : ℕ → ℤ) : Type 0 where
   pub id : Placed 4 2 s i (n 0) (n 1)
   pub route : Names (tripRoute (row (w .trips) i)) (routeIds w) (n 2)
@@ -63,6 +63,7 @@ pub record TripHeld (w : Feed) (s : List ℕ) (i : ℕ) (n : ℕ → ℤ) : Type
   pub direction : n 4 ≡ orMinus 1 (directionId (row (w .trips) i))
   pub wheelchair : n 5 ≡ orZero 2 (wheelchairAccessible (row (w .trips) i))
   pub bikes : n 6 ≡ orZero 2 (bikesAllowed (row (w .trips) i))
+  pub dated : Names (tripService (row (w .trips) i)) (datedIds w) (n 7)
 
 -- stop_times, 8
 pub record TimeHeld (w : Feed) (s : List ℕ) (i : ℕ) (n : ℕ → ℤ) : Type 0 where
@@ -75,17 +76,28 @@ pub record TimeHeld (w : Feed) (s : List ℕ) (i : ℕ) (n : ℕ → ℤ) : Type
   pub dropOff : n 6 ≡ orZero 3 (dropOffType (row (w .stopTimes) i))
   pub point : n 7 ≡ orMinus 1 (timepoint (row (w .stopTimes) i))
 
--- A table of records of this width: record 0 is all zero, the record of each line of the file is as `Record` says, the numbers past the
--- last record are those that were lent.
-pub record TableHeld (width lines : ℕ) (Record : ℕ → (ℕ → ℤ) → Type 0) (lent table : List ℤ) : Type 0 where
-  pub zeroth : (j : ℕ) → j < width → getD table j (pos 1) ≡ pos 0
-  pub records : (i : ℕ) → i < lines → Record i (λ j. getD table ((i + 1) * width + j) (pos 0))
-  pub rest : drop ((lines + 1) * width) table ≡ drop ((lines + 1) * width) lent
+-- calendar_dates, 4
+pub record ExceptionHeld (w : Feed) (s : List ℕ) (i : ℕ) (n : ℕ → ℤ) : Type 0 where
+  pub id : Placed 6 0 s i (n 0) (n 1)
+  pub date : n 2 ≡ day (dateOf (exceptionDate (row (w .dates) i)))
+  pub kind : n 3 ≡ picked (exceptionOf (exceptionType (row (w .dates) i)))
 
--- the five tables
+-- A table of records of this width, for a file with so many lines: record 0 is all zero, the record of each line after the header is as
+-- `Record` says, the numbers past the last record are those that were lent; all of them where there is no line.
+pub record TableHeld (width lines : ℕ) (Record : ℕ → (ℕ → ℤ) → Type 0) (lent table : List ℤ) : Type 0 where
+  pub zeroth : 0 < lines → (j : ℕ) → j < width → getD table j (pos 1) ≡ pos 0
+  pub records : (i : ℕ) → i + 1 < lines → Record i (λ j. getD table ((i + 1) * width + j) (pos 0))
+  pub rest : drop (lines * width) table ≡ drop (lines * width) lent
+
+-- how many lines file f has, the header included; none where it isn't supplied
+abbrev pub lineCount : List (List ℕ) → ℕ → ℕ
+lineCount files f = length (linesOf (fileOf files f))
+
+-- the six tables
 pub record TablesHeld (files : List (List ℕ)) (lent tables : List (List ℤ)) : Type 0 where
-  pub stops : TableHeld 6 (length (feedOf files .stops)) (StopHeld (feedOf files) (fileOf files 1)) (getD lent 0 []) (getD tables 0 [])
-  pub routes : TableHeld 3 (length (feedOf files .routes)) (RouteHeld (feedOf files) (fileOf files 2)) (getD lent 1 []) (getD tables 1 [])
-  pub calendar : TableHeld 5 (length (feedOf files .calendar)) (ServiceHeld (feedOf files) (fileOf files 3)) (getD lent 2 []) (getD tables 2 [])
-  pub trips : TableHeld 7 (length (feedOf files .trips)) (TripHeld (feedOf files) (fileOf files 4)) (getD lent 3 []) (getD tables 3 [])
-  pub stopTimes : TableHeld 8 (length (feedOf files .stopTimes)) (TimeHeld (feedOf files) (fileOf files 5)) (getD lent 4 []) (getD tables 4 [])
+  pub stops : TableHeld 6 (lineCount files 1) (StopHeld (feedOf files) (fileOf files 1)) (getD lent 0 []) (getD tables 0 [])
+  pub routes : TableHeld 3 (lineCount files 2) (RouteHeld (feedOf files) (fileOf files 2)) (getD lent 1 []) (getD tables 1 [])
+  pub calendar : TableHeld 5 (lineCount files 3) (ServiceHeld (feedOf files) (fileOf files 3)) (getD lent 2 []) (getD tables 2 [])
+  pub trips : TableHeld 8 (lineCount files 4) (TripHeld (feedOf files) (fileOf files 4)) (getD lent 3 []) (getD tables 3 [])
+  pub stopTimes : TableHeld 8 (lineCount files 5) (TimeHeld (feedOf files) (fileOf files 5)) (getD lent 4 []) (getD tables 4 [])
+  pub dates : TableHeld 4 (lineCount files 6) (ExceptionHeld (feedOf files) (fileOf files 6)) (getD lent 5 []) (getD tables 5 [])

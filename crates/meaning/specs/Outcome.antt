@@ -1,4 +1,4 @@
--- The whole check: from five files, five tables and the list as lent, and a starting place, to the answer and the six lists at the end.
+-- The whole check: from six files, six tables and the list as lent, and a starting place, to the answer and the seven lists at the end.
 use Prim.Native.Nat.{ℕ, _+_}
 use mathlib.Core.List.{List, [], _∷_, map}
 use lib.IntN.{ℤ}
@@ -12,7 +12,7 @@ use Rattle.meaning.specs.Tables.{Feed, feedOf, filled}
 use Rattle.meaning.specs.Refusals.{verdictOf}
 use Rattle.meaning.specs.Findings.{findingsOf, handed, answerOf}
 
--- the answer, and what the five tables and the list hold
+-- the answer, and what the six tables and the list hold
 pub record Outcome : Type 0 where
   pub answer : Answer
   pub tables : List (List ℤ)

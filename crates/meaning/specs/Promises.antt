@@ -60,10 +60,10 @@ totalIn ns = getD ns 6 0
 
 -- ---- Demand 1
 
--- the tests of a whole file, with its table's length
-unfoldable pub fileTests : ℕ → List ℕ → ℕ → List Test
-fileTests f s room =
-    test 1 (rule1 f s room) ∷ test 2 (rule2 f s room) ∷ test 3 (rule3 f s room) ∷ test 4 (rule4 f s room) ∷ []
+-- the tests of a whole file among the others, with its table's length
+unfoldable pub fileTests : List (List ℕ) → ℕ → List ℕ → ℕ → List Test
+fileTests files f s room =
+    test 1 (rule1 f s room) ∷ test 2 (rule2 f s room) ∷ test 3 (rule3 f s room) ∷ test 4 (rule4 files f s room) ∷ []
 
 -- how many fields a file's header has
 unfoldable pub fieldCount : List Line → ℕ
@@ -88,7 +88,7 @@ pub record FileClaim (files : List (List ℕ)) (rooms : List ℕ) (p : Claim) : 
   pub from : 1 ≤ p .file
   pub to : p .file ≤ length files
   pub room : p .file ≤ length rooms
-  pub rule : List·Memᴰ (testOf p) (fileTests (p .file) (fileOf files (p .file)) (getD rooms (p .file - 1) 0))
+  pub rule : List·Memᴰ (testOf p) (fileTests files (p .file) (fileOf files (p .file)) (getD rooms (p .file - 1) 0))
 
 -- a claim of rules 5 to 13
 pub record LineClaim (files : List (List ℕ)) (p : Claim) : Type 0 where
@@ -150,12 +150,12 @@ pub data Ends (files : List (List ℕ)) (ns : List ℕ) : Type 0 where
 
 -- ---- Demand 2
 
--- rules 1 to 4 are kept by a file and its table's length
-pub record WholeKept (f : ℕ) (s : List ℕ) (room : ℕ) : Type 0 where
+-- rules 1 to 4 are kept by a file among these and its table's length
+pub record WholeKept (files : List (List ℕ)) (f : ℕ) (s : List ℕ) (room : ℕ) : Type 0 where
   pub short : length s ≤ maxBytes
   pub few : countLf s ≤ maxLines
   pub roomy : widthOf f * countLf s ≤ room
-  pub ended : rule4 f s room ≡ false
+  pub ended : rule4 files f s room ≡ false
 
 -- rules 11 to 13 are kept by a value under a known column
 pub record ValueKept (c : Column) (v : List ℕ) : Type 0 where
@@ -204,9 +204,9 @@ pub record BrokenAt (w : Feed) (f n r : ℕ) : Type 0 where
   pub to : n < recordCount w f + 2
   pub rule : List·Memᴰ (test r true) (rulesOf w f (n - 2))
 
--- the numbers of a finding: file 1 to 5, a line of that file's records, rule 20 to 31
+-- the numbers of a finding: file 1 to 6, a line of that file's records, rule 20 to 31
 pub record Findable (w : Feed) (d : Finding) : Type 0 where
-  pub file : (1 ≤ d .file) × (d .file ≤ 5)
+  pub file : (1 ≤ d .file) × (d .file ≤ 6)
   pub line : (2 ≤ d .line) × (d .line ≤ recordCount w (d .file) + 1)
   pub rule : (20 ≤ d .rule) × (d .rule ≤ 31)
 

@@ -12,7 +12,7 @@ use Rattle.meaning.specs.Lists.{same, empty, some}
 use Rattle.meaning.specs.Bytes.{Line, linesOf, countLf, good, fields, values}
 use Rattle.meaning.specs.Columns.{Row, nameOf, columnOf, countOf, places, rowOf}
 use Rattle.meaning.specs.Forms.{shape}
-use Rattle.meaning.specs.Tables.{widthOf}
+use Rattle.meaning.specs.Tables.{fileOf, widthOf}
 
 -- a rule by its number, and whether it is broken at the place that is looked at
 pub record Test : Type 0 where
@@ -56,9 +56,14 @@ rule2 f s room = ltb maxLines (countLf s)
 unfoldable pub rule3 : ℕ → List ℕ → ℕ → Bool
 rule3 f s room = ltb room (widthOf f * countLf s)
 
--- 4: last byte isn't LF, or the file is empty
-unfoldable pub rule4 : ℕ → List ℕ → ℕ → Bool
-rule4 f s room = eqb (length s) 0 || not (eqb (getD s (length s - 1) 0) 10)
+-- An empty slice means "not supplied": file 6 may be empty so, and calendar.txt only if file 6 isn't.
+unfoldable pub mayLack : List (List ℕ) → ℕ → Bool
+mayLack files f = eqb f 6 || (eqb f 3 && not (empty (fileOf files 6)))
+
+-- 4: last byte isn't LF, or the file is empty and may not be
+unfoldable pub rule4 : List (List ℕ) → ℕ → List ℕ → ℕ → Bool
+rule4 files f s room =
+    cond (empty s) (not (mayLack files f)) (not (eqb (getD s (length s - 1) 0) 10))
 
 -- 5: tab, or CR outside an ending (a line's text has no ending)
 unfoldable pub rule5 : List ℕ → Bool
@@ -157,13 +162,13 @@ overFiles n P f [] rooms = []
 overFiles n P f (s ∷ r) [] = []
 overFiles n P f (s ∷ r) (m ∷ rooms) = claim n f 0 (P f s m) ∷ overFiles n P (f + 1) r rooms
 
--- Rules 1 to 4 go rule by rule, each over files 1 to 5. Then files are read in order, lines in order, and on one line the lowest number speaks.
+-- Rules 1 to 4 go rule by rule, each over files 1 to 6. Then files are read in order, lines in order, and on one line the lowest number speaks.
 unfoldable pub claims : List (List ℕ) → List ℕ → List Claim
 claims files rooms =
     overFiles 1 rule1 1 files rooms
     ++ (overFiles 2 rule2 1 files rooms
     ++ (overFiles 3 rule3 1 files rooms
-    ++ (overFiles 4 rule4 1 files rooms
+    ++ (overFiles 4 (rule4 files) 1 files rooms
     ++ inFiles 1 files)))
 
 abbrev pub refusal : Claim → Refusal
@@ -174,6 +179,6 @@ unfoldable pub speaks : List Claim → Verdict
 speaks [] = Readable
 speaks (p ∷ r) = let k = speaks r in cond (p .broken) (Unreadable (refusal p)) k
 
--- can five files be read, with tables of these lengths
+-- can six files be read, with tables of these lengths
 unfoldable pub verdictOf : List (List ℕ) → List ℕ → Verdict
 verdictOf files rooms = speaks (claims files rooms)

@@ -1,6 +1,6 @@
--- Binding rules, tested only when all five files read. A rule looks at the line with index i of a file's rows, which is line i + 2.
+-- Binding rules, tested only when all six files read. A rule looks at the line with index i of a file's rows, which is line i + 2.
 use Prim.Native.Nat.{ℕ, zero, suc, _+_, _-_}
-use mathlib.Core.List.{List, [], _∷_, _++_}
+use mathlib.Core.List.{List, [], _∷_, _++_, map}
 use mathlib.Core.Bool.{Bool, true, false, not, _&&_, _||_}
 use lib.ListN.{length, getD, take}
 use lib.Dec.{ltb, eqb}
@@ -12,10 +12,10 @@ use Rattle.meaning.specs.declared.Date.{Date}
 use Rattle.meaning.specs.declared.Date.the-variants.{Day, NoDate}
 use Rattle.meaning.specs.declared.Choice.{Choice}
 use Rattle.meaning.specs.declared.Choice.the-variants.{Picked, NoChoice}
-use Rattle.meaning.specs.Lists.{same, empty, some, keep, stands}
+use Rattle.meaning.specs.Lists.{same, empty, some, keep, flat, stands}
 use Rattle.meaning.specs.Columns.{Row}
 use Rattle.meaning.specs.Forms.{timeOf, dateOf, sequenceOf, choiceOf}
-use Rattle.meaning.specs.Tables.{Feed, stopIds, routeIds, serviceIds, tripIds, refer, locationType, parentStation, routeShortName, routeLongName, startDate, endDate, tripRoute, tripService, tripId, timeTrip, arrivalTime, departureTime, timeStop, stopSequence, timepoint, oneIf}
+use Rattle.meaning.specs.Tables.{Feed, rowsIn, stopIds, routeIds, serviceIds, tripIds, datedIds, refer, locationType, parentStation, routeShortName, routeLongName, startDate, endDate, tripRoute, tripService, tripId, timeTrip, arrivalTime, departureTime, timeStop, stopSequence, timepoint, exceptionService, exceptionDate, oneIf}
 use Rattle.meaning.specs.Refusals.{Test, test, Claim, onLine}
 
 -- the row with index i
@@ -26,6 +26,23 @@ row rs i = getD rs i []
 unfoldable pub rule20 : List (List ℕ) → ℕ → Bool
 rule20 ids i = stands (getD ids i []) (take i ids)
 
+abbrev pub dayOf : Date → ℕ
+dayOf (Day n) = n
+dayOf NoDate = 0
+
+-- the day of a calendar_dates row
+unfoldable pub exceptionDay : Row → ℕ
+exceptionDay r = dayOf (dateOf (exceptionDate r))
+
+-- two rows of file 6 have the same service and date
+unfoldable pub sameServiceAndDate : Row → Row → Bool
+sameServiceAndDate q r =
+    same (exceptionService q) (exceptionService r) && eqb (exceptionDay q) (exceptionDay r)
+
+-- 20 (6): the same service and date stand on an earlier line
+unfoldable pub rule20·dates : Feed → ℕ → Bool
+rule20·dates w i = some (λ j. sameServiceAndDate (row (w .dates) j) (row (w .dates) i)) 0 i
+
 -- a non-empty reference names no line
 unfoldable pub dangling : List ℕ → List (List ℕ) → Bool
 dangling v ids = not (empty v) && not (stands v ids)
@@ -34,10 +51,14 @@ dangling v ids = not (empty v) && not (stands v ids)
 unfoldable pub rule21·stops : Feed → ℕ → Bool
 rule21·stops w i = dangling (parentStation (row (w .stops) i)) (stopIds w)
 
+-- .. for a trip's service: it stands in neither file
+unfoldable pub inNeither : Feed → List ℕ → Bool
+inNeither w v = dangling v (serviceIds w) && dangling v (datedIds w)
+
 unfoldable pub rule21·trips : Feed → ℕ → Bool
 rule21·trips w i =
     dangling (tripRoute (row (w .trips) i)) (routeIds w)
-    || dangling (tripService (row (w .trips) i)) (serviceIds w)
+    || inNeither w (tripService (row (w .trips) i))
 
 unfoldable pub rule21·times : Feed → ℕ → Bool
 rule21·times w i =
@@ -64,10 +85,6 @@ rule22 w i =
 -- 23 (5): the resolved stop isn't type 0
 unfoldable pub rule23 : Feed → ℕ → Bool
 rule23 w i = otherKind w 0 (timeStop (row (w .stopTimes) i))
-
-abbrev pub dayOf : Date → ℕ
-dayOf (Day n) = n
-dayOf NoDate = 0
 
 -- 24 (3): end before start
 unfoldable pub rule24 : Feed → ℕ → Bool
@@ -231,24 +248,27 @@ timeRules w i =
     ∷ test 29 (rule29 w i)
     ∷ []
 
--- how many records a file has
-unfoldable pub recordCounts : Feed → List ℕ
-recordCounts w =
-    0
-    ∷ length (w .stops)
-    ∷ length (w .routes)
-    ∷ length (w .calendar)
-    ∷ length (w .trips)
-    ∷ length (w .stopTimes)
-    ∷ []
+unfoldable pub dateRules : Feed → ℕ → List Test
+dateRules w i = test 20 (rule20·dates w i) ∷ []
 
+-- how many records file f has
 unfoldable pub recordCount : Feed → ℕ → ℕ
-recordCount w f = getD (recordCounts w) f 0
+recordCount w f = length (rowsIn w f)
 
 -- the rules of file f
 unfoldable pub rulesOf : Feed → ℕ → ℕ → List Test
 rulesOf w f =
-    getD ((λ i. []) ∷ stopRules w ∷ routeRules w ∷ serviceRules w ∷ tripRules w ∷ timeRules w ∷ []) f (λ i. [])
+    getD
+    ((λ i. [])
+    ∷ stopRules w
+    ∷ routeRules w
+    ∷ serviceRules w
+    ∷ tripRules w
+    ∷ timeRules w
+    ∷ dateRules w
+    ∷ [])
+    f
+    (λ i. [])
 
 -- the rules of n lines of file f, from index i on
 unfoldable pub onRecords : ℕ → (ℕ → List Test) → ℕ → ℕ → List Claim
@@ -259,6 +279,10 @@ onRecords f rules i (suc n) = onLine f (i + 2) (rules i) ++ onRecords f rules (i
 unfoldable pub bindingsOf : Feed → ℕ → List Claim
 bindingsOf w f = onRecords f (rulesOf w f) 0 (recordCount w f)
 
+-- the files
+abbrev pub fileNumbers : List ℕ
+fileNumbers = 1 ∷ 2 ∷ 3 ∷ 4 ∷ 5 ∷ 6 ∷ []
+
 -- every rule on every line of every file, in order of file, line, rule
 unfoldable pub bindings : Feed → List Claim
-bindings w = bindingsOf w 1 ++ (bindingsOf w 2 ++ (bindingsOf w 3 ++ (bindingsOf w 4 ++ bindingsOf w 5)))
+bindings w = flat (map (bindingsOf w) fileNumbers)

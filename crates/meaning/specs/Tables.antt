@@ -18,15 +18,17 @@ use Rattle.meaning.specs.declared.Choice.the-variants.{Picked, NoChoice}
 use Rattle.meaning.specs.Lists.{empty, find, flat, laid}
 use Rattle.meaning.specs.Bytes.{Line, linesOf}
 use Rattle.meaning.specs.Columns.{Row, places, fieldAt, rowOf, headerOf, rowsOf}
-use Rattle.meaning.specs.Forms.{timeOf, dateOf, latitudeOf, longitudeOf, sequenceOf, choiceOf, routeTypeOf}
+use Rattle.meaning.specs.Forms.{timeOf, dateOf, latitudeOf, longitudeOf, sequenceOf, choiceOf, routeTypeOf, exceptionOf}
 
--- Five files, numbered: 1 stops.txt, 2 routes.txt, 3 calendar.txt, 4 trips.txt, 5 stop_times.txt; each as its rows.
+-- Six files, numbered: 1 stops.txt, 2 routes.txt, 3 calendar.txt, 4 trips.txt, 5 stop_times.txt, 6 calendar_dates.txt; each as its rows.
+-- A file that isn't supplied is empty, and has none.
 pub record Feed : Type 0 where
   pub stops : List Row
   pub routes : List Row
   pub calendar : List Row
   pub trips : List Row
   pub stopTimes : List Row
+  pub dates : List Row
 
 -- the bytes of a file, by its number
 unfoldable pub fileOf : List (List ℕ) → ℕ → List ℕ
@@ -39,7 +41,13 @@ feedOf files = record {
   calendar = rowsOf 3 (fileOf files 3);
   trips = rowsOf 4 (fileOf files 4);
   stopTimes = rowsOf 5 (fileOf files 5);
+  dates = rowsOf 6 (fileOf files 6);
 }
+
+-- the rows of file f
+unfoldable pub rowsIn : Feed → ℕ → List Row
+rowsIn w f =
+    getD ([] ∷ w .stops ∷ w .routes ∷ w .calendar ∷ w .trips ∷ w .stopTimes ∷ w .dates ∷ []) f []
 
 -- the value under a known column, by the column's place in the schema
 abbrev pub under : ℕ → Row → List ℕ
@@ -132,6 +140,16 @@ dropOffType r = under 6 r
 abbrev pub timepoint : Row → List ℕ
 timepoint r = under 7 r
 
+-- calendar_dates.txt
+abbrev pub exceptionService : Row → List ℕ
+exceptionService r = under 0 r
+
+abbrev pub exceptionDate : Row → List ℕ
+exceptionDate r = under 1 r
+
+abbrev pub exceptionType : Row → List ℕ
+exceptionType r = under 2 r
+
 -- the ids of files 1 to 4
 unfoldable pub stopIds : Feed → List (List ℕ)
 stopIds w = map stopId (w .stops)
@@ -144,6 +162,10 @@ serviceIds w = map serviceId (w .calendar)
 
 unfoldable pub tripIds : Feed → List (List ℕ)
 tripIds w = map tripId (w .trips)
+
+-- the services of file 6, line by line
+unfoldable pub datedIds : Feed → List (List ℕ)
+datedIds w = map exceptionService (w .dates)
 
 -- References go to the first line with that id, 0 if there is none; an empty reference is none.
 unfoldable pub refer : List ℕ → List (List ℕ) → ℕ
@@ -216,7 +238,7 @@ routeNumbers w r = picked (routeTypeOf (routeType r)) ∷ []
 unfoldable pub serviceNumbers : Feed → Row → List ℤ
 serviceNumbers w r = pos (packedDays r) ∷ day (dateOf (startDate r)) ∷ day (dateOf (endDate r)) ∷ []
 
--- 4. trips, 7: id start, id end, route record, service record, direction, wheelchair, bikes
+-- 4. trips, 8: id start, id end, route record, service record, direction, wheelchair, bikes, first file 6 record of the service
 unfoldable pub tripNumbers : Feed → Row → List ℤ
 tripNumbers w r =
     pos (refer (tripRoute r) (routeIds w))
@@ -224,6 +246,7 @@ tripNumbers w r =
     ∷ orMinus 1 (directionId r)
     ∷ orZero 2 (wheelchairAccessible r)
     ∷ orZero 2 (bikesAllowed r)
+    ∷ pos (refer (tripService r) (datedIds w))
     ∷ []
 
 -- 5. stop_times, 8: trip record, stop record, sequence, arrival, departure, pickup, drop-off, timepoint
@@ -239,9 +262,13 @@ timeNumbers w r =
     ∷ orMinus 1 (timepoint r)
     ∷ []
 
+-- 6. calendar_dates, 4: id start, id end, date, type
+unfoldable pub exceptionNumbers : Feed → Row → List ℤ
+exceptionNumbers w r = day (dateOf (exceptionDate r)) ∷ picked (exceptionOf (exceptionType r)) ∷ []
+
 -- Each kind of file knows its own width; file 0 is none.
 unfoldable pub widths : List ℕ
-widths = 0 ∷ 6 ∷ 3 ∷ 5 ∷ 7 ∷ 8 ∷ []
+widths = 0 ∷ 6 ∷ 3 ∷ 5 ∷ 8 ∷ 8 ∷ 4 ∷ []
 
 unfoldable pub widthOf : ℕ → ℕ
 widthOf f = getD widths f 0
@@ -252,7 +279,18 @@ idColumn f = cond (eqb f 4) 2 0
 
 -- what a file's record holds after the place of its id
 unfoldable pub numbersOf : ℕ → Feed → Row → List ℤ
-numbersOf f = getD ((λ w r. []) ∷ stopNumbers ∷ routeNumbers ∷ serviceNumbers ∷ tripNumbers ∷ timeNumbers ∷ []) f (λ w r. [])
+numbersOf f =
+    getD
+    ((λ w r. [])
+    ∷ stopNumbers
+    ∷ routeNumbers
+    ∷ serviceNumbers
+    ∷ tripNumbers
+    ∷ timeNumbers
+    ∷ exceptionNumbers
+    ∷ [])
+    f
+    (λ w r. [])
 
 -- the record of a line: the place of its id, which stop_times has not, and its numbers
 unfoldable pub recordOf : ℕ → Feed → List ℕ → Line → List ℤ
@@ -261,13 +299,18 @@ recordOf f w ps l =
     let ns = numbersOf f w (rowOf ps (l .text)) in
     cond (eqb f 5) ns (id ++ ns)
 
--- Line n of a file, n from 2, has record n - 1. Record 0 is all zero.
+-- Record 0 is all zero; a file that isn't supplied has no line, and no record.
+abbrev pub zeroth : ℕ → List Line → List (List ℤ)
+zeroth f [] = []
+zeroth f (h ∷ r) = replicate (widthOf f) (pos 0) ∷ []
+
+-- Line n of a file, n from 2, has record n - 1.
 unfoldable pub recordsOf : ℕ → Feed → List ℕ → List (List ℤ)
 recordsOf f w s =
     let ls = linesOf s in
     let ps = places f (headerOf ls) in
-    replicate (widthOf f) (pos 0) ∷ map (recordOf f w ps) (drop 1 ls)
+    zeroth f ls ++ map (recordOf f w ps) (drop 1 ls)
 
--- a file's table after the check: numbers past the last record stay unchanged
+-- a file's table after the check: numbers past the last record stay unchanged, all of them where the file isn't supplied
 unfoldable pub filled : ℕ → Feed → List ℕ → List ℤ → List ℤ
 filled f w s lent = laid (flat (recordsOf f w s)) lent

@@ -59,7 +59,7 @@ pub struct Refusal {
     pub column: usize,
 }
 
-// Whether five files can be read.
+// Whether six files can be read.
 pub enum Verdict {
     Readable,
     Unreadable(Refusal),
