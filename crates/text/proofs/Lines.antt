@@ -12,7 +12,7 @@ use lib.Seq.{drop-drop}
 use borrow.Author.Tests.{eq-eqb, ne-eqb, lt-ltb, le-ltb, eqb-true, eqb-false, ltb-true, ltb-false}
 use Rattle.meaning.specs.Lists.{same}
 use Rattle.meaning.specs.Bytes.{bounds, leadingMark, startOf, countLf, cuts, endOf, lineOf, linesFrom, linesOf}
-use Rattle.meaning.specs.Refusals.{rule4}
+use Rattle.meaning.specs.Refusals.{ended}
 use Rattle.meaning.proofs.ListLaws.{same-equal}
 use Rattle.text.specs.declared.LineStep.the-variants.{Line, Done}
 use Rattle.text.specs.Lines.{toLf, lineTo, lineAt, LineStands}
@@ -46,17 +46,9 @@ pub toLf-over : (s : List ℕ) (i k : ℕ) → length s ≤ i → i + toLf (drop
 unfolding toLf
 toLf-over s i k h inv = let z : toLf (drop i s) ≡ 0 = rw (drop-over s i h) in omega arith
 
--- rule 4
-pub ended : (s : List ℕ) → 0 < length s → eqb (getD s (length s - 1) 0) 10 ≡ not (rule4 0 s 0)
-unfolding rule4
-ended s h = let n : length s ≡ 0 → ⊥ = λ z. omega arith in rw (ne-eqb (length s) 0 n) (go (eqb (getD s (length s - 1) 0) 10))
-  where
-    go : (t : Bool) → t ≡ not (not t)
-    go true = refl
-    go false = refl
-
-pub unended : (s : List ℕ) → length s ≤ 0 → false ≡ not (rule4 0 s 0)
-unfolding rule4
+-- an empty file has no last byte
+pub unended : (s : List ℕ) → length s ≤ 0 → false ≡ ended s
+unfolding ended
 unended [] h = refl
 unended (b ∷ r) h = absurd (not-suc-le-zero h)
 
@@ -239,26 +231,3 @@ lines-count s at = length-map (cuts at at (drop at s)) (lineOf s) ∙ cuts-count
 pub lines-all : (s : List ℕ) → length (linesOf s) ≡ countLf s
 unfolding linesOf
 lines-all s = lines-count s (startOf s) ∙ start-count s
-
--- an LF counts
-pub count-some : (s : List ℕ) (i : ℕ) → i < length s → getD s i 0 ≡ 10 → 1 ≤ countLf s
-unfolding countLf
-count-some [] i h e = absurd (omega arith)
-count-some (b ∷ r) zero h e = rw (eq-eqb b 10 e) (omega arith)
-count-some (b ∷ r) (suc i) h e = go (eqb b 10) (count-some r i (omega arith) e)
-  where
-    go : (t : Bool) → 1 ≤ countLf r → 1 ≤ cond t (countLf r + 1) (countLf r)
-    go true ih = omega arith
-    go false ih = ih
-
--- a file that keeps rule 4 has a line
-pub ended-count : (f : ℕ) (s : List ℕ) (room : ℕ) → rule4 f s room ≡ false → 1 ≤ countLf s
-unfolding rule4
-ended-count f s room p = go (eqb (length s) 0) refl (eqb (getD s (length s - 1) 0) 10) refl
-  where
-    go : (t : Bool) → eqb (length s) 0 ≡ t → (u : Bool) → eqb (getD s (length s - 1) 0) 10 ≡ u → 1 ≤ countLf s
-    go true t u q = let z : true ≡ false = rw t at p in let w : _≡_ {A = ℕ} 0 1 = cc in absurd (omega arith)
-    go false t false q = let z : true ≡ false = rw (t, q) at p in let w : _≡_ {A = ℕ} 0 1 = cc in absurd (omega arith)
-    go false t true q =
-        let n : length s ≡ 0 → ⊥ = eqb-false (length s) 0 t in
-        count-some s (length s - 1) (omega arith) (eqb-true _ 10 q)

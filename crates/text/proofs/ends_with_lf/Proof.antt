@@ -1,5 +1,7 @@
 -- `text::ends_with_lf` meets its contract.
-use Rattle.text.proofs.Lines.{ended, unended}
+use mathlib.Core.Path.{refl}
+use Rattle.meaning.specs.Refusals.{ended}
+use Rattle.text.proofs.Lines.{unended}
 use borrow.Author.Needs.{needs}
 use Rattle.text.proofs.ends_with_lf.Statement.{statement}
 use Rattle.text.proofs.ends_with_lf.Tie as tie
@@ -11,7 +13,8 @@ shared-slice-read-result : tie.Need-shared-slice-read-result
 shared-slice-read-result c = search needs
 
 returns : tie.Need-returns
-returns c = ended _ (c .before .if1 .taken)
+unfolding ended
+returns c = refl
 
 returns-2 : tie.Need-returns-2
 returns-2 c = unended _ (c .if1 .left)
