@@ -5,7 +5,7 @@ use Prim.Native.Nat.{ℕ, zero, suc, _+_, _*_, _≤_, _<_}
 use native.Mathlib.Numerals.{add-one}
 use native.Mathlib.Omega.{arith}
 use lib.IntN.{ℤ}
-use lib.ListN.{length, take, drop, getD, length-append, length-drop, List·getD-append}
+use lib.ListN.{length, take, drop, getD, length-append, List·getD-append}
 use lib.Seq.{take-suc, take-at, drop-append-add, drop-drop, getD-append-add, length-take-le}
 use Rattle.meaning.specs.Lists.{flat, laid}
 pub use Rattle.meaning.proofs.Records.{record-wide, laid-length}

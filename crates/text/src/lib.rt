@@ -1,6 +1,5 @@
 // From bytes to fields: lines and their endings, quoting, the line cursor, and values.
 ghost use mathlib.Core.Path.{_≡_};
-ghost use mathlib.Core.Bool.{not};
 ghost use Prim.Native.Nat.{_+_, _<_, _≤_};
 ghost use lib.ListN.{length, drop};
 ghost use Rattle.meaning.specs.Lists.{same, empty};
