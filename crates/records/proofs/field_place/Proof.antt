@@ -1,9 +1,9 @@
--- `tables::records::field_place` meets its contract.
+-- `records::field_place` meets its contract.
 use mathlib.Core.Path.{refl}
 use native.Mathlib.Omega.{arith}
 use borrow.Author.Needs.{needs}
-use Rattle.tables.proofs.records.field_place.Statement.{statement}
-use Rattle.tables.proofs.records.field_place.Tie as tie
+use Rattle.records.proofs.field_place.Statement.{statement}
+use Rattle.records.proofs.field_place.Tie as tie
 
 mul-a : tie.Need-mul-a
 mul-a c = search needs

@@ -9,8 +9,8 @@ use Rattle.meaning.specs.Tables.{Feed, widthOf, refer}
 use Rattle.rows.specs.Cells.{putAt}
 use Rattle.seeking.specs.First.{First, names}
 use Rattle.seeking.proofs.First.{refer-held}
-use Rattle.tables.specs.Fill.{Lists}
-use Rattle.tables.specs.Waiting.{writtenOf}
+use Rattle.records.specs.Refers.{Lists}
+use Rattle.records.specs.Waiting.{writtenOf}
 
 -- a reference that was looked up in a table that holds the ids
 pub referred :

@@ -1,13 +1,13 @@
--- `tables::records::put_record` meets its contract.
+-- `records::put_record` meets its contract.
 use Rattle.meaning.specs.Tables.{widths, widthOf}
-use Rattle.tables.specs.Waiting.{writtenOf}
-use Rattle.tables.proofs.LineRecords.{located, lies}
-use Rattle.tables.proofs.Readings.{file-room, file-put, fifth}
-use Rattle.tables.proofs.Feeds.{sought-trips, sought-times}
+use Rattle.records.specs.Waiting.{writtenOf}
+use Rattle.records.proofs.LineRecords.{located, lies}
+use Rattle.records.proofs.Readings.{file-room, file-put, fifth}
+use Rattle.records.proofs.References.{sought-trips, sought-times}
 use Prim.Native.Nat.{_-_}
 use borrow.Author.Needs.{needs}
-use Rattle.tables.proofs.records.put_record.Statement.{statement}
-use Rattle.tables.proofs.records.put_record.Tie as tie
+use Rattle.records.proofs.put_record.Statement.{statement}
+use Rattle.records.proofs.put_record.Tie as tie
 
 locate-requires : tie.Need-locate-requires
 locate-requires c κs = search needs

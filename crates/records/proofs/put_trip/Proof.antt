@@ -1,12 +1,12 @@
--- `tables::records::put_trip` meets its contract.
-use Rattle.tables.proofs.LineRecords.{trip-record}
-use Rattle.tables.proofs.Readings.{put-as, referred}
+-- `records::put_trip` meets its contract.
+use Rattle.records.proofs.LineRecords.{trip-record}
+use Rattle.records.proofs.Readings.{put-as, referred}
 use Rattle.num.proofs.Laws.{kept-is}
 use Prim.Native.Nat.{_-_}
 use native.Mathlib.Omega.{arith}
 use borrow.Author.Needs.{needs}
-use Rattle.tables.proofs.records.put_trip.Statement.{statement}
-use Rattle.tables.proofs.records.put_trip.Tie as tie
+use Rattle.records.proofs.put_trip.Statement.{statement}
+use Rattle.records.proofs.put_trip.Tie as tie
 
 raw-requires : tie.Need-raw-requires
 raw-requires c κs = search needs

@@ -1,11 +1,11 @@
--- `tables::records::put_stop` meets its contract.
-use Rattle.tables.proofs.LineRecords.{stop-record}
+-- `records::put_stop` meets its contract.
+use Rattle.records.proofs.LineRecords.{stop-record}
 use Rattle.num.proofs.Laws.{kept-is}
 use mathlib.Core.Path.{_∙_}
 use Prim.Native.Nat.{_-_}
 use borrow.Author.Needs.{needs}
-use Rattle.tables.proofs.records.put_stop.Statement.{statement}
-use Rattle.tables.proofs.records.put_stop.Tie as tie
+use Rattle.records.proofs.put_stop.Statement.{statement}
+use Rattle.records.proofs.put_stop.Tie as tie
 
 field-place-requires : tie.Need-field-place-requires
 field-place-requires c κs = search needs

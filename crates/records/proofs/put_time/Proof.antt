@@ -1,15 +1,15 @@
--- `tables::records::put_time` meets its contract.
-use Rattle.tables.proofs.LineRecords.{waiting-record}
-use Rattle.tables.proofs.Waits.{timepoint-marked}
-use Rattle.tables.proofs.Readings.{put-as, referred}
+-- `records::put_time` meets its contract.
+use Rattle.records.proofs.LineRecords.{waiting-record}
+use Rattle.records.proofs.Waiting.{timepoint-marked}
+use Rattle.records.proofs.Readings.{put-as, referred}
 use Rattle.values.specs.Located.{valueIn}
 use Rattle.num.proofs.Laws.{kept-is}
 use mathlib.Core.Path.{sym, _∙_}
 use Prim.Native.Nat.{_-_}
 use native.Mathlib.Omega.{arith}
 use borrow.Author.Needs.{needs}
-use Rattle.tables.proofs.records.put_time.Statement.{statement}
-use Rattle.tables.proofs.records.put_time.Tie as tie
+use Rattle.records.proofs.put_time.Statement.{statement}
+use Rattle.records.proofs.put_time.Tie as tie
 
 raw-requires : tie.Need-raw-requires
 raw-requires c κs = search needs

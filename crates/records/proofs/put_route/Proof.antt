@@ -1,9 +1,9 @@
--- `tables::records::put_route` meets its contract.
-use Rattle.tables.proofs.LineRecords.{route-record}
-use Rattle.tables.proofs.Readings.{put-as}
+-- `records::put_route` meets its contract.
+use Rattle.records.proofs.LineRecords.{route-record}
+use Rattle.records.proofs.Readings.{put-as}
 use borrow.Author.Needs.{needs}
-use Rattle.tables.proofs.records.put_route.Statement.{statement}
-use Rattle.tables.proofs.records.put_route.Tie as tie
+use Rattle.records.proofs.put_route.Statement.{statement}
+use Rattle.records.proofs.put_route.Tie as tie
 
 field-place-requires : tie.Need-field-place-requires
 field-place-requires c κs = search needs

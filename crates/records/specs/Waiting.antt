@@ -1,4 +1,4 @@
--- What the second walk along a file writes: its records, but those of stop_times wait while their lines are put in trip order.
+-- What the second walk along a file writes for a line: its record, but those of stop_times wait while their lines are put in trip order.
 use Prim.Native.Nat.{ℕ, _+_}
 use mathlib.Core.List.{List, [], _∷_, _++_}
 use mathlib.Core.Bool.{cond}
@@ -6,13 +6,11 @@ use lib.Dec.{eqb}
 use lib.IntN.{ℤ, pos, negsuc}
 use lib.ListN.{getD}
 use Rattle.num.specs.Signs.{natOf}
-use Rattle.meaning.specs.Lists.{flat, laid}
-use Rattle.meaning.specs.Bytes.{Line, linesOf}
-use Rattle.meaning.specs.Columns.{places, rowOf, headerOf}
+use Rattle.meaning.specs.Bytes.{Line}
+use Rattle.meaning.specs.Columns.{rowOf}
 use Rattle.meaning.specs.Forms.{timeOf, sequenceOf}
 use Rattle.meaning.specs.Tables.{Feed, number, seconds, orZero, orMinus, refer, tripIds, stopIds, idPlace, timeTrip, timeStop, stopSequence, arrivalTime, departureTime, pickupType, dropOffType, timepoint, recordOf}
 use Rattle.rows.specs.Waiting.{packed}
-use Rattle.tables.specs.Walk.{tabled}
 
 -- the mark that a stored timepoint is packed as: 0 is an empty one
 abbrev pub markOf : ℤ → ℕ
@@ -36,11 +34,3 @@ waitingOf w ps x =
 -- what the second walk writes for a line
 unfoldable pub writtenOf : ℕ → Feed → List ℕ → Line → List ℤ
 writtenOf f w ps x = cond (eqb f 5) (waitingOf w ps x) (recordOf f w ps x)
-
--- .. and for a file
-abbrev pub writtenAll : ℕ → Feed → List ℕ → List (List ℤ)
-writtenAll f w s = tabled f (writtenOf f w (places f (headerOf (linesOf s)))) s
-
--- a file's table after the second walk
-unfoldable pub written : ℕ → Feed → List ℕ → List ℤ → List ℤ
-written f w s lent = laid (flat (writtenAll f w s)) lent

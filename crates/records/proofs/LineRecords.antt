@@ -1,13 +1,14 @@
 -- The record of a line from its located fields.
-use mathlib.Core.Path.{_≡_, _∙_}
-use mathlib.Core.List.{List, [], _∷_}
-use Prim.Native.Nat.{ℕ, _+_, _*_, _≤_}
+use mathlib.Core.Path.{_≡_, sym, ap, _∙_}
+use mathlib.Core.List.{List, [], _∷_, _++_, append-assoc}
+use Prim.Native.Nat.{ℕ, suc, _+_, _*_, _≤_, _<_}
 use native.Mathlib.Omega.{arith}
 use lib.IntN.{ℤ, pos}
-use lib.ListN.{length, getD, take, List·getD-map}
+use lib.ListN.{length, getD, take, drop, length-append, List·getD-map}
+use lib.Seq.{drop-cons}
 use Rattle.meaning.specs.Columns.{fieldAt, rowOf}
 use Rattle.meaning.specs.Forms.{latitudeOf, longitudeOf, timeOf, dateOf, sequenceOf, routeTypeOf}
-use Rattle.meaning.specs.Tables.{Feed, degrees, day, number, seconds, picked, orZero, orMinus, refer, packedDays, stopIds, routeIds, serviceIds, tripIds, idPlace, idColumn, parentStation, widthOf, recordOf, numbersOf, stopNumbers, routeNumbers, serviceNumbers, tripNumbers}
+use Rattle.meaning.specs.Tables.{Feed, degrees, day, number, seconds, picked, orZero, orMinus, refer, packedDays, stopIds, routeIds, serviceIds, tripIds, idPlace, idColumn, parentStation, recordOf, numbersOf, stopNumbers, routeNumbers, serviceNumbers, tripNumbers}
 use Rattle.meaning.specs.Refusals.{maxBytes}
 use Rattle.rows.specs.Cells.{putAt}
 use Rattle.rows.specs.Waiting.{packed}
@@ -15,25 +16,34 @@ use Rattle.columns.specs.Columns.{startsOf, endsOf}
 use Rattle.columns.proofs.Laws.{located-inside}
 use Rattle.values.specs.Located.{valueIn, Located, Within}
 use Rattle.values.proofs.Readings.{in-row}
-use Rattle.tables.specs.Fill.{line, Lies}
-use Rattle.tables.specs.Walk.{placing}
-use Rattle.tables.specs.Waiting.{markOf, waitingOf}
-use Rattle.tables.proofs.Past.{put-last}
+use Rattle.records.specs.Line.{line, Lies}
+use Rattle.records.specs.Waiting.{markOf, waitingOf}
 
+-- a record that is written but for its last number, which stands there already
+pub put-last :
+    (t : List ℤ) (at : ℕ) (xs : List ℤ) (z : ℤ)
+    → at + length xs < length t
+    → getD t (at + length xs) (pos 0) ≡ z
+    → putAt t at xs ≡ putAt t at (xs ++ (z ∷ []))
+unfolding putAt
+put-last t at xs z h e =
+    let d : drop (at + length xs) t ≡ z ∷ drop (at + length (xs ++ (z ∷ []))) t =
+    drop-cons t (at + length xs) (pos 0) h
+    ∙ ap (λ (y : ℤ). y ∷ drop (suc (at + length xs)) t) e
+    ∙ ap (λ (k : ℕ). z ∷ drop k t) (more (length-append xs (z ∷ []))) in
+    let rest : List ℤ = drop (at + length (xs ++ (z ∷ []))) t in
+    ap (λ (v : List ℤ). take at t ++ xs ++ v) d
+    ∙ sym (append-assoc (take at t ++ xs) (z ∷ []) rest)
+    ∙ ap (λ (v : List ℤ). v ++ rest) (append-assoc (take at t) xs (z ∷ []))
+  where
+    more : length (xs ++ (z ∷ [])) ≡ length xs + 1 → suc (at + length xs) ≡ at + length (xs ++ (z ∷ []))
+    more q = omega arith
+
+-- the record that located fields say
 module _ (ps l : List ℕ) (at : ℕ) (st en : List ℕ) (loc : Located l ps st en) where
-  id-in : (k a e : ℕ) → a ≡ at + getD st k 0 → e ≡ at + getD en k 0 → idPlace (getD ps k 0) (line at l) ≡ pos a ∷ pos e ∷ []
+  pub id-in : (k a e : ℕ) → a ≡ at + getD st k 0 → e ≡ at + getD en k 0 → idPlace (getD ps k 0) (line at l) ≡ pos a ∷ pos e ∷ []
   unfolding idPlace
   id-in k a e p q = rw (← loc k, p, q)
-
-  pub places-record :
-      (f a e from to : ℕ)
-      → a ≡ at + getD st (idColumn f) 0
-      → e ≡ at + getD en (idColumn f) 0
-      → from ≡ at + getD st 5 0
-      → to ≡ at + getD en 5 0
-      → take (widthOf f) (pos a ∷ pos e ∷ pos 0 ∷ pos from ∷ pos to ∷ pos 0 ∷ pos 0 ∷ []) ≡ placing f ps (line at l)
-  unfolding placing
-  places-record f a e from to p q g h = rw (id-in (idColumn f) a e p q, ← loc 5, g, h)
 
   pub stop-record :
       (w : Feed) (t : List ℤ) (r a e kind : ℕ) (lat lon : ℤ)

@@ -10,8 +10,9 @@ ghost use Rattle.meaning.specs.Refusals.{maxBytes};
 ghost use Rattle.rows.specs.Cells.{putAt};
 ghost use Rattle.memo.specs.Memo.{Ready};
 ghost use Rattle.values.specs.Located.{Located};
-ghost use Rattle.tables.specs.Fill.{line, Lies, Lists, Refers, Sought};
-ghost use Rattle.tables.specs.Waiting.{waitingOf, writtenOf};
+ghost use Rattle.records.specs.Line.{line, Lies};
+ghost use Rattle.records.specs.Refers.{Lists, Refers, Sought};
+ghost use Rattle.records.specs.Waiting.{waitingOf, writtenOf};
 use columns::Cells;
 use meaning::Bounds;
 use rows::Calendar;
@@ -42,7 +43,7 @@ pub fn field_place(l: &[u8], at: usize, q: Cells, k: usize) -> Bounds
 }
 
 // A stop, whose parent is settled.
-pub fn put_stop(l: &[u8], at: usize, q: Cells, t: &mut [i32], row: StopRow)
+fn put_stop(l: &[u8], at: usize, q: Cells, t: &mut [i32], row: StopRow)
     requires { ⌜ Lies (now l) at (q .start) (q .end) × (row .0 * 6 + 6 ≤ length (now t)) ⌝ }
     ensures { λ _. ⌜ ((w : Feed) (ps : List ℕ) → Located (now (l .entry)) ps (q .start) (q .end)
         → getD (now (t .entry)) (row .0 * 6 + 5) (pos 0) ≡ pos (refer (parentStation (rowOf ps (now (l .entry)))) (stopIds w))
@@ -56,7 +57,7 @@ pub fn put_stop(l: &[u8], at: usize, q: Cells, t: &mut [i32], row: StopRow)
 }
 
 // A route.
-pub fn put_route(l: &[u8], at: usize, q: Cells, t: &mut [i32], row: RouteRow)
+fn put_route(l: &[u8], at: usize, q: Cells, t: &mut [i32], row: RouteRow)
     requires { ⌜ Lies (now l) at (q .start) (q .end) × (row .0 * 3 + 3 ≤ length (now t)) ⌝ }
     ensures { λ _. ⌜ ((w : Feed) (ps : List ℕ) → Located (now (l .entry)) ps (q .start) (q .end)
         → now (t .exit) ≡ putAt (now (t .entry)) (row .0 * 3) (recordOf 2 w ps (line at (now (l .entry))))) ⌝ }
@@ -67,7 +68,7 @@ pub fn put_route(l: &[u8], at: usize, q: Cells, t: &mut [i32], row: RouteRow)
 }
 
 // A service.
-pub fn put_service(l: &[u8], at: usize, q: Cells, t: &mut [i32], row: ServiceRow)
+fn put_service(l: &[u8], at: usize, q: Cells, t: &mut [i32], row: ServiceRow)
     requires { ⌜ Lies (now l) at (q .start) (q .end) × (row .0 * 5 + 5 ≤ length (now t)) ⌝ }
     ensures { λ _. ⌜ ((w : Feed) (ps : List ℕ) → Located (now (l .entry)) ps (q .start) (q .end)
         → now (t .exit) ≡ putAt (now (t .entry)) (row .0 * 5) (recordOf 3 w ps (line at (now (l .entry))))) ⌝ }
@@ -80,7 +81,7 @@ pub fn put_service(l: &[u8], at: usize, q: Cells, t: &mut [i32], row: ServiceRow
 }
 
 // A trip: a is routes.txt, b is calendar.txt.
-pub fn put_trip(
+fn put_trip(
     l: &[u8],
     at: usize,
     q: Cells,
@@ -113,7 +114,7 @@ pub fn put_trip(
 }
 
 // A stop time, which waits: a is trips.txt, b is stops.txt.
-pub fn put_time(
+fn put_time(
     l: &[u8],
     at: usize,
     q: Cells,

@@ -1,9 +1,9 @@
--- `tables::records::put_service` meets its contract.
-use Rattle.tables.proofs.LineRecords.{service-record}
-use Rattle.tables.proofs.Readings.{put-as}
+-- `records::put_service` meets its contract.
+use Rattle.records.proofs.LineRecords.{service-record}
+use Rattle.records.proofs.Readings.{put-as}
 use borrow.Author.Needs.{needs}
-use Rattle.tables.proofs.records.put_service.Statement.{statement}
-use Rattle.tables.proofs.records.put_service.Tie as tie
+use Rattle.records.proofs.put_service.Statement.{statement}
+use Rattle.records.proofs.put_service.Tie as tie
 
 field-place-requires : tie.Need-field-place-requires
 field-place-requires c κs = search needs
