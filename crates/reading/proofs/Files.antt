@@ -86,12 +86,12 @@ module _ (a b : List Claim) (v : Verdict) (e : v ≡ speaks a) where
   last-speaks = e ∙ sym (ap speaks (append-nil a))
 
 -- rule 3 by division, which can't overflow
-pub wide : (f : ℕ) → 0 < f → f < 6 → 0 < widthOf f
+pub wide : (f : ℕ) → 0 < f → f < 7 → 0 < widthOf f
 unfolding widthOf widths
 wide zero h g = absurd (omega arith)
-wide (suc f) h g = leb→le 1 _ (below-all 5 (λ f. ltb 0 (getD widths (suc f) 0)) tt f (omega arith))
+wide (suc f) h g = leb→le 1 _ (below-all 6 (λ f. ltb 0 (getD widths (suc f) 0)) tt f (omega arith))
 
-pub short-is : (f room lf : ℕ) → 0 < f → f < 6 → ltb (room / widthOf f) lf ≡ ltb room (widthOf f * lf)
+pub short-is : (f room lf : ℕ) → 0 < f → f < 7 → ltb (room / widthOf f) lf ≡ ltb room (widthOf f * lf)
 short-is f room lf h g = go (ltb (room / widthOf f) lf) refl
   where
     go : (t : Bool) → ltb (room / widthOf f) lf ≡ t → t ≡ ltb room (widthOf f * lf)

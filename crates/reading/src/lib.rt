@@ -173,7 +173,7 @@ fn lower(a: usize, b: usize) -> usize
 
 // The first of rules 11 to 13 that the values of a line break, whose known columns stand at `at`.
 fn row_rule(f: usize, at: [usize; 10], l: &[u8]) -> usize
-    requires { ⌜ f < 6 ⌝ }
+    requires { ⌜ f < 7 ⌝ }
     ensures { λ r. ⌜ r ≡ first (rowTests f (rowOf at (now (l .entry)))) ⌝ }
 {
     let cells = columns::locate(l, at);
@@ -210,7 +210,7 @@ fn text_rule(l: &[u8], m: Measured) -> usize
 
 // The first rule that a header breaks.
 fn header_rule(f: usize, c: Columns, h: &[u8]) -> usize
-    requires { ⌜ (f < 6) × (c .at ≡ placesOf f (values (now h))) ⌝ }
+    requires { ⌜ (f < 7) × (c .at ≡ placesOf f (values (now h))) ⌝ }
     ensures { λ r. ⌜ r ≡ first (headTests f (now (h .entry))) ⌝ }
 {
     let t = text_rule(h, text::measure(h));
@@ -228,7 +228,7 @@ fn header_rule(f: usize, c: Columns, h: &[u8]) -> usize
 
 // The first rule that a line after the header breaks.
 fn line_rule(f: usize, c: Columns, l: &[u8]) -> usize
-    requires { ⌜ f < 6 ⌝ }
+    requires { ⌜ f < 7 ⌝ }
     ensures { λ r. ⌜ r ≡ first (lineTests f (c .at) (c .count) (now (l .entry))) ⌝ }
 {
     let m = text::measure(l);
@@ -257,7 +257,7 @@ fn refuse(number: usize, file: usize, line: usize) -> Verdict
 
 // The first line from byte `from` on that breaks a rule, its lines counted from 2.
 fn read_lines(f: usize, c: Columns, s: &[u8], from: usize) -> Verdict
-    requires { ⌜ f < 6 ⌝ }
+    requires { ⌜ f < 7 ⌝ }
     ensures { λ r. ⌜ r ≡ speaks (onLines f (c .at) (c .count) 2 (linesFrom (now (s .entry)) from)) ⌝ }
 {
     let mut at = from;
@@ -281,7 +281,7 @@ fn read_lines(f: usize, c: Columns, s: &[u8], from: usize) -> Verdict
 
 // The first line of a file that breaks a rule.
 fn read_file(f: usize, s: &[u8]) -> Verdict
-    requires { ⌜ f < 6 ⌝ }
+    requires { ⌜ f < 7 ⌝ }
     ensures { λ r. ⌜ r ≡ speaks (inFile f (linesOf (now (s .entry)))) ⌝ }
 {
     match text::next_line(s, text::body_start(s)) {
@@ -322,7 +322,7 @@ fn read_files(s1: &[u8], s2: &[u8], s3: &[u8], s4: &[u8], s5: &[u8]) -> Verdict
 
 // Is a table of this length shorter than its width times the file's LF count?
 fn is_short(f: usize, room: usize, lf: usize) -> bool
-    requires { ⌜ (0 < f) × (f < 6) ⌝ }
+    requires { ⌜ (0 < f) × (f < 7) ⌝ }
     ensures { λ r. ⌜ r ≡ ltb room (widthOf f * lf) ⌝ }
 {
     let w = rows::width_of(f);
@@ -339,7 +339,7 @@ pub struct Whole {
 
 // Rules 1 to 4 of a file, with its table's length.
 fn whole_of(f: usize, s: &[u8], room: usize) -> Whole
-    requires { ⌜ (0 < f) × (f < 6) ⌝ }
+    requires { ⌜ (0 < f) × (f < 7) ⌝ }
     ensures { λ r. ⌜ r ≡ wholeOf f (now (s .entry)) room ⌝ }
 {
     let lf = text::count_lf(s);

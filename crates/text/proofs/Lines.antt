@@ -1,6 +1,6 @@
 -- Laws of lines: the LF count, the mark at a file's start, and a step along a file.
 use mathlib.Core.Path.{_≡_, refl, sym, ap, _∙_}
-use mathlib.Core.Bool.{Bool, true, false, cond, not, _&&_}
+use mathlib.Core.Bool.{Bool, true, false, cond, _&&_}
 use mathlib.Core.List.{List, [], _∷_, _++_}
 use Prim.Native.Nat.{ℕ, zero, suc, _+_, _-_, _≤_, _<_}
 use native.Mathlib.Numerals.{add-one}
@@ -9,13 +9,12 @@ use native.Mathlib.Nat.{not-suc-le-zero, add-zero}
 use lib.Dec.{eqb, ltb}
 use lib.ListN.{length, getD, take, drop, length-drop, length-take, length-map, take-append-drop}
 use lib.Seq.{drop-drop}
-use borrow.Author.Tests.{eq-eqb, ne-eqb, lt-ltb, le-ltb, eqb-true, eqb-false, ltb-true, ltb-false}
-use Rattle.meaning.specs.Lists.{same}
+use borrow.Author.Tests.{eq-eqb, ne-eqb, lt-ltb, le-ltb, ltb-true, ltb-false}
+use Rattle.meaning.specs.Lists.{same, empty}
 use Rattle.meaning.specs.Bytes.{bounds, leadingMark, startOf, countLf, cuts, endOf, lineOf, linesFrom, linesOf}
-use Rattle.meaning.specs.Refusals.{rule4}
 use Rattle.meaning.proofs.ListLaws.{same-equal}
 use Rattle.text.specs.declared.LineStep.the-variants.{Line, Done}
-use Rattle.text.specs.Lines.{toLf, lineTo, lineAt, LineStands}
+use Rattle.text.specs.Lines.{ended, toLf, lineTo, lineAt, LineStands}
 use Rattle.text.proofs.Laws.{drop-next, drop-over, same-no}
 
 -- a turn along the bytes, on how many LF are left and how far the first is
@@ -46,19 +45,15 @@ pub toLf-over : (s : List ℕ) (i k : ℕ) → length s ≤ i → i + toLf (drop
 unfolding toLf
 toLf-over s i k h inv = let z : toLf (drop i s) ≡ 0 = rw (drop-over s i h) in omega arith
 
--- rule 4
-pub ended : (s : List ℕ) → 0 < length s → eqb (getD s (length s - 1) 0) 10 ≡ not (rule4 0 s 0)
-unfolding rule4
-ended s h = let n : length s ≡ 0 → ⊥ = λ z. omega arith in rw (ne-eqb (length s) 0 n) (go (eqb (getD s (length s - 1) 0) 10))
-  where
-    go : (t : Bool) → t ≡ not (not t)
-    go true = refl
-    go false = refl
+-- the last byte
+pub ended-some : (s : List ℕ) → 0 < length s → eqb (getD s (length s - 1) 0) 10 ≡ ended s
+unfolding ended empty
+ended-some s h = rw (ne-eqb (length s) 0 (λ z. omega arith))
 
-pub unended : (s : List ℕ) → length s ≤ 0 → false ≡ not (rule4 0 s 0)
-unfolding rule4
-unended [] h = refl
-unended (b ∷ r) h = absurd (not-suc-le-zero h)
+pub ended-none : (s : List ℕ) → length s ≤ 0 → false ≡ ended s
+unfolding ended empty
+ended-none [] h = refl
+ended-none (b ∷ r) h = absurd (not-suc-le-zero h)
 
 -- the mark at a file's start
 pub start-short : (s : List ℕ) → length s < 3 → 0 ≡ startOf s
@@ -239,26 +234,3 @@ lines-count s at = length-map (cuts at at (drop at s)) (lineOf s) ∙ cuts-count
 pub lines-all : (s : List ℕ) → length (linesOf s) ≡ countLf s
 unfolding linesOf
 lines-all s = lines-count s (startOf s) ∙ start-count s
-
--- an LF counts
-pub count-some : (s : List ℕ) (i : ℕ) → i < length s → getD s i 0 ≡ 10 → 1 ≤ countLf s
-unfolding countLf
-count-some [] i h e = absurd (omega arith)
-count-some (b ∷ r) zero h e = rw (eq-eqb b 10 e) (omega arith)
-count-some (b ∷ r) (suc i) h e = go (eqb b 10) (count-some r i (omega arith) e)
-  where
-    go : (t : Bool) → 1 ≤ countLf r → 1 ≤ cond t (countLf r + 1) (countLf r)
-    go true ih = omega arith
-    go false ih = ih
-
--- a file that keeps rule 4 has a line
-pub ended-count : (f : ℕ) (s : List ℕ) (room : ℕ) → rule4 f s room ≡ false → 1 ≤ countLf s
-unfolding rule4
-ended-count f s room p = go (eqb (length s) 0) refl (eqb (getD s (length s - 1) 0) 10) refl
-  where
-    go : (t : Bool) → eqb (length s) 0 ≡ t → (u : Bool) → eqb (getD s (length s - 1) 0) 10 ≡ u → 1 ≤ countLf s
-    go true t u q = let z : true ≡ false = rw t at p in let w : _≡_ {A = ℕ} 0 1 = cc in absurd (omega arith)
-    go false t false q = let z : true ≡ false = rw (t, q) at p in let w : _≡_ {A = ℕ} 0 1 = cc in absurd (omega arith)
-    go false t true q =
-        let n : length s ≡ 0 → ⊥ = eqb-false (length s) 0 t in
-        count-some s (length s - 1) (omega arith) (eqb-true _ 10 q)

@@ -1,13 +1,12 @@
 // From bytes to fields: lines and their endings, quoting, the line cursor, and values.
 ghost use mathlib.Core.Path.{_≡_};
-ghost use mathlib.Core.Bool.{not};
 ghost use Prim.Native.Nat.{_+_, _<_, _≤_};
 ghost use lib.ListN.{length, drop};
 ghost use Rattle.meaning.specs.Lists.{same, empty};
 ghost use Rattle.meaning.specs.Bytes.{countLf, startOf, start, classOf, next, good, fields, marked, content, undouble, value};
 ghost use Rattle.meaning.specs.Forms.{noMark};
-ghost use Rattle.meaning.specs.Refusals.{rule4, rule5};
-ghost use Rattle.text.specs.Lines.{toLf, lineTo, lineAt};
+ghost use Rattle.meaning.specs.Refusals.{rule5};
+ghost use Rattle.text.specs.Lines.{ended, toLf, lineTo, lineAt};
 ghost use Rattle.text.specs.Fields.{fieldLen, stepAt};
 ghost use Rattle.text.specs.Values.{widthOf};
 
@@ -26,9 +25,9 @@ pub fn count_lf(s: &[u8]) -> usize
     n
 }
 
-// Has every line its ending?
+// Is the last byte LF?
 pub fn ends_with_lf(s: &[u8]) -> bool
-    ensures { λ r. ⌜ r ≡ not (rule4 0 (now (s .entry)) 0) ⌝ }
+    ensures { λ r. ⌜ r ≡ ended (now (s .entry)) ⌝ }
 {
     if 0 < s.len() {
         let last = s.len() - 1;
