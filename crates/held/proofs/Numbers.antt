@@ -14,7 +14,7 @@ use Rattle.meaning.specs.Columns.{Row, places, headerOf, rowOf}
 use Rattle.meaning.specs.Forms.{timeOf, dateOf}
 use Rattle.meaning.specs.Tables.{Feed, widths, widthOf, recordOf, numbersOf, idPlace, stopNumbers, serviceNumbers, tripNumbers, timeNumbers, seconds, number, day, orZero, orMinus, refer, stopIds, routeIds, serviceIds, tripIds, locationType, parentStation, startDate, endDate, tripRoute, tripService, timeTrip, timeStop, arrivalTime, departureTime, timepoint}
 use Rattle.meaning.specs.Rules.{row}
-use Rattle.tables.specs.Fill.{line}
+use Rattle.records.specs.Line.{line}
 use Rattle.tables.proofs.Ids.{rows-count, row-of-line, cell-at}
 use Rattle.held.specs.Held.{Filled}
 

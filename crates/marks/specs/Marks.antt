@@ -26,7 +26,7 @@ pub record MarkedIf (p : Bool) (m m′ : List ℕ) (b r : ℕ) : Type 0 where
   pub here : r < length m → marked m′ b r ≡ p || marked m b r
   pub other : (c q : ℕ) → (c ≡ b → q ≡ r → p ≡ true → ⊥) → marked m′ c q ≡ marked m c q
 
--- mark f, for files 1 to 6, is that the id of the line repeats an earlier one of file f; 7, that the stop has a parent; 8, that both names of the route are empty
+-- mark f, for files 1 to 4 and 6, is that the id of the line, with its date in file 6, repeats an earlier one of file f; 7, that the stop has a parent; 8, that both names of the route are empty
 abbrev pub parentMark : ℕ
 parentMark = 7
 

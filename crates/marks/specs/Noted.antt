@@ -7,7 +7,7 @@ use lib.Dec.{ltb}
 use lib.ListN.{length, getD}
 use Rattle.meaning.specs.Lists.{empty}
 use Rattle.meaning.specs.Tables.{Feed, stopIds, routeIds, serviceIds, tripIds, parentStation, tripId}
-use Rattle.meaning.specs.Rules.{row, rule20, rule25, rule28, rule29, ofTripLine, firstOfTrip, openEnded, recordCount}
+use Rattle.meaning.specs.Rules.{row, rule20, rule20·dates, rule25, rule28, rule29, ofTripLine, firstOfTrip, openEnded, recordCount}
 use Rattle.marks.specs.Marks.{marked, parentMark, namelessMark, equalMark, fallingMark, pairedMark, openMark}
 
 -- the ids of file f
@@ -17,6 +17,7 @@ idsIn w f = getD ([] ∷ stopIds w ∷ routeIds w ∷ serviceIds w ∷ tripIds w
 -- the record of the line with index i, i + 1, is marked for what the line's text, or those before it, say
 pub record Noted (w : Feed) (m : List ℕ) : Type 0 where
   pub repeats : (f i : ℕ) → 1 ≤ f → f ≤ 4 → i < recordCount w f → marked m f (i + 1) ≡ rule20 (idsIn w f) i
+  pub dates : (i : ℕ) → i < length (w .dates) → marked m 6 (i + 1) ≡ rule20·dates w i
   pub parents : (i : ℕ) → i < length (w .stops) → marked m parentMark (i + 1) ≡ not (empty (parentStation (row (w .stops) i)))
   pub nameless : (i : ℕ) → i < length (w .routes) → marked m namelessMark (i + 1) ≡ rule25 w i
 

@@ -4,7 +4,7 @@ ghost use Prim.Native.Nat.{_<_};
 ghost use Rattle.marks.specs.Marks.{marked, Blank, OneMore, MarkedIf};
 use meaning::MAX_LINES;
 
-// Mark f, of files 1 to 6: the id of the line stands on an earlier one of file f. The marks from 7 on have names.
+// Mark f, of files 1 to 4 and 6: the id of the line, with its date in file 6, stands on an earlier one of file f. The marks from 7 on have names.
 pub const PARENT: usize = 7;
 
 pub const NAMELESS: usize = 8;

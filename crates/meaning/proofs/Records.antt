@@ -4,7 +4,7 @@ use native.Mathlib.Omega.{arith}
 use native.Mathlib.Nat.{add-mul, mul-comm, mul-le-mul-right}
 use mathlib.Core.Path.{_≡_, refl, _∙_}
 use mathlib.Core.List.{List, [], _∷_, _++_, append-assoc, append-nil, map}
-use mathlib.Core.Bool.{Bool, true, false, cond, not, _||_}
+use mathlib.Core.Bool.{Bool, true, false, cond, not}
 use lib.IntN.{ℤ, pos}
 use lib.ListN.{length, getD, drop, replicate, length-append, length-drop, length-map, length-replicate, getD-replicate, List·getD-append}
 use lib.Seq.{getD-append-add, getD-drop, drop-at}
@@ -14,7 +14,7 @@ use Rattle.meaning.specs.Lists.{same, empty, flat, laid}
 use Rattle.meaning.specs.Bytes.{Line, leadingMark, startOf, countLf, cuts, lineOf, linesFrom, linesOf}
 use Rattle.meaning.specs.Columns.{places, headerOf, rowOf, rowsOf}
 use Rattle.meaning.specs.Tables.{Feed, stopNumbers, routeNumbers, serviceNumbers, tripNumbers, timeNumbers, exceptionNumbers, widths, widthOf, numbersOf, idPlace, recordOf, zeroth, recordsOf, filled}
-use Rattle.meaning.specs.Refusals.{mayLack, rule4}
+use Rattle.meaning.specs.Refusals.{mayLack, ended, rule4}
 use Rattle.meaning.specs.Promises.{noLine}
 use Rattle.meaning.proofs.ListLaws.{both}
 use Rattle.meaning.proofs.Readable.{getD-map-in}
@@ -93,7 +93,7 @@ count-some (b ∷ r) (suc i) h e = omega (arith, count-some r i (omega arith) e,
 
 -- a file that isn't empty and that rule 4 lets pass has an LF
 pub ended-count : (files : List (List ℕ)) (f : ℕ) (s : List ℕ) (room : ℕ) → rule4 files f s room ≡ false → 0 < length s → 1 ≤ countLf s
-unfolding rule4 empty
+unfolding rule4 empty ended
 ended-count files f s room p h = go (eqb (getD s (length s - 1) 0) 10) refl (rw (ne-eqb (length s) 0 (λ e. omega arith)) at p)
   where
     go : (u : Bool) → eqb (getD s (length s - 1) 0) 10 ≡ u → not u ≡ false → 1 ≤ countLf s
@@ -105,7 +105,7 @@ pub supplied : (files : List (List ℕ)) (f : ℕ) (s : List ℕ) (room : ℕ) �
 unfolding rule4 empty
 supplied files f s room p m = go (eqb (length s) 0) refl p
   where
-    go : (t : Bool) → eqb (length s) 0 ≡ t → cond t (not (mayLack files f)) (not (eqb (getD s (length s - 1) 0) 10)) ≡ false → 0 < length s
+    go : (t : Bool) → eqb (length s) 0 ≡ t → cond t (not (mayLack files f)) (not (ended s)) ≡ false → 0 < length s
     go true t z = both (not (mayLack files f)) (rw m) z
     go false t z = let n : length s ≡ 0 → ⊥ = eqb-false (length s) 0 t in omega arith
 

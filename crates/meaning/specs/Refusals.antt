@@ -60,10 +60,13 @@ rule3 f s room = ltb room (widthOf f * countLf s)
 unfoldable pub mayLack : List (List ℕ) → ℕ → Bool
 mayLack files f = eqb f 6 || (eqb f 3 && not (empty (fileOf files 6)))
 
+-- is the last byte LF
+unfoldable pub ended : List ℕ → Bool
+ended s = eqb (getD s (length s - 1) 0) 10
+
 -- 4: last byte isn't LF, or the file is empty and may not be
 unfoldable pub rule4 : List (List ℕ) → ℕ → List ℕ → ℕ → Bool
-rule4 files f s room =
-    cond (empty s) (not (mayLack files f)) (not (eqb (getD s (length s - 1) 0) 10))
+rule4 files f s room = cond (empty s) (not (mayLack files f)) (not (ended s))
 
 -- 5: tab, or CR outside an ending (a line's text has no ending)
 unfoldable pub rule5 : List ℕ → Bool

@@ -1,2 +1,2 @@
--- Laws of repeated ids.
+-- Laws of records that repeat an earlier one.
 pub mod Laws

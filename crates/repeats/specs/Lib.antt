@@ -1,2 +1,2 @@
--- Which records of a table repeat an id.
+-- Which records of a table repeat an earlier one.
 pub mod Repeats

@@ -4,6 +4,8 @@ ghost use Rattle.meaning.specs.Bytes.{value};
 ghost use Rattle.seeking.specs.First.{First, names};
 ghost use Rattle.memo.specs.Memo.{Ready};
 use rows::Calendar;
+use rows::DateRow;
+use rows::Dates;
 use rows::RouteRow;
 use rows::Routes;
 use rows::ServiceRow;
@@ -64,10 +66,20 @@ pub fn find_service(s: &[u8], t: &[i32], n: usize, raw: &[u8], memo: &mut [u32])
 
 // The trip that a raw field names.
 pub fn find_trip(s: &[u8], t: &[i32], n: usize, raw: &[u8], memo: &mut [u32]) -> TripRow
-    requires { ⌜ Ready (now s) (now t) 7 n (now memo) ⌝ }
-    ensures { λ r. ⌜ First (names (now (s .entry)) (now (t .entry)) 7 (value (now (raw .entry)))) (n + 1) (r .0) ⌝ }
+    requires { ⌜ Ready (now s) (now t) 8 n (now memo) ⌝ }
+    ensures { λ r. ⌜ First (names (now (s .entry)) (now (t .entry)) 8 (value (now (raw .entry)))) (n + 1) (r .0) ⌝ }
     ensures { λ r. ⌜ r .0 ≤ n ⌝ }
-    ensures { λ _. ⌜ Ready (now (s .entry)) (now (t .entry)) 7 n (now (memo .exit)) ⌝ }
+    ensures { λ _. ⌜ Ready (now (s .entry)) (now (t .entry)) 8 n (now (memo .exit)) ⌝ }
 {
     TripRow(named_record(s, t, Trips::WIDTH, n, raw, memo))
+}
+
+// The first exception of the service that a raw field names.
+pub fn find_dated(s: &[u8], t: &[i32], n: usize, raw: &[u8], memo: &mut [u32]) -> DateRow
+    requires { ⌜ Ready (now s) (now t) 4 n (now memo) ⌝ }
+    ensures { λ r. ⌜ First (names (now (s .entry)) (now (t .entry)) 4 (value (now (raw .entry)))) (n + 1) (r .0) ⌝ }
+    ensures { λ r. ⌜ r .0 ≤ n ⌝ }
+    ensures { λ _. ⌜ Ready (now (s .entry)) (now (t .entry)) 4 n (now (memo .exit)) ⌝ }
+{
+    DateRow(named_record(s, t, Dates::WIDTH, n, raw, memo))
 }

@@ -70,15 +70,17 @@ pub no-width :
     → (f ≡ 3 → ⊥)
     → (f ≡ 4 → ⊥)
     → (f ≡ 5 → ⊥)
+    → (f ≡ 6 → ⊥)
     → 0 ≡ widthOf f
 unfolding widthOf widths
-no-width zero a b c d e = refl
-no-width (suc zero) a b c d e = absurd (a refl)
-no-width (suc (suc zero)) a b c d e = absurd (b refl)
-no-width (suc (suc (suc zero))) a b c d e = absurd (c refl)
-no-width (suc (suc (suc (suc zero)))) a b c d e = absurd (d refl)
-no-width (suc (suc (suc (suc (suc zero))))) a b c d e = absurd (e refl)
-no-width (suc (suc (suc (suc (suc (suc f)))))) a b c d e = refl
+no-width zero a b c d e g = refl
+no-width (suc zero) a b c d e g = absurd (a refl)
+no-width (suc (suc zero)) a b c d e g = absurd (b refl)
+no-width (suc (suc (suc zero))) a b c d e g = absurd (c refl)
+no-width (suc (suc (suc (suc zero)))) a b c d e g = absurd (d refl)
+no-width (suc (suc (suc (suc (suc zero))))) a b c d e g = absurd (e refl)
+no-width (suc (suc (suc (suc (suc (suc zero)))))) a b c d e g = absurd (g refl)
+no-width (suc (suc (suc (suc (suc (suc (suc f))))))) a b c d e g = refl
 
 -- a row up to the number of whole records starts within the table, one past it doesn't
 pub row-within : (n w row : ℕ) → 0 < w → row ≤ n / w → row * w ≤ n

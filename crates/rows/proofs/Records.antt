@@ -5,11 +5,10 @@ use Prim.Native.Nat.{ℕ, zero, suc, _+_, _*_, _≤_, _<_}
 use native.Mathlib.Numerals.{add-one}
 use native.Mathlib.Omega.{arith}
 use lib.IntN.{ℤ}
-use lib.ListN.{length, take, drop, getD, length-append, length-drop, List·getD-append}
+use lib.ListN.{length, take, drop, getD, length-append, List·getD-append}
 use lib.Seq.{take-suc, take-at, drop-append-add, drop-drop, getD-append-add, length-take-le}
 use Rattle.meaning.specs.Lists.{flat, laid}
-use Rattle.meaning.specs.Bytes.{Line}
-use Rattle.meaning.specs.Tables.{Feed, widths, widthOf, idPlace, numbersOf, stopNumbers, routeNumbers, serviceNumbers, tripNumbers, timeNumbers, recordOf}
+pub use Rattle.meaning.proofs.Records.{record-wide, laid-length}
 use Rattle.rows.specs.Cells.{putAt}
 
 -- every record has width w
@@ -66,10 +65,6 @@ module _ {A : Type 0} where
   unfolding laid
   laid-cell w rs t k j d h a b = flat-cell w rs (drop (length (flat rs)) t) k j d h a b
 
-  pub laid-length : (xs t : List A) → length xs ≤ length t → length (laid xs t) ≡ length t
-  unfolding laid
-  laid-length xs t h = simp (length-append, length-drop) (omega arith)
-
 -- more written where what was laid ends
 pub laid-more :
     (xs vs t : List ℤ) (at : ℕ) → length xs ≡ at → putAt (laid xs t) at vs ≡ laid (xs ++ vs) t
@@ -97,20 +92,3 @@ module _ (w : ℕ) (rs : List (List ℤ)) (wide : Wide w rs) where
 
   pub rows-length : (t : List ℤ) → length rs * w ≤ length t → length (laid (flat rs) t) ≡ length t
   rows-length t h = laid-length (flat rs) t (omega (arith, flat-length w rs wide))
-
--- ---- the records of a file
-
--- a record has as many numbers as its file's width says
-pub record-wide :
-    (f : ℕ) (w : Feed) (ps : List ℕ) (l : Line)
-    → 0 < f
-    → f < 6
-    → length (recordOf f w ps l) ≡ widthOf f
-unfolding recordOf idPlace numbersOf stopNumbers routeNumbers serviceNumbers tripNumbers timeNumbers widthOf widths
-record-wide zero w ps l a b = absurd (omega arith)
-record-wide (suc zero) w ps l a b = refl
-record-wide (suc (suc zero)) w ps l a b = refl
-record-wide (suc (suc (suc zero))) w ps l a b = refl
-record-wide (suc (suc (suc (suc zero)))) w ps l a b = refl
-record-wide (suc (suc (suc (suc (suc zero))))) w ps l a b = refl
-record-wide (suc (suc (suc (suc (suc (suc f)))))) w ps l a b = absurd (omega arith)

@@ -1,9 +1,9 @@
 // Whole records written and single numbers read, for tables of any width.
 ghost use mathlib.Core.Path.{_≡_};
 ghost use mathlib.Core.List.{_∷_, []};
-ghost use Prim.Native.Nat.{_+_, _*_, _^_, _<_, _≤_};
+ghost use Prim.Native.Nat.{_+_, _*_, _-_, _^_, _<_, _≤_};
 ghost use lib.IntN.{pos};
-ghost use lib.ListN.{length, getD, take, replicate};
+ghost use lib.ListN.{length, getD, set, take, replicate};
 ghost use Rattle.meaning.specs.Lists.{laid};
 ghost use Rattle.rows.specs.Cells.{putAt, natAt, boundsAt, timeAt};
 use meaning::Bounds;
@@ -21,19 +21,20 @@ pub fn store(t: &mut [i32], at: usize, r: &[i32])
     }
 }
 
-// The place of a record's id and, where the record is wide enough, of one more field; zeros beside them.
-pub fn put_places(t: &mut [i32], row: usize, width: usize, id: Bounds, other: Bounds)
-    requires { ⌜ (width ≤ 7) × (row * width + width ≤ length (now t)) ⌝ }
-    requires { ⌜ (id .start < 2 ^ 31) × ((id .end < 2 ^ 31) × ((other .start < 2 ^ 31) × (other .end < 2 ^ 31))) ⌝ }
+// The place of a record's id, a number to order it by and, where the record is wide enough, the place of one more field; zeros beside them.
+pub fn put_places(t: &mut [i32], row: usize, width: usize, id: Bounds, key: u32, other: Bounds)
+    requires { ⌜ (width ≤ 8) × (row * width + width ≤ length (now t)) ⌝ }
+    requires { ⌜ (id .start < 2 ^ 31) × ((id .end < 2 ^ 31) × ((key < 2 ^ 31) × ((other .start < 2 ^ 31) × (other .end < 2 ^ 31)))) ⌝ }
     ensures { λ _. ⌜ now (t .exit) ≡ putAt (now (t .entry)) (row * width)
-        (take width (pos (id .start) ∷ pos (id .end) ∷ pos 0 ∷ pos (other .start) ∷ pos (other .end) ∷ pos 0 ∷ pos 0 ∷ [])) ⌝ }
+        (take width (pos (id .start) ∷ pos (id .end) ∷ pos key ∷ pos (other .start) ∷ pos (other .end) ∷ pos 0 ∷ pos 0 ∷ pos 0 ∷ [])) ⌝ }
 {
     let r = [
         id.start as i32,
         id.end as i32,
-        0,
+        key as i32,
         other.start as i32,
         other.end as i32,
+        0,
         0,
         0,
     ];
@@ -82,6 +83,24 @@ pub fn bounds_of(t: &[i32], row: usize, width: usize) -> Bounds
     let start = nat_of(t, row, width, 0);
     let end = nat_of(t, row, width, 1);
     Bounds { start, end }
+}
+
+// Where the field lies that waits in numbers 3 and 4 of a record.
+pub fn waiting_of(t: &[i32], row: usize, width: usize) -> Bounds
+    requires { ⌜ 0 < width ⌝ }
+    ensures { λ r. ⌜ r ≡ boundsAt (now (t .entry)) (row * width + 3) ⌝ }
+{
+    let start = nat_of(t, row, width, 3);
+    let end = nat_of(t, row, width, 4);
+    Bounds { start, end }
+}
+
+// The record that a waiting field names, in the last number of its own.
+pub fn settle(t: &mut [i32], row: usize, width: usize, named: usize)
+    requires { ⌜ (0 < width) × ((row * width + width ≤ length (now t)) × (named < 2 ^ 31)) ⌝ }
+    ensures { λ _. ⌜ now (t .exit) ≡ set (now (t .entry)) (row * width + (width - 1)) (pos named) ⌝ }
+{
+    t[row * width + (width - 1)] = named as i32;
 }
 
 // A stored time: a negative number is none.

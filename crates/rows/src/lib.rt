@@ -28,6 +28,9 @@ pub struct TripRow(pub usize);
 // The record number of a stop time.
 pub struct TimeRow(pub usize);
 
+// The record number of an exception, a service on a date.
+pub struct DateRow(pub usize);
+
 // stops.txt
 pub struct Stops;
 
@@ -65,9 +68,7 @@ impl Stops {
     pub fn waiting_at(t: &[i32], row: StopRow) -> Bounds
         ensures { λ r. ⌜ r ≡ boundsAt (now (t .entry)) (row .0 * 6 + 3) ⌝ }
     {
-        let start = cells::nat_of(t, row.0, Stops::WIDTH, 3);
-        let end = cells::nat_of(t, row.0, Stops::WIDTH, 4);
-        Bounds { start, end }
+        cells::waiting_of(t, row.0, Stops::WIDTH)
     }
 
     // The parent's record, number 5.
@@ -75,7 +76,7 @@ impl Stops {
         requires { ⌜ (row .0 * 6 + 6 ≤ length (now t)) × (parent .0 < 2 ^ 31) ⌝ }
         ensures { λ _. ⌜ now (t .exit) ≡ set (now (t .entry)) (row .0 * 6 + 5) (pos (parent .0)) ⌝ }
     {
-        t[Stops::place(row) + 5] = parent.0 as i32;
+        cells::settle(t, row.0, Stops::WIDTH, parent.0);
     }
 
     // Where the id of a record stands in the file.
@@ -195,19 +196,19 @@ impl Calendar {
 pub struct Trips;
 
 impl Trips {
-    pub const WIDTH: usize = 7;
+    pub const WIDTH: usize = 8;
 
     pub const FILE: usize = 4;
 
     // Where a record starts.
     pub fn place(row: TripRow) -> usize
-        requires { ⌜ row .0 * 7 < 2 ^ 64 ⌝ }
-        ensures { λ p. ⌜ p ≡ row .0 * 7 ⌝ }
+        requires { ⌜ row .0 * 8 < 2 ^ 64 ⌝ }
+        ensures { λ p. ⌜ p ≡ row .0 * 8 ⌝ }
     {
         row.0 * Trips::WIDTH
     }
 
-    // The record of a line.
+    // The record of a line, but for the first file 6 record of its service, number 7, which is settled before.
     pub fn put(
         t: &mut [i32],
         row: TripRow,
@@ -218,10 +219,10 @@ impl Trips {
         wheelchair: u32,
         bikes: u32,
     )
-        requires { ⌜ row .0 * 7 + 7 ≤ length (now t) ⌝ }
+        requires { ⌜ row .0 * 8 + 7 ≤ length (now t) ⌝ }
         requires { ⌜ (id .start < 2 ^ 31) × ((id .end < 2 ^ 31) × ((route .0 < 2 ^ 31) × ((service .0 < 2 ^ 31)
             × ((wheelchair < 2 ^ 31) × (bikes < 2 ^ 31))))) ⌝ }
-        ensures { λ _. ⌜ now (t .exit) ≡ putAt (now (t .entry)) (row .0 * 7)
+        ensures { λ _. ⌜ now (t .exit) ≡ putAt (now (t .entry)) (row .0 * 8)
             (pos (id .start) ∷ pos (id .end) ∷ pos (route .0) ∷ pos (service .0) ∷ direction ∷ pos wheelchair ∷ pos bikes ∷ []) ⌝ }
     {
         let r = [
@@ -236,23 +237,44 @@ impl Trips {
         cells::store(t, Trips::place(row), &r);
     }
 
+    // Where the field of a service lies that waits in a trip's record: numbers 3 and 4.
+    pub fn waiting_at(t: &[i32], row: TripRow) -> Bounds
+        ensures { λ r. ⌜ r ≡ boundsAt (now (t .entry)) (row .0 * 8 + 3) ⌝ }
+    {
+        cells::waiting_of(t, row.0, Trips::WIDTH)
+    }
+
+    // The first file 6 record of the service, number 7.
+    pub fn settle(t: &mut [i32], row: TripRow, dated: DateRow)
+        requires { ⌜ (row .0 * 8 + 8 ≤ length (now t)) × (dated .0 < 2 ^ 31) ⌝ }
+        ensures { λ _. ⌜ now (t .exit) ≡ set (now (t .entry)) (row .0 * 8 + 7) (pos (dated .0)) ⌝ }
+    {
+        cells::settle(t, row.0, Trips::WIDTH, dated.0);
+    }
+
     // Where the id of a record stands in the file.
     pub fn id_at(t: &[i32], row: TripRow) -> Bounds
-        ensures { λ r. ⌜ r ≡ boundsAt (now (t .entry)) (row .0 * 7) ⌝ }
+        ensures { λ r. ⌜ r ≡ boundsAt (now (t .entry)) (row .0 * 8) ⌝ }
     {
         cells::bounds_of(t, row.0, Trips::WIDTH)
     }
 
     pub fn route_at(t: &[i32], row: TripRow) -> RouteRow
-        ensures { λ r. ⌜ r .0 ≡ natAt (now (t .entry)) (row .0 * 7 + 2) ⌝ }
+        ensures { λ r. ⌜ r .0 ≡ natAt (now (t .entry)) (row .0 * 8 + 2) ⌝ }
     {
         RouteRow(cells::nat_of(t, row.0, Trips::WIDTH, 2))
     }
 
     pub fn service_at(t: &[i32], row: TripRow) -> ServiceRow
-        ensures { λ r. ⌜ r .0 ≡ natAt (now (t .entry)) (row .0 * 7 + 3) ⌝ }
+        ensures { λ r. ⌜ r .0 ≡ natAt (now (t .entry)) (row .0 * 8 + 3) ⌝ }
     {
         ServiceRow(cells::nat_of(t, row.0, Trips::WIDTH, 3))
+    }
+
+    pub fn dated_at(t: &[i32], row: TripRow) -> DateRow
+        ensures { λ r. ⌜ r .0 ≡ natAt (now (t .entry)) (row .0 * 8 + 7) ⌝ }
+    {
+        DateRow(cells::nat_of(t, row.0, Trips::WIDTH, 7))
     }
 }
 
@@ -362,6 +384,58 @@ impl StopTimes {
     }
 }
 
+// calendar_dates.txt
+pub struct Dates;
+
+impl Dates {
+    pub const WIDTH: usize = 4;
+
+    pub const FILE: usize = 6;
+
+    // Where a record starts.
+    pub fn place(row: DateRow) -> usize
+        requires { ⌜ row .0 * 4 < 2 ^ 64 ⌝ }
+        ensures { λ p. ⌜ p ≡ row .0 * 4 ⌝ }
+    {
+        row.0 * Dates::WIDTH
+    }
+
+    // The record of a line.
+    pub fn put(t: &mut [i32], row: DateRow, id: Bounds, date: u32, kind: u32)
+        requires { ⌜ row .0 * 4 + 4 ≤ length (now t) ⌝ }
+        requires { ⌜ (id .start < 2 ^ 31) × ((id .end < 2 ^ 31) × ((date < 2 ^ 31) × (kind < 2 ^ 31))) ⌝ }
+        ensures { λ _. ⌜ now (t .exit) ≡ putAt (now (t .entry)) (row .0 * 4)
+            (pos (id .start) ∷ pos (id .end) ∷ pos date ∷ pos kind ∷ []) ⌝ }
+    {
+        let r = [
+            id.start as i32,
+            id.end as i32,
+            date as i32,
+            kind as i32,
+        ];
+        cells::store(t, Dates::place(row), &r);
+    }
+
+    // Where the id of a record stands in the file.
+    pub fn id_at(t: &[i32], row: DateRow) -> Bounds
+        ensures { λ r. ⌜ r ≡ boundsAt (now (t .entry)) (row .0 * 4) ⌝ }
+    {
+        cells::bounds_of(t, row.0, Dates::WIDTH)
+    }
+
+    pub fn date_at(t: &[i32], row: DateRow) -> usize
+        ensures { λ r. ⌜ r ≡ natAt (now (t .entry)) (row .0 * 4 + 2) ⌝ }
+    {
+        cells::nat_of(t, row.0, Dates::WIDTH, 2)
+    }
+
+    pub fn kind_at(t: &[i32], row: DateRow) -> usize
+        ensures { λ r. ⌜ r ≡ natAt (now (t .entry)) (row .0 * 4 + 3) ⌝ }
+    {
+        cells::nat_of(t, row.0, Dates::WIDTH, 3)
+    }
+}
+
 // The mark of a timepoint, in two bits.
 fn mark_of(timepoint: i32) -> usize
     ensures { λ r. ⌜ ((m : ℕ) → m < 4 → timepoint ≡ unmark m → r ≡ m) × (r < 4) ⌝ }
@@ -401,6 +475,7 @@ pub fn width_of(file: usize) -> usize
         Calendar::FILE => Calendar::WIDTH,
         Trips::FILE => Trips::WIDTH,
         StopTimes::FILE => StopTimes::WIDTH,
+        Dates::FILE => Dates::WIDTH,
         _ => 0,
     }
 }

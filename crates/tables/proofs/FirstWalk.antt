@@ -17,7 +17,8 @@ use Rattle.rows.proofs.Records.{flat-length}
 use Rattle.ordering.specs.Cells.{Kept, Room as Wide}
 use Rattle.ordering.specs.Ids.{Arranged}
 use Rattle.seeking.proofs.Laws.{held-kept}
-use Rattle.tables.specs.Fill.{line, Room}
+use Rattle.records.specs.Line.{line}
+use Rattle.tables.specs.Fill.{Room}
 use Rattle.tables.specs.Walk.{placeOf, placing, placedOf, Ordered}
 use Rattle.tables.proofs.Turns.{eight-wide, wide, table-length}
 use Rattle.tables.proofs.Written.{placing-id, placing-wide}

@@ -21,7 +21,7 @@ use Rattle.meaning.proofs.Readable.{getD-map-in}
 use Rattle.rows.proofs.Records.{flat-length, laid-cell, rows-length, record-wide}
 use Rattle.columns.proofs.Laws.{row-at}
 use Rattle.seeking.specs.First.{IdAt, Held}
-use Rattle.tables.specs.Fill.{line}
+use Rattle.records.specs.Line.{line}
 use Rattle.tables.specs.Walk.{placeOf, tabled}
 use Rattle.text.proofs.Walk.{line-here}
 use Rattle.tables.proofs.Turns.{two-wide, wide, table-length, table-at, walk-inside}

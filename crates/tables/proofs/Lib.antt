@@ -1,8 +1,6 @@
--- Laws of located lines, records and tables.
+-- Laws of walks along a file and of tables.
 pub mod Past
-pub mod LineRecords
 pub mod Written
-pub mod Readings
 pub mod Turns
 pub mod Ids
 pub mod FirstWalk

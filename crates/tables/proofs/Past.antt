@@ -1,14 +1,13 @@
--- Tables that are one another from a number on, and a record written over what stands there.
+-- Tables that are one another from a number on.
 use mathlib.Core.Path.{_≡_, sym, ap, _∙_}
-use mathlib.Core.List.{List, [], _∷_, _++_, append-assoc}
-use Prim.Native.Nat.{ℕ, suc, _+_, _*_, _-_, _/_, _%_, _≤_, _<_}
+use mathlib.Core.List.{List, _++_}
+use Prim.Native.Nat.{ℕ, _+_, _*_, _-_, _/_, _%_, _≤_, _<_}
 use native.Mathlib.Omega.{arith}
 use native.Mathlib.Nat.{div-add-mod', mod-lt, le-div-iff-mul-le}
 use lib.IntN.{ℤ, pos}
-use lib.ListN.{length, getD, take, drop, length-append, length-drop}
-use lib.Seq.{ext-getD, getD-drop, getD-append-add, drop-cons}
+use lib.ListN.{length, getD, drop, length-drop}
+use lib.Seq.{ext-getD, getD-drop, getD-append-add}
 use Rattle.meaning.specs.Lists.{laid}
-use Rattle.rows.specs.Cells.{putAt}
 use Rattle.rows.proofs.Records.{laid-length}
 use Rattle.ordering.specs.Cells.{KeptAt}
 use Rattle.tables.specs.Walk.{Beyond, Settled}
@@ -55,23 +54,3 @@ kept-beyond o w n t u wide p = record { size = p .size; same = λ j h. rw (div-a
 -- so do parents that are settled
 pub settled-beyond : (s : List ℕ) (n : ℕ) (t u : List ℤ) → Settled s n t u → Beyond ((n + 1) * 6) t u
 settled-beyond s n t u p = record { size = p .size; same = λ j h. p .same j (λ r a b e. omega arith) }
-
--- a record that is written but for its last number, which stands there already
-pub put-last :
-    (t : List ℤ) (at : ℕ) (xs : List ℤ) (z : ℤ)
-    → at + length xs < length t
-    → getD t (at + length xs) (pos 0) ≡ z
-    → putAt t at xs ≡ putAt t at (xs ++ (z ∷ []))
-unfolding putAt
-put-last t at xs z h e =
-    let d : drop (at + length xs) t ≡ z ∷ drop (at + length (xs ++ (z ∷ []))) t =
-    drop-cons t (at + length xs) (pos 0) h
-    ∙ ap (λ (y : ℤ). y ∷ drop (suc (at + length xs)) t) e
-    ∙ ap (λ (k : ℕ). z ∷ drop k t) (more (length-append xs (z ∷ []))) in
-    let rest : List ℤ = drop (at + length (xs ++ (z ∷ []))) t in
-    ap (λ (v : List ℤ). take at t ++ xs ++ v) d
-    ∙ sym (append-assoc (take at t ++ xs) (z ∷ []) rest)
-    ∙ ap (λ (v : List ℤ). v ++ rest) (append-assoc (take at t) xs (z ∷ []))
-  where
-    more : length (xs ++ (z ∷ [])) ≡ length xs + 1 → suc (at + length xs) ≡ at + length (xs ++ (z ∷ []))
-    more q = omega arith

@@ -29,9 +29,10 @@ use Rattle.trip_order.specs.Feed.{linesOf as feedLines, Agree}
 use Rattle.trip_order.proofs.Feed.{twenty-eight, twenty-nine, thirty, thirty-one, own-lines}
 use Rattle.trip_walk.specs.Table.{sameIn, timedIn, linesIn}
 use Rattle.trip_walk.specs.Told.{Told}
-use Rattle.tables.specs.Fill.{line}
+use Rattle.records.specs.Line.{line}
 use Rattle.tables.specs.Walk.{placeOf}
-use Rattle.tables.specs.Waiting.{waitingOf, written}
+use Rattle.records.specs.Waiting.{waitingOf}
+use Rattle.tables.specs.Walk.{written}
 use Rattle.tables.proofs.Ids.{lines-in, place-value, row-of-line, rows-count}
 use Rattle.tables.proofs.Waits.{waits-at}
 

@@ -22,7 +22,8 @@ use Rattle.columns.proofs.Laws.{places-at}
 use Rattle.rows.specs.Cells.{putAt}
 use Rattle.meaning.proofs.Readable.{getD-map-in}
 use Rattle.rows.proofs.Records.{Wide, wide-map, rows-first, rows-turn}
-use Rattle.tables.specs.Fill.{line, Heading, Room}
+use Rattle.records.specs.Line.{line}
+use Rattle.tables.specs.Fill.{Heading, Room}
 use Rattle.tables.specs.Walk.{tabled}
 
 pub two-wide : (f : ℕ) → 1 ≤ f → f ≤ 5 → 2 ≤ widthOf f

@@ -3,56 +3,28 @@ use mathlib.Core.Path.{_≡_, refl, sym, ap, _∙_}
 use mathlib.Core.List.{List, []}
 use Prim.Native.Nat.{ℕ, _+_, _*_, _≤_, _<_}
 use native.Mathlib.Omega.{arith}
-use native.Mathlib.Numerals.{add-one}
-use native.Mathlib.Nat.{add-zero}
 use lib.Dec.{ltb}
-use lib.IntN.{ℤ, pos, negsuc}
+use lib.IntN.{ℤ, pos}
 use lib.ListN.{length, getD, take}
 use lib.Seq.{ext-getD, take-all}
 use mathlib.Core.Bool.{Bool, true, false}
 use borrow.Author.Tests.{ltb-true, ltb-false}
 use Rattle.meaning.specs.Lists.{flat, laid}
 use Rattle.meaning.specs.Bytes.{Line, countLf, linesOf}
-use Rattle.meaning.specs.Columns.{Row, places, headerOf, rowOf}
-use Rattle.meaning.specs.Tables.{Feed, widths, widthOf, orMinus, idColumn, numbersOf, timeNumbers, timepoint, pickupType, dropOffType, recordOf, recordsOf, filled}
+use Rattle.meaning.specs.Columns.{places, headerOf}
+use Rattle.meaning.specs.Tables.{Feed, widths, widthOf, recordOf, recordsOf, filled}
 use Rattle.rows.specs.Cells.{putAt}
-use Rattle.rows.specs.Waiting.{unmark, settledAt}
-use Rattle.rows.proofs.Waiting.{settled-back}
+use Rattle.rows.specs.Waiting.{settledAt}
 use Rattle.rows.proofs.Records.{laid-cell, laid-length, rows-turn, record-wide, wide-take}
-use Rattle.values.proofs.Choices.{Stored, nothing, number, choice-stored, zero-stored}
 use Rattle.ordering.specs.Cells.{KeptAt}
-use Rattle.tables.specs.Fill.{line}
-use Rattle.tables.specs.Walk.{tabled, Beyond}
-use Rattle.tables.specs.Waiting.{markOf, waitingOf, writtenOf, writtenAll, written}
+use Rattle.records.specs.Line.{line}
+use Rattle.records.specs.Waiting.{waitingOf, writtenOf}
+use Rattle.records.proofs.Waiting.{waits-settled, written-wide}
+use Rattle.tables.specs.Walk.{tabled, writtenAll, written, Beyond}
 use Rattle.tables.proofs.Past.{beyond-trans, laid-rest, laid-beyond, kept-beyond}
 use Rattle.tables.proofs.Turns.{wide, table-length, table-at}
 use Rattle.tables.proofs.Ids.{cell-of}
-use Rattle.tables.proofs.Written.{written-wide}
 use Rattle.tables.proofs.SecondWalk.{taken-length, all-length, filled-beyond}
-
--- timepoint is unpacked as it was packed
-pub timepoint-marked : (v : List ℕ) → (unmark (markOf (orMinus 1 v)) ≡ orMinus 1 v) × (markOf (orMinus 1 v) < 4)
-unfolding orMinus unmark
-timepoint-marked v = go (choice-stored (negsuc 0) 1 v)
-  where
-    go : {z : ℤ} → Stored (negsuc 0) 1 z → (unmark (markOf z) ≡ z) × (markOf z < 4)
-    go nothing = (refl, omega arith)
-    go (number n h) = (rw add-one, omega arith)
-
--- a line that waits at a place in a table, but for the cell of the order, is settled to its record
-pub waits-settled :
-    (w : Feed) (ps : List ℕ) (l : Line) (t : List ℤ) (at : ℕ)
-    → ((k : ℕ) → k < 7 → getD t (at + k) (pos 0) ≡ getD (waitingOf w ps l) k (pos 0))
-    → settledAt t at ≡ recordOf 5 w ps l
-unfolding waitingOf recordOf idColumn numbersOf timeNumbers
-waits-settled w ps l t at is =
-    let r : Row = rowOf ps (l .text) in
-    let p = zero-stored 3 (pickupType r) in
-    let d = zero-stored 3 (dropOffType r) in
-    let m = timepoint-marked (timepoint r) in
-    settled-back _ _ _ _ (omega (arith, p .1)) (omega (arith, d .1)) (m .1) t at _ _ _ _
-    (rw (add-zero at) at (is 0 (omega arith))) (is 1 (omega arith)) (is 2 (omega arith)) (is 3 (omega arith)) (is 4 (omega arith))
-    ∙ rw (← p .0, ← d .0, m .0)
 
 -- the lines of a file, as they wait
 module _ (w : Feed) (s : List ℕ) (lent : List ℤ) (some : 1 ≤ countLf s) where

@@ -1,5 +1,4 @@
--- What a located line, the walks along a file and the tables that it refers to hold.
+-- What a file's header and the walks along a file hold.
 pub mod Fill
 pub mod Walk
-pub mod Waiting
 pub mod Noting

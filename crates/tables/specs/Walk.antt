@@ -5,12 +5,14 @@ use mathlib.Core.List.{List, [], _∷_, _++_, map}
 use lib.IntN.{ℤ, pos}
 use lib.ListN.{length, getD, take, drop, replicate}
 use Rattle.meaning.specs.declared.Bounds.{Bounds}
+use Rattle.meaning.specs.Lists.{flat, laid}
 use Rattle.meaning.specs.Bytes.{bounds, part, value, countLf, Line, linesOf}
 use Rattle.meaning.specs.Columns.{fieldAt, places, headerOf, rowsOf}
 use Rattle.meaning.specs.Tables.{Feed, under, stopIds, refer, idPlace, idColumn, widthOf, parentStation}
 use Rattle.rows.specs.Cells.{natAt, boundsAt}
 use Rattle.ordering.specs.Ids.{Arranged}
 use Rattle.seeking.specs.First.{First, Held, names}
+use Rattle.records.specs.Waiting.{writtenOf}
 
 -- where the field in a column of a line lies in the file
 abbrev pub placeOf : ℕ → Line → Bounds
@@ -30,6 +32,14 @@ placing f ps x =
 -- all that the first walk along a file writes
 abbrev pub placedOf : ℕ → List ℕ → List (List ℤ)
 placedOf f s = tabled f (placing f (places f (headerOf (linesOf s)))) s
+
+-- all that the second walk writes
+abbrev pub writtenAll : ℕ → Feed → List ℕ → List (List ℤ)
+writtenAll f w s = tabled f (writtenOf f w (places f (headerOf (linesOf s)))) s
+
+-- a file's table after the second walk
+unfoldable pub written : ℕ → Feed → List ℕ → List ℤ → List ℤ
+written f w s lent = laid (flat (writtenAll f w s)) lent
 
 -- a table that is another from number m on
 pub record Beyond (m : ℕ) (t u : List ℤ) : Type 0 where

@@ -11,16 +11,15 @@ ghost use Rattle.meaning.specs.Tables.{Feed, feedOf, filled};
 ghost use Rattle.meaning.specs.Refusals.{maxBytes, maxLines};
 ghost use Rattle.marks.specs.Marks.{marked, Blank};
 ghost use Rattle.marks.specs.Noted.{Noted, TripsNoted};
-ghost use Rattle.tables.specs.Fill.{Heading, Indexed, Refers, Room, Sought};
-ghost use Rattle.tables.specs.Walk.{Ordered, Parents};
-ghost use Rattle.tables.specs.Waiting.{writtenAll, written};
+ghost use Rattle.records.specs.Refers.{Indexed, Refers, Sought};
+ghost use Rattle.tables.specs.Fill.{Heading, Room};
+ghost use Rattle.tables.specs.Walk.{writtenAll, written, Ordered, Parents};
 use rows::Calendar;
 use rows::Routes;
 use rows::Stops;
 use rows::Trips;
 use text::LineStep;
 
-mod records; // records.rt: the record of one located line, written into its table
 mod placing; // placing.rt: the first walk along files 1 to 4, and the order of their ids
 mod parents; // parents.rt: the parents of stops, once every stop's id is in the table
 mod times; // times.rt: the lines of stop_times, which wait in their table while they are put in trip order

@@ -12,8 +12,9 @@ ghost use Rattle.meaning.specs.Refusals.{maxBytes};
 ghost use Rattle.ordering.specs.Cells.{KeptAt};
 ghost use Rattle.marks.specs.Marks.{marked};
 ghost use Rattle.marks.specs.Noted.{TripsNoted};
-ghost use Rattle.tables.specs.Fill.{Indexed, Refers, Room};
-ghost use Rattle.tables.specs.Waiting.{written};
+ghost use Rattle.records.specs.Refers.{Indexed, Refers};
+ghost use Rattle.tables.specs.Fill.{Room};
+ghost use Rattle.tables.specs.Walk.{written};
 use rows::StopTimes;
 use rows::TimeRow;
 

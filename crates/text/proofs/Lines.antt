@@ -2,7 +2,7 @@
 use mathlib.Core.Path.{_≡_, refl, sym, ap, _∙_}
 use mathlib.Core.Bool.{Bool, true, false, cond, _&&_}
 use mathlib.Core.List.{List, [], _∷_, _++_}
-use Prim.Native.Nat.{ℕ, zero, suc, _+_, _-_, _≤_, _<_}
+use Prim.Native.Nat.{ℕ, suc, _+_, _-_, _≤_, _<_}
 use native.Mathlib.Numerals.{add-one}
 use native.Mathlib.Omega.{arith}
 use native.Mathlib.Nat.{not-suc-le-zero, add-zero}
@@ -10,11 +10,12 @@ use lib.Dec.{eqb, ltb}
 use lib.ListN.{length, getD, take, drop, length-drop, length-take, length-map, take-append-drop}
 use lib.Seq.{drop-drop}
 use borrow.Author.Tests.{eq-eqb, ne-eqb, lt-ltb, le-ltb, ltb-true, ltb-false}
-use Rattle.meaning.specs.Lists.{same, empty}
+use Rattle.meaning.specs.Lists.{same}
 use Rattle.meaning.specs.Bytes.{bounds, leadingMark, startOf, countLf, cuts, endOf, lineOf, linesFrom, linesOf}
+use Rattle.meaning.specs.Refusals.{ended}
 use Rattle.meaning.proofs.ListLaws.{same-equal}
 use Rattle.text.specs.declared.LineStep.the-variants.{Line, Done}
-use Rattle.text.specs.Lines.{ended, toLf, lineTo, lineAt, LineStands}
+use Rattle.text.specs.Lines.{toLf, lineTo, lineAt, LineStands}
 use Rattle.text.proofs.Laws.{drop-next, drop-over, same-no}
 
 -- a turn along the bytes, on how many LF are left and how far the first is
@@ -45,15 +46,11 @@ pub toLf-over : (s : List ℕ) (i k : ℕ) → length s ≤ i → i + toLf (drop
 unfolding toLf
 toLf-over s i k h inv = let z : toLf (drop i s) ≡ 0 = rw (drop-over s i h) in omega arith
 
--- the last byte
-pub ended-some : (s : List ℕ) → 0 < length s → eqb (getD s (length s - 1) 0) 10 ≡ ended s
-unfolding ended empty
-ended-some s h = rw (ne-eqb (length s) 0 (λ z. omega arith))
-
-pub ended-none : (s : List ℕ) → length s ≤ 0 → false ≡ ended s
-unfolding ended empty
-ended-none [] h = refl
-ended-none (b ∷ r) h = absurd (not-suc-le-zero h)
+-- an empty file has no last byte
+pub unended : (s : List ℕ) → length s ≤ 0 → false ≡ ended s
+unfolding ended
+unended [] h = refl
+unended (b ∷ r) h = absurd (not-suc-le-zero h)
 
 -- the mark at a file's start
 pub start-short : (s : List ℕ) → length s < 3 → 0 ≡ startOf s

@@ -1,18 +1,13 @@
--- A file's last byte, and a step along its lines.
-use Prim.Native.Nat.{ℕ, _+_, _-_, _≤_, _<_}
+-- A step along the lines of a file.
+use Prim.Native.Nat.{ℕ, _+_, _≤_, _<_}
 use mathlib.Core.Path.{_≡_}
 use mathlib.Core.List.{List, [], _∷_}
-use mathlib.Core.Bool.{Bool, false, cond}
-use lib.ListN.{length, getD, drop}
+use mathlib.Core.Bool.{cond}
+use lib.ListN.{length, drop}
 use lib.Dec.{ltb, eqb}
-use Rattle.meaning.specs.Lists.{empty}
 use Rattle.meaning.specs.Bytes.{bounds, part, endOf, linesFrom}
 use Rattle.text.specs.declared.LineStep.{LineStep}
 use Rattle.text.specs.declared.LineStep.the-variants.{Line, Done}
-
--- is the last byte LF; an empty file has none
-unfoldable pub ended : List ℕ → Bool
-ended s = cond (empty s) false (eqb (getD s (length s - 1) 0) 10)
 
 -- how many bytes stand before the first LF
 unfoldable pub toLf : List ℕ → ℕ

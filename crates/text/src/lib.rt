@@ -5,8 +5,8 @@ ghost use lib.ListN.{length, drop};
 ghost use Rattle.meaning.specs.Lists.{same, empty};
 ghost use Rattle.meaning.specs.Bytes.{countLf, startOf, start, classOf, next, good, fields, marked, content, undouble, value};
 ghost use Rattle.meaning.specs.Forms.{noMark};
-ghost use Rattle.meaning.specs.Refusals.{rule5};
-ghost use Rattle.text.specs.Lines.{ended, toLf, lineTo, lineAt};
+ghost use Rattle.meaning.specs.Refusals.{ended, rule5};
+ghost use Rattle.text.specs.Lines.{toLf, lineTo, lineAt};
 ghost use Rattle.text.specs.Fields.{fieldLen, stepAt};
 ghost use Rattle.text.specs.Values.{widthOf};
 

@@ -1,6 +1,6 @@
 -- `repeats::is_repeat` meets its contract.
 use Rattle.ordering.proofs.Laws.{room-row}
-use Rattle.repeats.proofs.Laws.{same-cells}
+use mathlib.Core.Path.{_∙_}
 use Prim.Native.Nat.{_-_}
 use native.Mathlib.Omega.{arith}
 use borrow.Author.Needs.{needs}
@@ -16,28 +16,11 @@ get-requires c κs = (c .before .pre .0 .wide, room-row (c .before .pre .0) (c .
 get-requires-2 : tie.Need-get-requires-2
 get-requires-2 c κs = search needs
 
-raw-id-requires : tie.Need-raw-id-requires
-raw-id-requires c κs = search needs
-
-raw-id-requires-2 : tie.Need-raw-id-requires-2
-raw-id-requires-2 c κs = search needs
-
-same-values-requires : tie.Need-same-values-requires
-same-values-requires c κs = search needs
+is-alike-requires : tie.Need-is-alike-requires
+is-alike-requires c κs = search needs
 
 returns : tie.Need-returns
-returns c =
-    let a = c .before .before .before .before .before .before .args in
-    same-cells (a .s .now) (a .t .now) (a .w) (a .k - 1) (a .k) _ _ _ _ _ (c .before .before .before .before .get .ensures .0) (c .before .before .before .get2 .ensures .0) (c .before .before .raw-id .ensures) (c .before .raw-id2 .ensures) (c .same-values .ensures)
+returns c = c .is-alike .ensures ∙ rw (c .before .before .get .ensures .0, c .before .get2 .ensures .0)
 
 pub is-repeat-spec : {M : Type 1} → statement M
-is-repeat-spec =
-    tie.close
-    (tie.spec
-    sub-get
-    get-requires
-    get-requires-2
-    raw-id-requires
-    raw-id-requires-2
-    same-values-requires
-    returns)
+is-repeat-spec = tie.close (tie.spec sub-get get-requires get-requires-2 is-alike-requires returns)

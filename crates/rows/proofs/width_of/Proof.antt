@@ -37,7 +37,13 @@ returns-5 c =
     ap widthOf (sym e)
 
 returns-6 : tie.Need-returns-6
-returns-6 c = no-width _ (λ e. omega arith) (λ e. omega arith) (λ e. omega arith) (λ e. omega arith) (λ e. omega arith)
+unfolding widthOf widths
+returns-6 c =
+    let e : c .before .args .file ≡ 6 = omega arith in
+    ap widthOf (sym e)
+
+returns-7 : tie.Need-returns-7
+returns-7 c = no-width _ (λ e. omega arith) (λ e. omega arith) (λ e. omega arith) (λ e. omega arith) (λ e. omega arith) (λ e. omega arith)
 
 pub width-of-spec : {M : Type 1} → statement M
-width-of-spec = tie.close (tie.spec returns returns-2 returns-3 returns-4 returns-5 returns-6)
+width-of-spec = tie.close (tie.spec returns returns-2 returns-3 returns-4 returns-5 returns-6 returns-7)

@@ -1,9 +1,10 @@
 -- `tables::fill` meets its contract.
 use Rattle.meaning.specs.Columns.{places, headerOf}
 use Rattle.meaning.specs.Bytes.{linesOf}
-use Rattle.tables.specs.Waiting.{writtenOf}
+use Rattle.records.specs.Waiting.{writtenOf}
 use Rattle.tables.proofs.Turns.{first-room, walk-first}
-use Rattle.tables.proofs.Feeds.{sought-blank, parents-zeroed}
+use Rattle.records.proofs.References.{sought-blank}
+use Rattle.tables.proofs.Feeds.{parents-zeroed}
 use Prim.Native.Nat.{_-_}
 use native.Mathlib.Omega.{arith}
 use borrow.Author.Needs.{needs}

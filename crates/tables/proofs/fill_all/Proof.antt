@@ -1,6 +1,7 @@
 -- `tables::fill_all` meets its contract.
 use Rattle.meaning.specs.Tables.{feedOf, widths, widthOf}
-use Rattle.tables.proofs.Feeds.{ordered-index, ordered-lists, ordered-room, settled-index, settled-lists, settled-room, settled-past, settled-parents, indexed-trips, indexed-times, refers-trips, refers-times, stop-ids, route-ids, service-ids, trip-ids, feed-times}
+use Rattle.records.proofs.References.{indexed-trips, indexed-times, refers-trips, refers-times}
+use Rattle.tables.proofs.Feeds.{ordered-index, ordered-lists, ordered-room, settled-index, settled-lists, settled-room, settled-past, settled-parents, stop-ids, route-ids, service-ids, trip-ids, feed-times}
 use Rattle.tables.proofs.Written.{written-filled}
 use Rattle.tables.proofs.SecondWalk.{filled-beyond}
 use Rattle.tables.proofs.TripLines.{noted-kept}

@@ -1,5 +1,5 @@
 -- `tables::fill_alone` meets its contract.
-use Rattle.tables.proofs.Feeds.{refers-none, indexed-none}
+use Rattle.records.proofs.References.{refers-none, indexed-none}
 use Rattle.tables.proofs.Written.{written-filled}
 use mathlib.Core.Path.{_∙_}
 use Prim.Native.Nat.{_-_}

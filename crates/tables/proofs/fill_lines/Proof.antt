@@ -5,10 +5,11 @@ use Rattle.meaning.specs.Columns.{places, headerOf}
 use Rattle.meaning.specs.Tables.{Feed, widthOf}
 use Rattle.text.proofs.Lines.{line-found, line-none}
 use Rattle.text.proofs.Walk.{line-next}
-use Rattle.tables.specs.Fill.{Refers, Sought}
+use Rattle.records.specs.Refers.{Refers, Sought}
 use Rattle.tables.specs.Walk.{Parents}
-use Rattle.tables.specs.Waiting.{writtenOf, writtenAll, written}
-use Rattle.tables.proofs.Written.{written-wide}
+use Rattle.records.specs.Waiting.{writtenOf}
+use Rattle.tables.specs.Walk.{writtenAll, written}
+use Rattle.records.proofs.Waiting.{written-wide}
 use Rattle.tables.proofs.Turns.{two-wide, walk-inside, walk-room, walk-count, walk-size, walk-turn, walk-past, walk-end}
 use Rattle.tables.proofs.Ids.{row-here}
 use Rattle.tables.proofs.SecondWalk.{parent-here}

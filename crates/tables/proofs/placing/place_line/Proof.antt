@@ -1,5 +1,5 @@
 -- `tables::placing::place_line` meets its contract.
-use Rattle.tables.proofs.LineRecords.{located, lies, within}
+use Rattle.records.proofs.LineRecords.{located, lies, within}
 use Prim.Native.Nat.{_-_}
 use native.Mathlib.Omega.{arith}
 use borrow.Author.Needs.{needs}

@@ -1,6 +1,6 @@
 -- `tables::placing::put_places` meets its contract.
-use Rattle.tables.proofs.LineRecords.{places-record}
-use Rattle.tables.proofs.Readings.{put-as}
+use Rattle.tables.proofs.Written.{places-record}
+use Rattle.records.proofs.Readings.{put-as}
 use Rattle.tables.proofs.FirstWalk.{seven-wide}
 use Prim.Native.Nat.{_-_}
 use native.Mathlib.Omega.{arith}

@@ -3,7 +3,7 @@ use Rattle.meaning.specs.Lists.{flat, laid}
 use Rattle.meaning.specs.Bytes.{countLf}
 use Rattle.meaning.specs.Tables.{Feed, recordsOf}
 use Rattle.ordering.specs.Cells.{KeptAt}
-use Rattle.tables.specs.Waiting.{written}
+use Rattle.tables.specs.Walk.{written}
 use Rattle.tables.proofs.Waits.{settle-start, settle-turn, settle-end}
 use mathlib.Core.Path.{_≡_, refl, _∙_}
 use mathlib.Core.List.{List}

@@ -1,0 +1,128 @@
+-- The record of a line from its located fields.
+use mathlib.Core.Path.{_≡_, sym, ap, _∙_}
+use mathlib.Core.List.{List, [], _∷_, _++_, append-assoc}
+use Prim.Native.Nat.{ℕ, suc, _+_, _*_, _≤_, _<_}
+use native.Mathlib.Omega.{arith}
+use lib.IntN.{ℤ, pos}
+use lib.ListN.{length, getD, take, drop, length-append, List·getD-map}
+use lib.Seq.{drop-cons}
+use Rattle.meaning.specs.Columns.{fieldAt, rowOf}
+use Rattle.meaning.specs.Forms.{latitudeOf, longitudeOf, timeOf, dateOf, sequenceOf, routeTypeOf}
+use Rattle.meaning.specs.Tables.{Feed, degrees, day, number, seconds, picked, orZero, orMinus, refer, packedDays, stopIds, routeIds, serviceIds, tripIds, idPlace, idColumn, parentStation, recordOf, numbersOf, stopNumbers, routeNumbers, serviceNumbers, tripNumbers}
+use Rattle.meaning.specs.Refusals.{maxBytes}
+use Rattle.rows.specs.Cells.{putAt}
+use Rattle.rows.specs.Waiting.{packed}
+use Rattle.columns.specs.Columns.{startsOf, endsOf}
+use Rattle.columns.proofs.Laws.{located-inside}
+use Rattle.values.specs.Located.{valueIn, Located, Within}
+use Rattle.values.proofs.Readings.{in-row}
+use Rattle.records.specs.Line.{line, Lies}
+use Rattle.records.specs.Waiting.{markOf, waitingOf}
+
+-- a record that is written but for its last number, which stands there already
+pub put-last :
+    (t : List ℤ) (at : ℕ) (xs : List ℤ) (z : ℤ)
+    → at + length xs < length t
+    → getD t (at + length xs) (pos 0) ≡ z
+    → putAt t at xs ≡ putAt t at (xs ++ (z ∷ []))
+unfolding putAt
+put-last t at xs z h e =
+    let d : drop (at + length xs) t ≡ z ∷ drop (at + length (xs ++ (z ∷ []))) t =
+    drop-cons t (at + length xs) (pos 0) h
+    ∙ ap (λ (y : ℤ). y ∷ drop (suc (at + length xs)) t) e
+    ∙ ap (λ (k : ℕ). z ∷ drop k t) (more (length-append xs (z ∷ []))) in
+    let rest : List ℤ = drop (at + length (xs ++ (z ∷ []))) t in
+    ap (λ (v : List ℤ). take at t ++ xs ++ v) d
+    ∙ sym (append-assoc (take at t ++ xs) (z ∷ []) rest)
+    ∙ ap (λ (v : List ℤ). v ++ rest) (append-assoc (take at t) xs (z ∷ []))
+  where
+    more : length (xs ++ (z ∷ [])) ≡ length xs + 1 → suc (at + length xs) ≡ at + length (xs ++ (z ∷ []))
+    more q = omega arith
+
+-- the record that located fields say
+module _ (ps l : List ℕ) (at : ℕ) (st en : List ℕ) (loc : Located l ps st en) where
+  pub id-in : (k a e : ℕ) → a ≡ at + getD st k 0 → e ≡ at + getD en k 0 → idPlace (getD ps k 0) (line at l) ≡ pos a ∷ pos e ∷ []
+  unfolding idPlace
+  id-in k a e p q = rw (← loc k, p, q)
+
+  pub stop-record :
+      (w : Feed) (t : List ℤ) (r a e kind : ℕ) (lat lon : ℤ)
+      → r * 6 + 6 ≤ length t
+      → getD t (r * 6 + 5) (pos 0) ≡ pos (refer (parentStation (rowOf ps l)) (stopIds w))
+      → a ≡ at + getD st 0 0
+      → e ≡ at + getD en 0 0
+      → lat ≡ degrees (latitudeOf (valueIn l st en 2))
+      → lon ≡ degrees (longitudeOf (valueIn l st en 3))
+      → pos kind ≡ orZero 2 (valueIn l st en 4)
+      → putAt t (r * 6) (pos a ∷ pos e ∷ lat ∷ lon ∷ pos kind ∷ []) ≡ putAt t (r * 6) (recordOf 1 w ps (line at l))
+  unfolding recordOf idColumn numbersOf stopNumbers
+  stop-record w t r a e kind lat lon room parent p q x y z =
+      put-last t (r * 6) (pos a ∷ pos e ∷ lat ∷ lon ∷ pos kind ∷ []) (pos (refer (parentStation (rowOf ps l)) (stopIds w))) (omega arith) parent
+      ∙ rw (id-in 0 a e p q, in-row ps l st en loc 2, in-row ps l st en loc 3, in-row ps l st en loc 4, ← x, ← y, ← z)
+
+  pub route-record :
+      (w : Feed) (a e kind : ℕ)
+      → a ≡ at + getD st 0 0
+      → e ≡ at + getD en 0 0
+      → pos kind ≡ picked (routeTypeOf (valueIn l st en 1))
+      → pos a ∷ pos e ∷ pos kind ∷ [] ≡ recordOf 2 w ps (line at l)
+  unfolding recordOf idColumn numbersOf routeNumbers
+  route-record w a e kind p q x = rw (id-in 0 a e p q, in-row ps l st en loc 1, ← x)
+
+  pub service-record :
+      (w : Feed) (a e days from to : ℕ)
+      → a ≡ at + getD st 0 0
+      → e ≡ at + getD en 0 0
+      → days ≡ packedDays (rowOf ps l)
+      → pos from ≡ day (dateOf (valueIn l st en 8))
+      → pos to ≡ day (dateOf (valueIn l st en 9))
+      → pos a ∷ pos e ∷ pos days ∷ pos from ∷ pos to ∷ [] ≡ recordOf 3 w ps (line at l)
+  unfolding recordOf idColumn numbersOf serviceNumbers
+  service-record w a e days from to p q x y z = rw (id-in 0 a e p q, in-row ps l st en loc 8, in-row ps l st en loc 9, x, ← y, ← z)
+
+  pub trip-record :
+      (w : Feed) (a e route service wheelchair bikes : ℕ) (direction : ℤ)
+      → a ≡ at + getD st 2 0
+      → e ≡ at + getD en 2 0
+      → route ≡ refer (valueIn l st en 0) (routeIds w)
+      → service ≡ refer (valueIn l st en 1) (serviceIds w)
+      → direction ≡ orMinus 1 (valueIn l st en 3)
+      → pos wheelchair ≡ orZero 2 (valueIn l st en 4)
+      → pos bikes ≡ orZero 2 (valueIn l st en 5)
+      → pos a ∷ pos e ∷ pos route ∷ pos service ∷ direction ∷ pos wheelchair ∷ pos bikes ∷ []
+      ≡ recordOf 4 w ps (line at l)
+  unfolding recordOf idColumn numbersOf tripNumbers
+  trip-record w a e route service wheelchair bikes direction p q r s x y z =
+      rw (id-in 2 a e p q, in-row ps l st en loc 0, in-row ps l st en loc 1, in-row ps l st en loc 3, in-row ps l st en loc 4, in-row ps l st en loc 5, r, s, ← x, ← y, ← z)
+
+  pub waiting-record :
+      (w : Feed) (trip stop sequence pickup dropOff a e : ℕ) (arrival departure : ℤ)
+      → trip ≡ refer (valueIn l st en 0) (tripIds w)
+      → stop ≡ refer (valueIn l st en 3) (stopIds w)
+      → pos sequence ≡ number (sequenceOf (valueIn l st en 4))
+      → arrival ≡ seconds (timeOf (valueIn l st en 1))
+      → departure ≡ seconds (timeOf (valueIn l st en 2))
+      → pos pickup ≡ orZero 3 (valueIn l st en 5)
+      → pos dropOff ≡ orZero 3 (valueIn l st en 6)
+      → a ≡ at + getD st 0 0
+      → e ≡ at + getD en 0 0
+      → pos trip ∷ pos (packed stop pickup dropOff (markOf (orMinus 1 (valueIn l st en 7)))) ∷ pos sequence ∷ arrival ∷ departure ∷ pos a ∷ pos e ∷ pos 0 ∷ []
+      ≡ waitingOf w ps (line at l)
+  unfolding waitingOf
+  waiting-record w trip stop sequence pickup dropOff a e arrival departure p q r x y u v g h =
+      rw (id-in 0 a e g h, in-row ps l st en loc 0, in-row ps l st en loc 1, in-row ps l st en loc 2, in-row ps l st en loc 3, in-row ps l st en loc 4, in-row ps l st en loc 5, in-row ps l st en loc 6, in-row ps l st en loc 7, p, q, ← r, x, y, ← u, ← v)
+
+-- the fields that `locate` gives under columns
+module _ (l cs st en : List ℕ) (starts : st ≡ startsOf l cs) (ends : en ≡ endsOf l cs) where
+  pub located : (ps : List ℕ) → ((k : ℕ) → getD cs k 0 ≡ getD ps k 0) → Located l ps st en
+  unfolding startsOf endsOf fieldAt
+  located ps e k =
+      let a : getD (startsOf l cs) k 0 ≡ fieldAt l (getD cs k 0) .start = List·getD-map (λ p. fieldAt l p .start) cs k 0 in
+      let b : getD (endsOf l cs) k 0 ≡ fieldAt l (getD cs k 0) .end = List·getD-map (λ p. fieldAt l p .end) cs k 0 in
+      rw (starts, ends, a, b, e k)
+
+  pub within : Within (length l) st en
+  within k = located-inside l cs st en starts ends k
+
+  pub lies : (at : ℕ) → at + length l ≤ maxBytes → Lies l at st en
+  lies at h = (within, h)
