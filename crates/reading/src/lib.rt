@@ -423,7 +423,7 @@ pub fn verdict(
     ensures { λ r. ⌜ r ≡ verdictOf (now (stops .entry) ∷ now (routes .entry) ∷ now (calendar .entry) ∷ now (trips .entry) ∷ now («stop_times» .entry) ∷ now (dates .entry) ∷ []) rooms ⌝ }
 {
     let v = read_wholes(stops, routes, calendar, trips, stop_times, dates, rooms);
-    // A call for each file: slices can't be put in an array.
+    // A call for each file: slices of several lifetimes can't stand in one array.
     let v = read_on(v, 1, stops);
     let v = read_on(v, 2, routes);
     let v = read_on(v, 3, calendar);

@@ -1,5 +1,4 @@
 -- `reading::is_exception` meets its contract.
-use Prim.Native.Nat.{_-_}
 use borrow.Author.Needs.{needs}
 use Rattle.reading.proofs.is_exception.Statement.{statement}
 use Rattle.reading.proofs.is_exception.Tie as tie

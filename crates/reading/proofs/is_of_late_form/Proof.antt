@@ -1,7 +1,6 @@
 -- `reading::is_of_late_form` meets its contract.
 use Rattle.reading.proofs.Values.{past, no-form}
 use Rattle.meaning.specs.Forms.{shape, shapes}
-use Prim.Native.Nat.{_-_}
 use borrow.Author.Needs.{needs}
 use Rattle.reading.proofs.is_of_late_form.Statement.{statement}
 use Rattle.reading.proofs.is_of_late_form.Tie as tie

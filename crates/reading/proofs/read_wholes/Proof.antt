@@ -4,7 +4,6 @@ use Rattle.meaning.specs.Lists.{empty}
 use Rattle.meaning.specs.Tables.{fileOf}
 use mathlib.Core.Path.{refl}
 use mathlib.Core.List.{[], _∷_}
-use Prim.Native.Nat.{_-_}
 use native.Mathlib.Omega.{arith}
 use borrow.Author.Needs.{needs}
 use Rattle.reading.proofs.read_wholes.Statement.{statement}

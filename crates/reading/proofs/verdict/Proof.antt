@@ -1,7 +1,6 @@
 -- `reading::verdict` meets its contract.
 use Rattle.reading.proofs.Files.{feed-read}
 use mathlib.Core.List.{[], _∷_}
-use Prim.Native.Nat.{_-_}
 use borrow.Author.Needs.{needs}
 use Rattle.reading.proofs.verdict.Statement.{statement}
 use Rattle.reading.proofs.verdict.Tie as tie

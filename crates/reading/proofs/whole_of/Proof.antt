@@ -1,7 +1,6 @@
 -- `reading::whole_of` meets its contract.
 use Rattle.reading.specs.Wholes.{wholeOf}
 use Rattle.meaning.specs.Refusals.{rule1, rule2, rule3}
-use Prim.Native.Nat.{_-_}
 use borrow.Author.Needs.{needs}
 use Rattle.reading.proofs.whole_of.Statement.{statement}
 use Rattle.reading.proofs.whole_of.Tie as tie
