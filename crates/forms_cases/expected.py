@@ -65,6 +65,7 @@ forms = {
     "2": choice(0, 1, 2),
     "3": choice(0, 1, 2, 3),
     "r": choice(0, 1, 2, 3, 4, 5, 6, 7, 11, 12),
+    "e": choice(1, 2),
 }
 
 cases = {form: [] for form in forms}
@@ -117,7 +118,7 @@ for count in range(0, 12):
 cases["n"] += ["0", "1", "9", "10", "007", "123456789", "987654321", "1234567890", "-1", "+1", " 1", "1 ", "1.", "1.0", "1e3", "1_0", "/", ":", "/1", ":1", "1/", "1:", "a", "1a", "a1", "١"]
 
 # choices: each and its neighbours, and how it might be written otherwise
-for form in ["1", "2", "3", "r"]:
+for form in ["1", "2", "3", "r", "e"]:
     cases[form] += [str(n) for n in range(0, 25)] + ["", "00", "01", "011", "012", "-0", "-1", "+1", " 1", "1 ", "1.", "1.0", "/", ":", "a", "\x7f", "é", "0" * 9, "100", "700", "1100", "111", "112", "21", "31"]
 
 # any text, near a form and far from one
@@ -140,7 +141,7 @@ for _ in range(60):
 lines = []
 for form, texts in cases.items():
     texts = [text for text in dict.fromkeys(texts) if '"' not in text]
-    quoted = [f'"{text}"' for text in texts[:: max(1, len(texts) // 25)]]
+    quoted = [f'"{text}"' for text in texts[:3] + texts[3 :: max(1, len(texts) // 25)]]
     marked = ['""""', '"1"""', '"""1"', '"""1"""', '"8:00:00"""', '"20240101"""', '"1.5"""', '"0"""', '""', '"', '"1', '"0"0']
     for raw in texts + quoted + marked:
         lines.append((f"{form} {raw}", forms[form](value(raw))))

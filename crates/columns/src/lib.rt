@@ -20,7 +20,7 @@ pub struct Columns {
 
 // The column in which the name of known column k stands first.
 fn place(f: usize, k: usize, h: &[u8]) -> usize
-    requires { ⌜ (f < 6) × (k < 10) ⌝ }
+    requires { ⌜ (f < 7) × (k < 10) ⌝ }
     ensures { λ r. ⌜ r ≡ find (nameOf f k) 1 (values (now (h .entry))) ⌝ }
 {
     let mut c = Cursor::new();
@@ -43,7 +43,7 @@ fn place(f: usize, k: usize, h: &[u8]) -> usize
 
 // How often the name of known column k stands in a header.
 fn times(f: usize, k: usize, h: &[u8]) -> usize
-    requires { ⌜ (f < 6) × (k < 10) ⌝ }
+    requires { ⌜ (f < 7) × (k < 10) ⌝ }
     ensures { λ r. ⌜ r ≡ standings (nameOf f k) (values (now (h .entry))) ⌝ }
 {
     let mut c = Cursor::new();
@@ -65,7 +65,7 @@ fn times(f: usize, k: usize, h: &[u8]) -> usize
 
 // Does a known name stand twice in a header?
 pub fn repeats(f: usize, h: &[u8]) -> bool
-    requires { ⌜ f < 6 ⌝ }
+    requires { ⌜ f < 7 ⌝ }
     ensures { λ r. ⌜ r ≡ rule8 f (values (now (h .entry))) ⌝ }
 {
     let m = schema::count(f);
@@ -81,7 +81,7 @@ pub fn repeats(f: usize, h: &[u8]) -> bool
 
 // The columns of a header.
 pub fn columns_of(f: usize, h: &[u8]) -> Columns
-    requires { ⌜ f < 6 ⌝ }
+    requires { ⌜ f < 7 ⌝ }
     ensures { λ r. ⌜ (r .at ≡ placesOf f (values (now (h .entry)))) × (r .count ≡ length (fields (now (h .entry)))) ⌝ }
 {
     let m = schema::count(f);
@@ -100,7 +100,7 @@ pub fn columns_of(f: usize, h: &[u8]) -> Columns
 
 // Must known column k be present, and is its column p none?
 fn is_missing(f: usize, k: usize, p: usize) -> bool
-    requires { ⌜ (f < 6) × (k < 10) ⌝ }
+    requires { ⌜ (f < 7) × (k < 10) ⌝ }
     ensures { λ r. ⌜ r ≡ (columnOf f k .must && eqb p 0) ⌝ }
 {
     let c = schema::known(f, k);
@@ -112,7 +112,7 @@ fn is_missing(f: usize, k: usize, p: usize) -> bool
 
 // Is a must-be-present name missing?
 pub fn lacks(f: usize, c: Columns) -> bool
-    requires { ⌜ f < 6 ⌝ }
+    requires { ⌜ f < 7 ⌝ }
     ensures { λ r. ⌜ r ≡ lacking f (c .at) ⌝ }
 {
     let m = schema::count(f);

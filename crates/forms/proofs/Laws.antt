@@ -197,26 +197,31 @@ module _ (limit : ℕ) (below : Bool) (v : List ℕ) (p : ℕ) (at : p ≡ toPoi
       let long : length (take p v) ≡ p = length-take-le p v (rw (← at) at (point-within v)) in
       rw (z, x, y, k, ← at) (sized-is limit below (take p v) (drop (p + 1) v) (omega arith) (omega arith))
 
--- one digit from 0 to m
-module _ (m : ℕ) (v : List ℕ) where
-  pub digit-long : (length v ≡ 1 → ⊥) → NoChoice ≡ digitText m v
+-- one digit from a to m
+module _ (a m : ℕ) (v : List ℕ) where
+  pub digit-long : (length v ≡ 1 → ⊥) → NoChoice ≡ digitText a m v
   unfolding digitText
   digit-long h = rw (ne-eqb _ _ h)
 
-  pub digit-low : length v ≡ 1 → getD v 0 0 < 48 → NoChoice ≡ digitText m v
+  pub digit-none : length v ≡ 1 → getD v 0 0 < 48 → NoChoice ≡ digitText a m v
   unfolding digitText
-  digit-low h g = rw (eq-eqb _ _ h, lt-leb _ _ g)
+  digit-none h g = rw (eq-eqb _ _ h, lt-leb (48 + a) (getD v 0 0) (omega arith))
 
-  pub digit-high : length v ≡ 1 → 48 ≤ getD v 0 0 → m < getD v 0 0 - 48 → NoChoice ≡ digitText m v
+  pub digit-low : length v ≡ 1 → 48 ≤ getD v 0 0 → getD v 0 0 - 48 < a → NoChoice ≡ digitText a m v
   unfolding digitText
-  digit-high h g f = rw (eq-eqb _ _ h, le-leb _ _ g, lt-leb (getD v 0 0) (48 + m) (omega arith))
+  digit-low h g e = rw (eq-eqb _ _ h, lt-leb (48 + a) (getD v 0 0) (omega arith))
 
-  pub digit-is : length v ≡ 1 → 48 ≤ getD v 0 0 → getD v 0 0 - 48 ≤ m → (w : ℕ) → w ≡ getD v 0 0 → Picked (w - 48) ≡ digitText m v
-  unfolding digitText
-  digit-is h g f w e = rw (e, eq-eqb _ _ h, le-leb _ _ g, le-leb (getD v 0 0) (48 + m) (omega arith))
+  module _ (one : length v ≡ 1) (digit : 48 ≤ getD v 0 0) (low : a ≤ getD v 0 0 - 48) where
+    pub digit-high : m < getD v 0 0 - 48 → NoChoice ≡ digitText a m v
+    unfolding digitText
+    digit-high f = rw (eq-eqb _ _ one, le-leb (48 + a) (getD v 0 0) (omega arith), lt-leb (getD v 0 0) (48 + m) (omega arith))
+
+    pub digit-is : getD v 0 0 - 48 ≤ m → (w : ℕ) → w ≡ getD v 0 0 → Picked (w - 48) ≡ digitText a m v
+    unfolding digitText
+    digit-is f w e = rw (e, eq-eqb _ _ one, le-leb (48 + a) (getD v 0 0) (omega arith), le-leb (getD v 0 0) (48 + m) (omega arith))
 
 -- texts of two bytes are compared with "11" and "12", and no others
-pub route-digit : (v : List ℕ) → (length v ≡ 2 → ⊥) → digitText 7 v ≡ routeTypeText v
+pub route-digit : (v : List ℕ) → (length v ≡ 2 → ⊥) → digitText 0 7 v ≡ routeTypeText v
 unfolding routeTypeText
 route-digit v h = rw (same-no v (49 ∷ 49 ∷ []) (λ e. h (ap length e)), same-no v (49 ∷ 50 ∷ []) (λ e. h (ap length e)))
 
@@ -292,9 +297,9 @@ date-fits v n e = go (eqb (length v) 8) (sequenceText v) refl refl e
 pub number-fits : (v : List ℕ) → NumberFits (sequenceText v)
 number-fits v n e = sequence-fits n v e
 
-pub choice-fits : (m : ℕ) (v : List ℕ) → ChoiceFits m (digitText m v)
+pub choice-fits : (a m : ℕ) (v : List ℕ) → ChoiceFits m (digitText a m v)
 unfolding digitText
-choice-fits m v n e = go (eqb (length v) 1) (leb 48 (getD v 0 0)) (leb (getD v 0 0) (48 + m)) refl e
+choice-fits a m v n e = go (eqb (length v) 1) (leb (48 + a) (getD v 0 0)) (leb (getD v 0 0) (48 + m)) refl e
   where
     go : (x y z : Bool) → leb (getD v 0 0) (48 + m) ≡ z → cond (x && (y && z)) (Picked (getD v 0 0 - 48)) NoChoice ≡ Picked n → n ≤ m
     go true true true p q =
@@ -308,10 +313,10 @@ pub route-fits : (v : List ℕ) → ChoiceFits 12 (routeTypeText v)
 unfolding routeTypeText
 route-fits v n e = go (same v (49 ∷ 49 ∷ [])) (same v (49 ∷ 50 ∷ [])) e
   where
-    go : (x y : Bool) → cond x (Picked 11) (cond y (Picked 12) (digitText 7 v)) ≡ Picked n → n ≤ 12
+    go : (x y : Bool) → cond x (Picked 11) (cond y (Picked 12) (digitText 0 7 v)) ≡ Picked n → n ≤ 12
     go true y q = let k : 11 ≡ n = cc in omega arith
     go false true q = let k : 12 ≡ n = cc in omega arith
-    go false false q = omega (arith, choice-fits 7 v n q)
+    go false false q = omega (arith, choice-fits 0 7 v n q)
 
 signed-size : (below : Bool) (m : ℕ) → natAbs (signed below m) ≡ m
 unfolding signed

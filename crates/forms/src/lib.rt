@@ -10,7 +10,7 @@ ghost use mathlib.Core.Bool.{Bool, _&&_};
 ghost use Prim.Native.Nat.{ℕ, _+_, _≤_, _<_};
 ghost use lib.ListN.{length, drop};
 ghost use Rattle.meaning.specs.Bytes.{value};
-ghost use Rattle.meaning.specs.Forms.{timeOf, dateOf, latitudeOf, longitudeOf, sequenceOf, choiceOf, routeTypeOf, clockOf, clock, timeText, leap, daysIn, isDay, dateText, toPoint, signed, sizeText, degreesText, digitText, routeTypeText};
+ghost use Rattle.meaning.specs.Forms.{timeOf, dateOf, latitudeOf, longitudeOf, sequenceOf, choiceOf, routeTypeOf, exceptionOf, clockOf, clock, timeText, leap, daysIn, isDay, dateText, toPoint, signed, sizeText, degreesText, digitText, routeTypeText};
 ghost use Rattle.forms.specs.Bounds.{TimeFits, DateFits, DegreesFits, NumberFits, ChoiceFits};
 ghost use Rattle.forms.specs.Parts.{pointedAt, beyond, sized, pairOf};
 
@@ -240,9 +240,9 @@ fn degrees_text(limit: u32, v: &[u8]) -> Degrees
     size_text(limit, false, v)
 }
 
-// The choice, 0 to m, that a text of one digit writes.
-fn digit_text(m: u8, v: &[u8]) -> Choice
-    ensures { λ r. ⌜ r ≡ digitText m (now (v .entry)) ⌝ }
+// The choice, a to m, that a text of one digit writes.
+fn digit_text(a: u8, m: u8, v: &[u8]) -> Choice
+    ensures { λ r. ⌜ r ≡ digitText a m (now (v .entry)) ⌝ }
 {
     if v.len() != 1 {
         return Choice::NoChoice;
@@ -251,10 +251,14 @@ fn digit_text(m: u8, v: &[u8]) -> Choice
     if b < b'0' {
         return Choice::NoChoice;
     }
+    if b - b'0' < a {
+        return Choice::NoChoice;
+    }
     if m < b - b'0' {
         return Choice::NoChoice;
     }
-    Choice::Picked(digits::wide(b) - 48)
+    let n = digits::wide(b) - 48;
+    Choice::Picked(n)
 }
 
 // The route type that two bytes write.
@@ -279,7 +283,7 @@ fn route_type_text(v: &[u8]) -> Choice
     if v.len() == 2 {
         return route_type_pair(v[0], v[1]);
     }
-    digit_text(7, v)
+    digit_text(0, 7, v)
 }
 
 // The time that a raw field's value writes.
@@ -343,7 +347,7 @@ pub fn choice_of(raw: &[u8], m: u8) -> Choice
 {
     let v = text::content_of(raw);
     if text::no_mark(v) {
-        return digit_text(m, v);
+        return digit_text(0, m, v);
     }
     Choice::NoChoice
 }
@@ -355,6 +359,17 @@ pub fn route_type_of(raw: &[u8]) -> Choice
     let v = text::content_of(raw);
     if text::no_mark(v) {
         return route_type_text(v);
+    }
+    Choice::NoChoice
+}
+
+// The exception_type, 1 or 2, that a raw field's value writes.
+pub fn exception_of(raw: &[u8]) -> Choice
+    ensures { λ r. ⌜ (r ≡ exceptionOf (value (now (raw .entry)))) × ChoiceFits 2 r ⌝ }
+{
+    let v = text::content_of(raw);
+    if text::no_mark(v) {
+        return digit_text(1, 2, v);
     }
     Choice::NoChoice
 }

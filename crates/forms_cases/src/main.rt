@@ -68,10 +68,14 @@ fn tell_choice(k: Choice) {
     }
 }
 
-// Writes what a form with a choice answers of a raw field: route_type, or one of 0 to the digit that stands for the form.
+// Writes what a form with a choice answers of a raw field: route_type, exception_type, or one of 0 to the digit that stands for the form.
 fn choice(form: u8, raw: &[u8]) {
     if form == b'r' {
         tell_choice(forms::route_type_of(raw));
+        return;
+    }
+    if form == b'e' {
+        tell_choice(forms::exception_of(raw));
         return;
     }
     if form < b'0' {

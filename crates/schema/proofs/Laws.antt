@@ -56,7 +56,7 @@ lengths-at (r ∷ l) (suc f) = lengths-at l f
 
 -- no file has more than ten
 pub few : (f : ℕ) → getD (lengths schemas) f 0 ≤ 10
-unfolding X.schemas X.stopsColumns X.routesColumns X.calendarColumns X.tripsColumns X.stopTimesColumns
+unfolding X.schemas X.stopsColumns X.routesColumns X.calendarColumns X.tripsColumns X.stopTimesColumns X.calendarDatesColumns
 few f = leb→le _ _ (getD-all (λ n. leb n 10) 0 tt (lengths schemas) tt f)
 
 pub count-le : (f : ℕ) → countOf f ≤ 10
@@ -113,7 +113,7 @@ placed from to text f k =
     && (leb (getD (getD from f []) k 0) (getD (getD to f []) k 0) && leb (getD (getD to f []) k 0) (length text))
 
 abbrev pub allPlaced : List (List ℕ) → List (List ℕ) → List ℕ → Bool
-allPlaced from to text = allBelow 6 (λ f. allBelow 10 (λ k. placed from to text f k))
+allPlaced from to text = allBelow 7 (λ f. allBelow 10 (λ k. placed from to text f k))
 
 T-true : (b : Bool) → T b → b ≡ true
 T-true true t = refl
@@ -124,9 +124,9 @@ pub record Placed (from to : List (List ℕ)) (text : List ℕ) (f k : ℕ) : Ty
   pub order : getD (getD from f []) k 0 ≤ getD (getD to f []) k 0
   pub inside : getD (getD to f []) k 0 ≤ length text
 
-pub is-placed : (from to : List (List ℕ)) (text : List ℕ) → T (allPlaced from to text) → (f k : ℕ) → f < 6 → k < 10 → Placed from to text f k
+pub is-placed : (from to : List (List ℕ)) (text : List ℕ) → T (allPlaced from to text) → (f k : ℕ) → f < 7 → k < 10 → Placed from to text f k
 is-placed from to text t f k h g =
-    let w = below-all 10 (λ k. placed from to text f k) (below-all 6 (λ f. allBelow 10 (λ k. placed from to text f k)) t f h) k g in
+    let w = below-all 10 (λ k. placed from to text f k) (below-all 7 (λ f. allBelow 10 (λ k. placed from to text f k)) t f h) k g in
     let a : Bool = same (cut from to text f k) (nameOf f k) in
     let b : Bool = leb (getD (getD from f []) k 0) (getD (getD to f []) k 0) in
     let e : Bool = leb (getD (getD to f []) k 0) (length text) in
@@ -136,6 +136,6 @@ is-placed from to text t f k h g =
       inside = leb→le _ _ (and-right b e (and-right a (b && e) w));
     }
 
-pub here : (f k : ℕ) → f < 6 → k < 10 → Placed (starts 0 schemas) (ends 0 schemas) (names schemas) f k
-unfolding X.schemas X.stopsColumns X.routesColumns X.calendarColumns X.tripsColumns X.stopTimesColumns X.schema X.knownAt X.nameOf same
+pub here : (f k : ℕ) → f < 7 → k < 10 → Placed (starts 0 schemas) (ends 0 schemas) (names schemas) f k
+unfolding X.schemas X.stopsColumns X.routesColumns X.calendarColumns X.tripsColumns X.stopTimesColumns X.calendarDatesColumns X.schema X.knownAt X.nameOf same
 here f k h g = is-placed (starts 0 schemas) (ends 0 schemas) (names schemas) tt f k h g

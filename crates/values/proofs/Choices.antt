@@ -22,8 +22,8 @@ fits : (m : ℕ) (v : List ℕ) → ChoiceFits m (choiceOf m v)
 unfolding choiceOf formed
 fits m v n e = go (noMark v) e
   where
-    go : (b : Bool) → cond b (digitText m v) NoChoice ≡ Picked n → n ≤ m
-    go true q = choice-fits m v n q
+    go : (b : Bool) → cond b (digitText 0 m v) NoChoice ≡ Picked n → n ≤ m
+    go true q = choice-fits 0 m v n q
     go false q = no-choice n q
 
 pub choice-stored : (none : ℤ) (m : ℕ) (v : List ℕ) → Stored none m (choiceOr none m v)

@@ -6,7 +6,7 @@ ghost use lib.IntN.{pos};
 ghost use lib.ListN.{length};
 ghost use Rattle.meaning.specs.Bytes.{part};
 ghost use Rattle.meaning.specs.Columns.{rowOf};
-ghost use Rattle.meaning.specs.Forms.{latitudeOf, longitudeOf, timeOf, dateOf, sequenceOf, choiceOf, routeTypeOf};
+ghost use Rattle.meaning.specs.Forms.{latitudeOf, longitudeOf, timeOf, dateOf, sequenceOf, choiceOf, routeTypeOf, exceptionOf};
 ghost use Rattle.meaning.specs.Tables.{degrees, day, number, seconds, picked, oneIf, orZero, orMinus, packedDays};
 ghost use Rattle.forms.specs.Bounds.{ChoiceFits};
 ghost use Rattle.values.specs.Located.{fieldIn, valueIn, Within, Located};
@@ -101,6 +101,13 @@ pub fn route_type(l: &[u8], q: Cells, k: usize) -> u32
     ensures { λ r. ⌜ (pos r ≡ picked (routeTypeOf (valueIn (now (l .entry)) (q .start) (q .end) k))) × (r < 2 ^ 31) ⌝ }
 {
     chosen(forms::route_type_of(raw(l, q, k)))
+}
+
+pub fn exception(l: &[u8], q: Cells, k: usize) -> u32
+    requires { ⌜ (k < 10) × Within (length (now l)) (q .start) (q .end) ⌝ }
+    ensures { λ r. ⌜ (pos r ≡ picked (exceptionOf (valueIn (now (l .entry)) (q .start) (q .end) k))) × (r < 2 ^ 31) ⌝ }
+{
+    chosen(forms::exception_of(raw(l, q, k)))
 }
 
 // A day mark.

@@ -20,13 +20,13 @@ returns : tie.Need-returns
 unfolding choiceOf
 returns c =
     let m = c .before .before .before .before .before .args .m in
-    raw-yes (ChoiceFits m) NoChoice (digitText m) (choice-fits m) (λ n z. no-choice n z) _ _ (c .before .before .before .content-of .ensures .0) _ (c .before .before .no-mark .ensures) (c .before .if1 .taken) _ (c .digit-text .ensures)
+    raw-yes (ChoiceFits m) NoChoice (digitText 0 m) (choice-fits 0 m) (λ n z. no-choice n z) _ _ (c .before .before .before .content-of .ensures .0) _ (c .before .before .no-mark .ensures) (c .before .if1 .taken) _ (c .digit-text .ensures)
 
 returns-2 : tie.Need-returns-2
 unfolding choiceOf
 returns-2 c =
     let m = c .before .before .before .before .args .m in
-    raw-no (ChoiceFits m) NoChoice (digitText m) (choice-fits m) (λ n z. no-choice n z) _ _ (c .before .before .content-of .ensures .0) _ (c .before .no-mark .ensures) (c .if1 .left)
+    raw-no (ChoiceFits m) NoChoice (digitText 0 m) (choice-fits 0 m) (λ n z. no-choice n z) _ _ (c .before .before .content-of .ensures .0) _ (c .before .no-mark .ensures) (c .if1 .left)
 
 pub choice-of-spec : {M : Type 1} → statement M
 choice-of-spec =

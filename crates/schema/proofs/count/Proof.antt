@@ -13,7 +13,7 @@ array-read-result : tie.Need-array-read-result
 array-read-result c = search needs
 
 returns : tie.Need-returns
-unfolding X.schemas X.stopsColumns X.routesColumns X.calendarColumns X.tripsColumns X.stopTimesColumns X.schema X.countOf
+unfolding X.schemas X.stopsColumns X.routesColumns X.calendarColumns X.tripsColumns X.stopTimesColumns X.calendarDatesColumns X.schema X.countOf
 returns c = (lengths-at schemas (c .args .f), few (c .args .f))
 
 pub count-spec : {M : Type 1} → statement M

@@ -30,22 +30,22 @@ index-2-e : tie.Need-index-2-e
 index-2-e c = search needs
 
 sub-is-name : tie.Need-sub-is-name
-unfolding X.schemas X.stopsColumns X.routesColumns X.calendarColumns X.tripsColumns X.stopTimesColumns
+unfolding X.schemas X.stopsColumns X.routesColumns X.calendarColumns X.tripsColumns X.stopTimesColumns X.calendarDatesColumns
 sub-is-name c = here (c .before .before .before .args .f) (c .before .before .before .args .k) (search needs) (search needs) .order
 
 part-is-name-start : tie.Need-part-is-name-start
-unfolding X.schemas X.stopsColumns X.routesColumns X.calendarColumns X.tripsColumns X.stopTimesColumns
+unfolding X.schemas X.stopsColumns X.routesColumns X.calendarColumns X.tripsColumns X.stopTimesColumns X.calendarDatesColumns
 part-is-name-start c = here (c .before .before .before .before .args .f) (c .before .before .before .before .args .k) (search needs) (search needs) .order
 
 part-is-name-end : tie.Need-part-is-name-end
-unfolding X.schemas X.stopsColumns X.routesColumns X.calendarColumns X.tripsColumns X.stopTimesColumns
+unfolding X.schemas X.stopsColumns X.routesColumns X.calendarColumns X.tripsColumns X.stopTimesColumns X.calendarDatesColumns
 part-is-name-end c = here (c .before .before .before .before .args .f) (c .before .before .before .before .args .k) (search needs) (search needs) .inside
 
 is-name-requires : tie.Need-is-name-requires
 is-name-requires c κs = search needs
 
 returns : tie.Need-returns
-unfolding X.schemas X.stopsColumns X.routesColumns X.calendarColumns X.tripsColumns X.stopTimesColumns
+unfolding X.schemas X.stopsColumns X.routesColumns X.calendarColumns X.tripsColumns X.stopTimesColumns X.calendarDatesColumns
 returns c = let a = c .before .before .before .before .before .before .args in rw (← here (a .f) (a .k) (search needs) (search needs) .name) (c .is-name .ensures)
 
 pub is-named-spec : {M : Type 1} → statement M

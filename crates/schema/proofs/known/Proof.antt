@@ -43,7 +43,7 @@ index-2-form : tie.Need-index-2-form
 index-2-form c = search needs
 
 returns : tie.Need-returns
-unfolding X.schemas X.stopsColumns X.routesColumns X.calendarColumns X.tripsColumns X.stopTimesColumns X.schema X.knownAt X.columnOf
+unfolding X.schemas X.stopsColumns X.routesColumns X.calendarColumns X.tripsColumns X.stopTimesColumns X.calendarDatesColumns X.schema X.knownAt X.columnOf
 returns c =
     let f = c .before .before .before .before .args .f in
     let k = c .before .before .before .before .args .k in
