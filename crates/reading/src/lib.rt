@@ -10,6 +10,8 @@ use meaning::Number;
 use meaning::Refusal;
 use meaning::Time;
 use meaning::Verdict;
+use rows::Calendar;
+use rows::Dates;
 use text::LineStep;
 use text::Measured;
 ghost use mathlib.Core.Path.{_≡_};
@@ -333,7 +335,7 @@ fn is_short(f: usize, room: usize, lf: usize) -> bool
 fn may_lack(f: usize, dated: bool) -> bool
     ensures { λ r. ⌜ ((files : List (List ℕ)) → dated ≡ not (empty (fileOf files 6)) → r ≡ mayLack files f) ⌝ }
 {
-    f == 6 || f == 3 && dated
+    f == Dates::FILE || f == Calendar::FILE && dated
 }
 
 // Does a file break rule 4?
