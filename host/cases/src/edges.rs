@@ -1,5 +1,5 @@
 //! Edge cases, each tried everywhere: every raw field under every known column, every odd file in every place, every small order of lines,
-//! every state of calendar and calendar_dates.
+//! every state of calendar and calendar_dates, every two files that can't be read.
 
 use crate::{large, orders, services, Case};
 use model::columns::COLUMNS;
@@ -238,10 +238,28 @@ pub fn cases() -> Vec<Case> {
         }
     }
     cases.extend(orders::stop_times().into_iter().map(|file| with_file(4, file.into_bytes()).swap_remove(0)));
-    for pair in [services::pairs_of_states(), services::small_files()].concat() {
-        cases.push(with_services(pair));
+    cases.extend(of_services());
+    cases
+}
+
+/// Files 3 and 6 in every way, and which of two files that can't be read speaks.
+pub fn of_services() -> Vec<Case> {
+    let pairs = [services::pairs_of_states(), services::small_files()].concat();
+    let mut cases: Vec<Case> = pairs.into_iter().map(with_services).collect();
+    for first in 0..FILES {
+        for second in (0..FILES).filter(|&second| second != first) {
+            cases.push(with_two_refused(first, second));
+        }
     }
     cases
+}
+
+/// The base feed with a tab in one file and no name in another.
+fn with_two_refused(tab: usize, nameless: usize) -> Case {
+    let mut files = base();
+    files[tab] = b"\t\n".to_vec();
+    files[nameless] = b"\n".to_vec();
+    exact(format!("file {} has a tab, file {} no name", tab + 1, nameless + 1), files)
 }
 
 fn base() -> Files {

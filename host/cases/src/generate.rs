@@ -93,6 +93,11 @@ fn files(feed: &Feed, kind: Kind, random: &mut Random) -> Files {
         Kind::Truncated => truncate(&mut files[target], random),
         _ => {}
     }
+    // A second file that can't be read: the first one speaks.
+    if matches!(kind, Kind::Refused(5..)) && random.once_in(3) {
+        let rule = *random.pick(&[5, 6, 7, 10]);
+        break_bytes(&mut files[random.below(FILES)], rule, random);
+    }
     files
 }
 

@@ -1,7 +1,6 @@
 //! Services by date, each small way tried: every state of files 3 and 6 beside every other, every file 6 of few lines.
 
-const CALENDAR: &str =
-    "service_id,monday,tuesday,wednesday,thursday,friday,saturday,sunday,start_date,end_date\n";
+const CALENDAR: &str = "service_id,monday,tuesday,wednesday,thursday,friday,saturday,sunday,start_date,end_date\n";
 const DATES: &str = "service_id,date,exception_type\n";
 const WEEK: &str = ",1,1,1,1,1,0,0,20240101,20241231\n";
 

@@ -12,7 +12,9 @@ const SEEDS: u64 = 6000;
 fn rules(case: &Case) -> Vec<(i32, i32)> {
     let mut whole = Case { list: vec![0; 30_000], start: [0, 0, 0], ..case.clone() };
     match model::check(&case.files, &mut whole.tables, &mut whole.list, whole.start) {
-        Answer::Findings { written, .. } => whole.list[..written * 3].chunks(3).map(|found| (found[0], found[2])).collect(),
+        Answer::Findings { written, .. } => {
+            whole.list[..written * 3].chunks(3).map(|found| (found[0], found[2])).collect()
+        }
         _ => Vec::new(),
     }
 }
@@ -45,7 +47,8 @@ fn every_answer_and_rule_is_reached() {
         (5, &[21, 23, 26, 27, 28, 29]),
         (6, &[20]),
     ];
-    let wanted: Vec<(i32, i32)> = stands.iter().flat_map(|(file, rules)| rules.iter().map(|rule| (*file, *rule))).collect();
+    let wanted: Vec<(i32, i32)> =
+        stands.iter().flat_map(|(file, rules)| rules.iter().map(|rule| (*file, *rule))).collect();
     assert_eq!(findings.keys().copied().collect::<Vec<_>>(), wanted);
 }
 

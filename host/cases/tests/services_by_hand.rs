@@ -206,14 +206,8 @@ fn a_service_in_neither_file() {
     let six = dates(&["D,20240704,2", "B,20240704,1"]);
     let no_lines = [[4, 3, 30], [4, 4, 30]];
     findings(&[(3, &calendar), (4, &trips), (6, &six)], &[&no_lines[..], &[[4, 5, 21], [4, 5, 30]]].concat());
-    findings(
-        &[(3, ""), (4, &trips), (6, &six)],
-        &[[4, 2, 21], [4, 3, 30], [4, 4, 30], [4, 5, 21], [4, 5, 30]],
-    );
-    findings(
-        &[(3, &calendar), (4, &trips), (6, "")],
-        &[[4, 3, 21], [4, 3, 30], [4, 4, 30], [4, 5, 21], [4, 5, 30]],
-    );
+    findings(&[(3, ""), (4, &trips), (6, &six)], &[[4, 2, 21], [4, 3, 30], [4, 4, 30], [4, 5, 21], [4, 5, 30]]);
+    findings(&[(3, &calendar), (4, &trips), (6, "")], &[[4, 3, 21], [4, 3, 30], [4, 4, 30], [4, 5, 21], [4, 5, 30]]);
     // By value, and one finding if the route stands nowhere too.
     findings(&[(3, ""), (4, "route_id,service_id,trip_id\nR,\"W\",T\n"), (6, &dates(&["W,20240704,2"]))], &[]);
     findings(&[(3, ""), (4, "route_id,service_id,trip_id\nR,W,T\n"), (6, &dates(&["w,20240704,1"]))], &[[4, 2, 21]]);
@@ -261,7 +255,8 @@ fn file_6_comes_last() {
     refused(&[(5, "trip_id\n"), (6, &bad)], 9, 5, 1);
     refused(&[(4, "trip_id\n"), (6, "date\n")], 9, 4, 1);
     refused(&[(3, ""), (5, "trip_id\n"), (6, &bad)], 9, 5, 1);
-    let calls = "trip_id,arrival_time,departure_time,stop_id,stop_sequence\nT,8:00:00,8:00:00,A,1\nT,9:00:00,9:00:00,B,1\n";
+    let calls =
+        "trip_id,arrival_time,departure_time,stop_id,stop_sequence\nT,8:00:00,8:00:00,A,1\nT,9:00:00,9:00:00,B,1\n";
     let six = dates(&["W,20240704,1", "W,20240704,2"]);
     let files = feed(&[(3, &weeks(&["W", "W"])), (5, calls), (6, &six)]);
     let whole = [[3, 3, 20], [5, 3, 28], [6, 3, 20]];

@@ -2,8 +2,8 @@
 
 use crate::reading::{Feed, Row};
 use crate::records::{First, Named, KEYS};
-use crate::FILES;
 use crate::trips::{by_trip, first_call, last_call, leaves_after, repeats};
+use crate::FILES;
 
 /// A finding: file, line, rule.
 pub type Finding = [i32; 3];

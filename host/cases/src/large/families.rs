@@ -66,7 +66,12 @@ pub const FAMILIES: [Family; 32] = [
     family("dates-mixed", Kind::Hard, dated::dates_mixed, "as dates-rise, but shuffled"),
     family("dates-twice", Kind::Hard, dated::dates_twice, "as dates-rise, but half the dates, and these again"),
     family("dates-tangle", Kind::Hard, dated::dates_tangle, "as dates-twice, but shuffled"),
-    family("day-rise", Kind::Hard, dated::day_rise, "one date on every line of calendar_dates, each of its own service"),
+    family(
+        "day-rise",
+        Kind::Hard,
+        dated::day_rise,
+        "one date on every line of calendar_dates, each of its own service",
+    ),
     family("day-mixed", Kind::Hard, dated::day_mixed, "as day-rise, but shuffled"),
     family("day-twice", Kind::Hard, dated::day_twice, "as day-rise, but half the services, and these again"),
     family("day-tangle", Kind::Hard, dated::day_tangle, "as day-twice, but shuffled"),
