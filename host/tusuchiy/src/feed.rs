@@ -147,6 +147,28 @@ fn line_ends(file: &[u8]) -> impl Iterator<Item = usize> + '_ {
 mod tests {
     use super::*;
 
+    /// Of calendar.txt and calendar_dates.txt one is left out where the other has bytes; with neither, what isn't there is missing.
+    #[test]
+    fn one_file_of_services_may_be_left_out() {
+        let (calendar, dates) = (File::Calendar, File::CalendarDates);
+        let cases: [([Option<&str>; 2], &[File], &[File]); 6] = [
+            ([Some("x"), Some("x")], &[], &[]),
+            ([Some("x"), None], &[], &[dates]),
+            ([None, Some("x")], &[], &[calendar]),
+            ([Some(""), Some("x")], &[], &[calendar]),
+            ([Some(""), None], &[dates], &[]),
+            ([None, None], &[calendar, dates], &[]),
+        ];
+        for (services, missing, left_out) in cases {
+            let mut files: [Option<Vec<u8>>; FILES] = std::array::from_fn(|_| Some(b"x".to_vec()));
+            [files[2], files[5]] = services.map(|file| file.map(|text| text.as_bytes().to_vec()));
+            let feed = Feed::new(Place::default(), files, Unread::default());
+            assert_eq!(feed.missing(), missing, "{services:?}");
+            let told: Vec<File> = File::ALL.into_iter().filter(|file| feed.left_out(*file)).collect();
+            assert_eq!(told, left_out, "{services:?}");
+        }
+    }
+
     #[test]
     fn lines_are_cut_as_the_check_cuts_them() {
         let mut files: [Option<Vec<u8>>; FILES] = Default::default();
