@@ -1,37 +1,11 @@
 //! The model against answers written by hand from documents 01 and 02 and from the readings of their open points.
 
+mod common;
+
 use cases::edges::BASE;
-use model::{Answer, Files};
-
-/// The base feed, with some files in other words.
-fn feed(changes: &[(usize, &str)]) -> Files {
-    let mut files = BASE.map(|file| file.as_bytes().to_vec());
-    for (file, text) in changes {
-        files[file - 1] = text.as_bytes().to_vec();
-    }
-    files
-}
-
-/// The answer and the findings of a feed, with tables as long as rule 3 asks for.
-fn check(files: &Files) -> (Answer, Vec<[i32; 3]>) {
-    let mut list = vec![0; 300];
-    let answer = model::check(files, &mut cases::large::tables(files, 0), &mut list, [0, 0, 0]);
-    let written = if let Answer::Findings { written, .. } = answer { written } else { 0 };
-    (answer, list.chunks(3).take(written).map(|found| [found[0], found[1], found[2]]).collect())
-}
-
-#[track_caller]
-fn refused(changes: &[(usize, &str)], number: usize, file: usize, line: usize) {
-    assert_eq!(check(&feed(changes)).0, Answer::Refused { number, file, line });
-}
-
-#[track_caller]
-fn findings(changes: &[(usize, &str)], wanted: &[[i32; 3]]) {
-    let (answer, list) = check(&feed(changes));
-    assert!(!matches!(answer, Answer::Refused { .. }), "{answer:?}");
-    assert_eq!(list, wanted);
-    assert_eq!(answer == Answer::Accepted, wanted.is_empty());
-}
+use cases::large::tables;
+use common::{check, feed, findings, refused};
+use model::Answer;
 
 /// The files of a base feed with lines added or one line put in the place of another.
 fn more(file: usize, lines: &str) -> String {
@@ -53,11 +27,10 @@ fn the_feed_of_document_01() {
         (5, "trip_id,arrival_time,departure_time,stop_id,stop_sequence\nT,08:00:00,08:00:00,A,1\nT,07:59:59,08:05:00,B,2\nT,,,C,2\n"),
         (6, ""),
     ]);
-    let (answer, list) = check(&files);
+    let mut tables = tables(&files, 99);
+    let (answer, list) = check(&files, &mut tables);
     assert_eq!(answer, Answer::Findings { written: 5, total: 5 });
     assert_eq!(list, [[4, 3, 21], [4, 3, 30], [5, 3, 29], [5, 4, 21], [5, 4, 28]]);
-    let mut tables = cases::large::tables(&files, 99);
-    model::check(&files, &mut tables, &mut [], [0, 0, 0]);
     assert_eq!(tables[0], [0, 0, 0, 0, 0, 0, 36, 37, 15000000, 20000000, 0, 0, 50, 51, 16000000, 20000000, 0, 0]);
     assert_eq!(tables[1], [0, 0, 0, 37, 38, 3]);
     assert_eq!(tables[2], [0, 0, 0, 0, 0, 88, 89, 31, 20240101, 20241231]);
@@ -95,7 +68,7 @@ fn marks_and_endings() {
 fn whole_files_go_rule_by_rule() {
     refused(&[(1, "a\tb\n"), (5, "")], 4, 5, 0);
     let files = feed(&[(3, &BASE[2][..BASE[2].len() - 1]), (1, "x")]);
-    let mut tables = cases::large::tables(&files, 0);
+    let mut tables = tables(&files, 0);
     tables[2].pop();
     let answer = model::check(&files, &mut tables, &mut [], [0, 0, 0]);
     assert_eq!(answer, Answer::Refused { number: 3, file: 3, line: 0 });
@@ -288,10 +261,10 @@ fn trips_as_a_whole() {
 fn the_list_and_its_start() {
     let files = feed(&[(2, &more(2, "R,3,,\nR,3,,\n"))]);
     let whole = [[2, 3, 20], [2, 3, 25], [2, 4, 20], [2, 4, 25]];
-    assert_eq!(check(&files).1, whole);
+    assert_eq!(check(&files, &mut tables(&files, 0)).1, whole);
     let page = |start, length| {
         let mut list = vec![-1; length];
-        let answer = model::check(&files, &mut cases::large::tables(&files, 0), &mut list, start);
+        let answer = model::check(&files, &mut tables(&files, 0), &mut list, start);
         (answer, list)
     };
     let told = |written| Answer::Findings { written, total: 4 };

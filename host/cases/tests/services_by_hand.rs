@@ -1,44 +1,14 @@
 //! E1: the model against answers written by hand from documents 01 and 02 and readings A47 to A54.
 
-use cases::edges::BASE;
+mod common;
+
 use cases::large::tables;
-use model::{Answer, Files, Tables};
+use common::{check, feed, findings, refused};
+use model::Answer;
 
 const CALENDAR: &str = "service_id,monday,tuesday,wednesday,thursday,friday,saturday,sunday,start_date,end_date\n";
 const DATES: &str = "service_id,date,exception_type\n";
 const TRIPS: &str = "route_id,service_id,trip_id\n";
-
-/// The base feed, with some files in other words.
-fn feed(changes: &[(usize, &str)]) -> Files {
-    let mut files = BASE.map(|file| file.as_bytes().to_vec());
-    for (file, text) in changes {
-        files[file - 1] = text.as_bytes().to_vec();
-    }
-    files
-}
-
-/// What the model answers, and all findings that it wrote.
-fn check(files: &Files, tables: &mut Tables) -> (Answer, Vec<[i32; 3]>) {
-    let mut list = vec![0; 300];
-    let answer = model::check(files, tables, &mut list, [0, 0, 0]);
-    let written = if let Answer::Findings { written, .. } = answer { written } else { 0 };
-    (answer, list.chunks(3).take(written).map(|found| [found[0], found[1], found[2]]).collect())
-}
-
-#[track_caller]
-fn refused(changes: &[(usize, &str)], number: usize, file: usize, line: usize) {
-    let files = feed(changes);
-    assert_eq!(check(&files, &mut tables(&files, 0)).0, Answer::Refused { number, file, line });
-}
-
-#[track_caller]
-fn findings(changes: &[(usize, &str)], wanted: &[[i32; 3]]) {
-    let files = feed(changes);
-    let (answer, list) = check(&files, &mut tables(&files, 0));
-    assert!(!matches!(answer, Answer::Refused { .. }), "{answer:?}");
-    assert_eq!(list, wanted);
-    assert_eq!(answer == Answer::Accepted, wanted.is_empty());
-}
 
 /// calendar with these services.
 fn weeks(services: &[&str]) -> String {
@@ -119,10 +89,14 @@ fn its_table_stays_as_lent() {
     assert_eq!(check(&files, &mut tables).1, [[4, 2, 21]]);
     assert_eq!(tables[2], [0, 0, 0, 0, 0, 9]);
     assert_eq!(tables[5], [0, 0, 0, 0, 9]);
-    // 46 bytes of a quoted header, then W from byte 31 on where nothing is quoted.
+}
+
+/// The record of a line of file 6: the header has 31 bytes, each line 13.
+#[test]
+fn the_record_of_a_date() {
     let files = feed(&[]);
-    let mut tables = cases::large::tables(&files, 9);
-    check(&files, &mut tables);
+    let mut tables = tables(&files, 9);
+    assert_eq!(check(&files, &mut tables).0, Answer::Accepted);
     assert_eq!(tables[5], [0, 0, 0, 0, 31, 32, 20240704, 2, 44, 45, 20241224, 1]);
 }
 

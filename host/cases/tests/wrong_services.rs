@@ -10,7 +10,7 @@ use model::{Answer, Files, FILES};
 use std::collections::BTreeSet;
 
 /// How many seeds are looked at.
-const SEEDS: u64 = 4000;
+const SEEDS: u64 = 2000;
 
 /// How a file not supplied and file 6 are read.
 #[derive(Clone, Copy)]
@@ -25,7 +25,7 @@ struct Reading {
     neither: fn(&Feed, &[u8]) -> bool,
     /// Numbers 4 and 8 of a trip of this service.
     records: fn(&Feed, &[u8]) -> [usize; 2],
-    /// What becomes of record 0 where a file isn't supplied.
+    /// Is record 0 of a file not supplied written?
     zeros: bool,
 }
 
@@ -159,11 +159,13 @@ fn blames_6(files: &Files, room: [usize; FILES]) -> Option<Answer> {
     refusal_with(files, room, changes)
 }
 
-fn takes_both_empty(files: &Files, room: [usize; FILES]) -> Option<Answer> {
+fn takes_both_empty(files: &Files, mut room: [usize; FILES]) -> Option<Answer> {
+    if !is_empty(files, 3) || !is_empty(files, 6) {
+        return read(files, room).err();
+    }
     let header = BASE[5].split_inclusive('\n').next().unwrap_or_default();
-    let changes: &[(usize, &[u8])] =
-        if is_empty(files, 3) && is_empty(files, 6) { &[(6, header.as_bytes())] } else { &[] };
-    refusal_with(files, [&room[..5], &[4]].concat().try_into().unwrap_or(room), changes)
+    room[5] = room[5].max(4);
+    refusal_with(files, room, &[(6, header.as_bytes())])
 }
 
 /// File 6 is read before these files: without their lines it is file 6 that is refused, if it is.
