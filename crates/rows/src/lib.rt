@@ -407,12 +407,7 @@ impl Dates {
         ensures { λ _. ⌜ now (t .exit) ≡ putAt (now (t .entry)) (row .0 * 4)
             (pos (id .start) ∷ pos (id .end) ∷ pos date ∷ pos kind ∷ []) ⌝ }
     {
-        let r = [
-            id.start as i32,
-            id.end as i32,
-            date as i32,
-            kind as i32,
-        ];
+        let r = [id.start as i32, id.end as i32, date as i32, kind as i32];
         cells::store(t, Dates::place(row), &r);
     }
 

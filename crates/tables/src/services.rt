@@ -31,13 +31,7 @@ fn waiting_service(
     ensures { λ _. ⌜ Ready (now (a .entry)) (now («a_table» .entry)) 4 k (now (memo .exit)) ⌝ }
 {
     let p = Trips::waiting_at(t, row);
-    resolve::find_dated(
-        a,
-        a_table,
-        k,
-        ordering::part_of(s, p.start, p.end),
-        memo,
-    )
+    resolve::find_dated(a, a_table, k, ordering::part_of(s, p.start, p.end), memo)
 }
 
 // Number 7 of each trip's record, behind a memo.

@@ -44,8 +44,8 @@ fill-times-requires c κs =
       (s .1 .1 .1 .1 .0, (omega (arith, trips .count, s .1 .1 .1 .0 .few), omega (arith, o .0 .count, s .0 .few))),
       (
         indexed-times _ _ _ _ _ _
-        (settled-index 4 (omega arith) _ _ _ _ _ trips (c .before .before .before .before .before .settle-services .ensures .0))
-        (settled-index 1 (omega arith) _ _ _ _ _ (o .0) (c .before .before .before .before .before .before .before .before .before .settle-parents .ensures .0)),
+            (settled-index 4 (omega arith) _ _ _ _ _ trips (c .before .before .before .before .before .settle-services .ensures .0))
+            (settled-index 1 (omega arith) _ _ _ _ _ (o .0) (c .before .before .before .before .before .before .before .before .before .settle-parents .ensures .0)),
         (
           (omega (arith, s .1 .1 .1 .1 .0 .few, long, size), omega (arith, trips .count, s .1 .1 .1 .0 .few, long, size)),
           o .1 .1 .1 .1 .1 .1,
