@@ -7,8 +7,8 @@ use lib.IntN.{ℤ, pos}
 use lib.ListN.{length, getD, take, drop, length-append, List·getD-map}
 use lib.Seq.{drop-cons}
 use Rattle.meaning.specs.Columns.{fieldAt, rowOf}
-use Rattle.meaning.specs.Forms.{latitudeOf, longitudeOf, timeOf, dateOf, sequenceOf, routeTypeOf}
-use Rattle.meaning.specs.Tables.{Feed, degrees, day, number, seconds, picked, orZero, orMinus, refer, packedDays, stopIds, routeIds, serviceIds, tripIds, idPlace, idColumn, parentStation, recordOf, numbersOf, stopNumbers, routeNumbers, serviceNumbers, tripNumbers}
+use Rattle.meaning.specs.Forms.{latitudeOf, longitudeOf, timeOf, dateOf, sequenceOf, routeTypeOf, exceptionOf}
+use Rattle.meaning.specs.Tables.{Feed, degrees, day, number, seconds, picked, orZero, orMinus, refer, packedDays, stopIds, routeIds, serviceIds, tripIds, datedIds, idPlace, idColumn, parentStation, tripService, recordOf, numbersOf, stopNumbers, routeNumbers, serviceNumbers, tripNumbers, exceptionNumbers}
 use Rattle.meaning.specs.Refusals.{maxBytes}
 use Rattle.rows.specs.Cells.{putAt}
 use Rattle.rows.specs.Waiting.{packed}
@@ -81,7 +81,9 @@ module _ (ps l : List ℕ) (at : ℕ) (st en : List ℕ) (loc : Located l ps st 
   service-record w a e days from to p q x y z = rw (id-in 0 a e p q, in-row ps l st en loc 8, in-row ps l st en loc 9, x, ← y, ← z)
 
   pub trip-record :
-      (w : Feed) (a e route service wheelchair bikes : ℕ) (direction : ℤ)
+      (w : Feed) (t : List ℤ) (r a e route service wheelchair bikes : ℕ) (direction : ℤ)
+      → r * 8 + 8 ≤ length t
+      → getD t (r * 8 + 7) (pos 0) ≡ pos (refer (tripService (rowOf ps l)) (datedIds w))
       → a ≡ at + getD st 2 0
       → e ≡ at + getD en 2 0
       → route ≡ refer (valueIn l st en 0) (routeIds w)
@@ -89,11 +91,22 @@ module _ (ps l : List ℕ) (at : ℕ) (st en : List ℕ) (loc : Located l ps st 
       → direction ≡ orMinus 1 (valueIn l st en 3)
       → pos wheelchair ≡ orZero 2 (valueIn l st en 4)
       → pos bikes ≡ orZero 2 (valueIn l st en 5)
-      → pos a ∷ pos e ∷ pos route ∷ pos service ∷ direction ∷ pos wheelchair ∷ pos bikes ∷ []
-      ≡ recordOf 4 w ps (line at l)
+      → putAt t (r * 8) (pos a ∷ pos e ∷ pos route ∷ pos service ∷ direction ∷ pos wheelchair ∷ pos bikes ∷ [])
+      ≡ putAt t (r * 8) (recordOf 4 w ps (line at l))
   unfolding recordOf idColumn numbersOf tripNumbers
-  trip-record w a e route service wheelchair bikes direction p q r s x y z =
-      rw (id-in 2 a e p q, in-row ps l st en loc 0, in-row ps l st en loc 1, in-row ps l st en loc 3, in-row ps l st en loc 4, in-row ps l st en loc 5, r, s, ← x, ← y, ← z)
+  trip-record w t r a e route service wheelchair bikes direction room dated p q g s x y z =
+      put-last t (r * 8) (pos a ∷ pos e ∷ pos route ∷ pos service ∷ direction ∷ pos wheelchair ∷ pos bikes ∷ []) (pos (refer (tripService (rowOf ps l)) (datedIds w))) (omega arith) dated
+      ∙ rw (id-in 2 a e p q, in-row ps l st en loc 0, in-row ps l st en loc 1, in-row ps l st en loc 3, in-row ps l st en loc 4, in-row ps l st en loc 5, g, s, ← x, ← y, ← z)
+
+  pub date-record :
+      (w : Feed) (a e date kind : ℕ)
+      → a ≡ at + getD st 0 0
+      → e ≡ at + getD en 0 0
+      → pos date ≡ day (dateOf (valueIn l st en 1))
+      → pos kind ≡ picked (exceptionOf (valueIn l st en 2))
+      → pos a ∷ pos e ∷ pos date ∷ pos kind ∷ [] ≡ recordOf 6 w ps (line at l)
+  unfolding recordOf idColumn numbersOf exceptionNumbers
+  date-record w a e date kind p q x y = rw (id-in 0 a e p q, in-row ps l st en loc 1, in-row ps l st en loc 2, ← x, ← y)
 
   pub waiting-record :
       (w : Feed) (trip stop sequence pickup dropOff a e : ℕ) (arrival departure : ℤ)

@@ -1,16 +1,19 @@
 -- What the helpers of one located line answer.
 use mathlib.Core.Path.{_≡_, ap, _∙_}
+use mathlib.Core.Bool.{true}
 use mathlib.Core.List.{List}
 use Prim.Native.Nat.{ℕ, _+_, _*_, _-_, _≤_}
 use native.Mathlib.Omega.{arith}
-use lib.IntN.{ℤ}
+use lib.IntN.{ℤ, pos}
+use lib.ListN.{getD}
 use Rattle.meaning.specs.Bytes.{value, Line}
+use Rattle.meaning.specs.Columns.{Row}
 use Rattle.meaning.specs.Tables.{Feed, widthOf, refer}
 use Rattle.rows.specs.Cells.{putAt}
 use Rattle.seeking.specs.First.{First, names}
 use Rattle.seeking.proofs.First.{refer-held}
 use Rattle.records.specs.Refers.{Lists}
-use Rattle.records.specs.Waiting.{writtenOf}
+use Rattle.records.specs.Waiting.{waits, lastOf, namedOf, writtenOf}
 
 -- a reference that was looked up in a table that holds the ids
 pub referred :
@@ -38,13 +41,22 @@ pub file-put :
     → t′ ≡ putAt t (r * widthOf f) (writtenOf f w ps x)
 file-put f k r w ps x t t′ e p = rw e p
 
-pub fifth : (f : ℕ) → 1 ≤ f → f ≤ 5 → (f ≡ 1 → ⊥) → (f ≡ 2 → ⊥) → (f ≡ 3 → ⊥) → (f ≡ 4 → ⊥) → f ≡ 5
-fifth f h k a b c d =
+-- what is settled, for a file that is known by its number
+pub file-named :
+    (f k r : ℕ) (w : Feed) (row : Row) (t : List ℤ)
+    → f ≡ k
+    → waits k ≡ true
+    → (waits f ≡ true → getD t (lastOf f r) (pos 0) ≡ pos (namedOf f w row))
+    → getD t (lastOf k r) (pos 0) ≡ pos (namedOf k w row)
+file-named f k r w row t e h p = rw e at p h
+
+pub fifth : (f : ℕ) → 1 ≤ f → f ≤ 6 → (f ≡ 1 → ⊥) → (f ≡ 2 → ⊥) → (f ≡ 3 → ⊥) → (f ≡ 6 → ⊥) → (f ≡ 4 → ⊥) → f ≡ 5
+fifth f h k a b c e d =
     let p : 2 ≤ f = past a h in
     let q : 3 ≤ f = past b p in
     let r : 4 ≤ f = past c q in
     let s : 5 ≤ f = past d r in
-    omega arith
+    omega (arith, e)
   where
     past : {m n : ℕ} → (n ≡ m → ⊥) → m ≤ n → m + 1 ≤ n
     past a h = omega (arith, a)

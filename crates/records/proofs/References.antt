@@ -12,21 +12,21 @@ use Rattle.memo.proofs.Laws.{ready-blank}
 use Rattle.records.specs.Refers.{Lists, Indexed, Refers, Sought}
 
 -- a file that refers to none
-module _ (f : ℕ) (a : List ℕ) (at : List ℤ) (an : ℕ) (b : List ℕ) (bt : List ℤ) (bn : ℕ) (three : f ≤ 3) where
+module _ (f : ℕ) (a : List ℕ) (at : List ℤ) (an : ℕ) (b : List ℕ) (bt : List ℤ) (bn : ℕ) (four : f ≡ 4 → ⊥) (five : f ≡ 5 → ⊥) where
   pub refers-none : (w : Feed) → Refers f w a at an b bt bn
   refers-none w = record {
-    routes = λ p. absurd (omega arith);
-    services = λ p. absurd (omega arith);
-    trips = λ p. absurd (omega arith);
-    stops = λ p. absurd (omega arith);
+    routes = λ p. absurd (four p);
+    services = λ p. absurd (four p);
+    trips = λ p. absurd (five p);
+    stops = λ p. absurd (five p);
   }
 
   pub indexed-none : Indexed f a at an b bt bn
   indexed-none = record {
-    routes = λ p. absurd (omega arith);
-    services = λ p. absurd (omega arith);
-    trips = λ p. absurd (omega arith);
-    stops = λ p. absurd (omega arith);
+    routes = λ p. absurd (four p);
+    services = λ p. absurd (four p);
+    trips = λ p. absurd (five p);
+    stops = λ p. absurd (five p);
   }
 
 module _ (f : ℕ) (a : List ℕ) (at : List ℤ) (an : ℕ) (am b : List ℕ) (bt : List ℤ) (bn : ℕ) (bm : List ℕ) where
@@ -34,7 +34,7 @@ module _ (f : ℕ) (a : List ℕ) (at : List ℤ) (an : ℕ) (am b : List ℕ) (
   sought-blank i x y = record {
     routes = λ p. ready-blank a at 3 an am (i .routes p .0) (i .routes p .1) x;
     services = λ p. ready-blank b bt 5 bn bm (i .services p .0) (i .services p .1) y;
-    trips = λ p. ready-blank a at 7 an am (i .trips p .0) (i .trips p .1) x;
+    trips = λ p. ready-blank a at 8 an am (i .trips p .0) (i .trips p .1) x;
     stops = λ p. ready-blank b bt 6 bn bm (i .stops p .0) (i .stops p .1) y;
   }
 
@@ -46,7 +46,7 @@ module _ (f : ℕ) (a : List ℕ) (at : List ℤ) (an : ℕ) (am b : List ℕ) (
     stops = λ p. absurd (omega arith);
   }
 
-  pub sought-times : f ≡ 5 → Ready a at 7 an am → Ready b bt 6 bn bm → Sought f a at an am b bt bn bm
+  pub sought-times : f ≡ 5 → Ready a at 8 an am → Ready b bt 6 bn bm → Sought f a at an am b bt bn bm
   sought-times e x y = record {
     routes = λ p. absurd (omega arith);
     services = λ p. absurd (omega arith);
@@ -67,7 +67,7 @@ indexed-trips a at an b bt bn x y = record {
 
 pub indexed-times :
     (a : List ℕ) (at : List ℤ) (an : ℕ) (b : List ℕ) (bt : List ℤ) (bn : ℕ)
-    → Placed a at 7 an × Arranged a 7 an at → Placed b bt 6 bn × Arranged b 6 bn bt → Indexed 5 a at an b bt bn
+    → Placed a at 8 an × Arranged a 8 an at → Placed b bt 6 bn × Arranged b 6 bn bt → Indexed 5 a at an b bt bn
 indexed-times a at an b bt bn x y = record {
   routes = λ p. absurd (omega arith);
   services = λ p. absurd (omega arith);
@@ -87,7 +87,7 @@ refers-trips w a at an b bt bn x y = record {
 
 pub refers-times :
     (w : Feed) (a : List ℕ) (at : List ℤ) (an : ℕ) (b : List ℕ) (bt : List ℤ) (bn : ℕ)
-    → Lists a at 7 an (tripIds w) → Lists b bt 6 bn (stopIds w) → Refers 5 w a at an b bt bn
+    → Lists a at 8 an (tripIds w) → Lists b bt 6 bn (stopIds w) → Refers 5 w a at an b bt bn
 refers-times w a at an b bt bn x y = record {
   routes = λ p. absurd (omega arith);
   services = λ p. absurd (omega arith);

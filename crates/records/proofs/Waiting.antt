@@ -19,7 +19,7 @@ use Rattle.rows.proofs.Records.{record-wide}
 use Rattle.values.proofs.Choices.{Stored, nothing, number, choice-stored, zero-stored}
 use Rattle.records.specs.Waiting.{markOf, waitingOf, writtenOf}
 
-pub written-wide : (f : ℕ) → 1 ≤ f → f ≤ 5 → (w : Feed) (ps : List ℕ) (x : Line) → length (writtenOf f w ps x) ≡ widthOf f
+pub written-wide : (f : ℕ) → 1 ≤ f → f ≤ 6 → (w : Feed) (ps : List ℕ) (x : Line) → length (writtenOf f w ps x) ≡ widthOf f
 unfolding writtenOf waitingOf idPlace widthOf widths
 written-wide f h k w ps x = go (eqb f 5) refl
   where
@@ -28,9 +28,9 @@ written-wide f h k w ps x = go (eqb f 5) refl
     go false e = record-wide f w ps x h (omega arith)
 
 -- but for stop_times the second walk writes records
-pub written-record : (f : ℕ) → f ≤ 4 → (w : Feed) (ps : List ℕ) → writtenOf f w ps ≡ recordOf f w ps
+pub written-record : (f : ℕ) → (f ≡ 5 → ⊥) → (w : Feed) (ps : List ℕ) → writtenOf f w ps ≡ recordOf f w ps
 unfolding writtenOf
-written-record f h w ps = fun-ext (λ x. rw (ne-eqb f 5 (λ e. omega arith)))
+written-record f h w ps = fun-ext (λ x. rw (ne-eqb f 5 h))
 
 -- timepoint is unpacked as it was packed
 pub timepoint-marked : (v : List ℕ) → (unmark (markOf (orMinus 1 v)) ≡ orMinus 1 v) × (markOf (orMinus 1 v) < 4)

@@ -1,16 +1,37 @@
 -- What the second walk along a file writes for a line: its record, but those of stop_times wait while their lines are put in trip order.
-use Prim.Native.Nat.{ℕ, _+_}
+-- Of stops and trips a field waits between the walks, and what it names is settled before the second.
+use Prim.Native.Nat.{ℕ, _+_, _*_, _-_}
 use mathlib.Core.List.{List, [], _∷_, _++_}
-use mathlib.Core.Bool.{cond}
+use mathlib.Core.Bool.{Bool, cond, _||_}
 use lib.Dec.{eqb}
 use lib.IntN.{ℤ, pos, negsuc}
 use lib.ListN.{getD}
 use Rattle.num.specs.Signs.{natOf}
 use Rattle.meaning.specs.Bytes.{Line}
-use Rattle.meaning.specs.Columns.{rowOf}
+use Rattle.meaning.specs.Columns.{Row, rowOf}
 use Rattle.meaning.specs.Forms.{timeOf, sequenceOf}
-use Rattle.meaning.specs.Tables.{Feed, number, seconds, orZero, orMinus, refer, tripIds, stopIds, idPlace, timeTrip, timeStop, stopSequence, arrivalTime, departureTime, pickupType, dropOffType, timepoint, recordOf}
+use Rattle.meaning.specs.Tables.{Feed, under, number, seconds, orZero, orMinus, refer, tripIds, stopIds, datedIds, idPlace, widthOf, timeTrip, timeStop, stopSequence, arrivalTime, departureTime, pickupType, dropOffType, timepoint, recordOf}
 use Rattle.rows.specs.Waiting.{packed}
+
+-- where in the schema the field stands whose record is known only when all ids are: a stop's parent, a trip's service
+unfoldable pub waitingColumn : ℕ → ℕ
+waitingColumn f = cond (eqb f 4) 1 5
+
+-- the files with such a field
+unfoldable pub waits : ℕ → Bool
+waits f = eqb f 1 || eqb f 4
+
+-- the ids that it is looked up among: those of stops.txt, for a trip those of calendar_dates.txt
+unfoldable pub soughtIds : ℕ → Feed → List (List ℕ)
+soughtIds f w = cond (eqb f 4) (datedIds w) (stopIds w)
+
+-- the record that it names
+unfoldable pub namedOf : ℕ → Feed → Row → ℕ
+namedOf f w r = refer (under (waitingColumn f) r) (soughtIds f w)
+
+-- the last number of record r, in which it is settled
+abbrev pub lastOf : ℕ → ℕ → ℕ
+lastOf f r = r * widthOf f + (widthOf f - 1)
 
 -- the mark that a stored timepoint is packed as: 0 is an empty one
 abbrev pub markOf : ℤ → ℕ

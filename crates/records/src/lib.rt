@@ -1,21 +1,24 @@
 // The record of one located line, written into its table.
+ghost use mathlib.Core.Bool.{true};
 ghost use mathlib.Core.Path.{_≡_};
 ghost use mathlib.Core.List.{List};
 ghost use Prim.Native.Nat.{ℕ, _+_, _*_, _<_, _≤_};
 ghost use lib.IntN.{pos};
 ghost use lib.ListN.{length, getD};
 ghost use Rattle.meaning.specs.Columns.{rowOf};
-ghost use Rattle.meaning.specs.Tables.{Feed, widthOf, recordOf, refer, parentStation, routeIds, serviceIds, tripIds, stopIds};
+ghost use Rattle.meaning.specs.Tables.{Feed, widthOf, recordOf, refer, parentStation, tripService, routeIds, serviceIds, tripIds, stopIds, datedIds};
 ghost use Rattle.meaning.specs.Refusals.{maxBytes};
 ghost use Rattle.rows.specs.Cells.{putAt};
 ghost use Rattle.memo.specs.Memo.{Ready};
 ghost use Rattle.values.specs.Located.{Located};
 ghost use Rattle.records.specs.Line.{line, Lies};
 ghost use Rattle.records.specs.Refers.{Lists, Refers, Sought};
-ghost use Rattle.records.specs.Waiting.{waitingOf, writtenOf};
+ghost use Rattle.records.specs.Waiting.{waits, lastOf, namedOf, waitingOf, writtenOf};
 use columns::Cells;
 use meaning::Bounds;
 use rows::Calendar;
+use rows::DateRow;
+use rows::Dates;
 use rows::RouteRow;
 use rows::Routes;
 use rows::ServiceRow;
@@ -80,7 +83,7 @@ fn put_service(l: &[u8], at: usize, q: Cells, t: &mut [i32], row: ServiceRow)
     Calendar::put(t, row, id, days, start, end);
 }
 
-// A trip: a is routes.txt, b is calendar.txt.
+// A trip, whose service's first exception is settled: a is routes.txt, b is calendar.txt.
 fn put_trip(
     l: &[u8],
     at: usize,
@@ -96,12 +99,13 @@ fn put_trip(
     b_count: usize,
     b_memo: &mut [u32],
 )
-    requires { ⌜ Lies (now l) at (q .start) (q .end) × (row .0 * 7 + 7 ≤ length (now t)) ⌝ }
+    requires { ⌜ Lies (now l) at (q .start) (q .end) × (row .0 * 8 + 8 ≤ length (now t)) ⌝ }
     requires { ⌜ («a_count» ≤ maxBytes) × («b_count» ≤ maxBytes) ⌝ }
     requires { ⌜ Ready (now a) (now «a_table») 3 «a_count» (now «a_memo») × Ready (now b) (now «b_table») 5 «b_count» (now «b_memo») ⌝ }
     ensures { λ _. ⌜ ((w : Feed) (ps : List ℕ) → Located (now (l .entry)) ps (q .start) (q .end)
         → Lists (now (a .entry)) (now («a_table» .entry)) 3 «a_count» (routeIds w) → Lists (now (b .entry)) (now («b_table» .entry)) 5 «b_count» (serviceIds w)
-        → now (t .exit) ≡ putAt (now (t .entry)) (row .0 * 7) (recordOf 4 w ps (line at (now (l .entry))))) ⌝ }
+        → getD (now (t .entry)) (row .0 * 8 + 7) (pos 0) ≡ pos (refer (tripService (rowOf ps (now (l .entry)))) (datedIds w))
+        → now (t .exit) ≡ putAt (now (t .entry)) (row .0 * 8) (recordOf 4 w ps (line at (now (l .entry))))) ⌝ }
     ensures { λ _. ⌜ Ready (now (a .entry)) (now («a_table» .entry)) 3 «a_count» (now («a_memo» .exit)) × Ready (now (b .entry)) (now («b_table» .entry)) 5 «b_count» (now («b_memo» .exit)) ⌝ }
 {
     let route = resolve::find_route(a, a_table, a_count, values::raw(l, q, 0), a_memo);
@@ -131,11 +135,11 @@ fn put_time(
 )
     requires { ⌜ Lies (now l) at (q .start) (q .end) × (row .0 * 8 + 8 ≤ length (now t)) ⌝ }
     requires { ⌜ («a_count» ≤ maxBytes) × («b_count» ≤ maxBytes) ⌝ }
-    requires { ⌜ Ready (now a) (now «a_table») 7 «a_count» (now «a_memo») × Ready (now b) (now «b_table») 6 «b_count» (now «b_memo») ⌝ }
+    requires { ⌜ Ready (now a) (now «a_table») 8 «a_count» (now «a_memo») × Ready (now b) (now «b_table») 6 «b_count» (now «b_memo») ⌝ }
     ensures { λ _. ⌜ ((w : Feed) (ps : List ℕ) → Located (now (l .entry)) ps (q .start) (q .end)
-        → Lists (now (a .entry)) (now («a_table» .entry)) 7 «a_count» (tripIds w) → Lists (now (b .entry)) (now («b_table» .entry)) 6 «b_count» (stopIds w)
+        → Lists (now (a .entry)) (now («a_table» .entry)) 8 «a_count» (tripIds w) → Lists (now (b .entry)) (now («b_table» .entry)) 6 «b_count» (stopIds w)
         → now (t .exit) ≡ putAt (now (t .entry)) (row .0 * 8) (waitingOf w ps (line at (now (l .entry))))) ⌝ }
-    ensures { λ _. ⌜ Ready (now (a .entry)) (now («a_table» .entry)) 7 «a_count» (now («a_memo» .exit)) × Ready (now (b .entry)) (now («b_table» .entry)) 6 «b_count» (now («b_memo» .exit)) ⌝ }
+    ensures { λ _. ⌜ Ready (now (a .entry)) (now («a_table» .entry)) 8 «a_count» (now («a_memo» .exit)) × Ready (now (b .entry)) (now («b_table» .entry)) 6 «b_count» (now («b_memo» .exit)) ⌝ }
 {
     let trip = resolve::find_trip(a, a_table, a_count, values::raw(l, q, 0), a_memo);
     let stop = resolve::find_stop(b, b_table, b_count, values::raw(l, q, 3), b_memo);
@@ -161,6 +165,18 @@ fn put_time(
     );
 }
 
+// An exception: a service on a date.
+fn put_date(l: &[u8], at: usize, q: Cells, t: &mut [i32], row: DateRow)
+    requires { ⌜ Lies (now l) at (q .start) (q .end) × (row .0 * 4 + 4 ≤ length (now t)) ⌝ }
+    ensures { λ _. ⌜ ((w : Feed) (ps : List ℕ) → Located (now (l .entry)) ps (q .start) (q .end)
+        → now (t .exit) ≡ putAt (now (t .entry)) (row .0 * 4) (recordOf 6 w ps (line at (now (l .entry))))) ⌝ }
+{
+    let id = field_place(l, at, q, 0);
+    let date = values::date(l, q, 1);
+    let kind = values::exception(l, q, 2);
+    Dates::put(t, row, id, date, kind);
+}
+
 // What the second walk writes for a line of file f, with known columns in the columns `places`; a and b are the files that it refers to.
 pub fn put_record(
     f: usize,
@@ -178,13 +194,13 @@ pub fn put_record(
     b_count: usize,
     b_memo: &mut [u32],
 )
-    requires { ⌜ (1 ≤ f) × ((f ≤ 5) × (at + length (now l) ≤ maxBytes)) ⌝ }
+    requires { ⌜ (1 ≤ f) × ((f ≤ 6) × (at + length (now l) ≤ maxBytes)) ⌝ }
     requires { ⌜ r * widthOf f + widthOf f ≤ length (now t) ⌝ }
     requires { ⌜ («a_count» ≤ maxBytes) × («b_count» ≤ maxBytes) ⌝ }
     requires { ⌜ Sought f (now a) (now «a_table») «a_count» (now «a_memo») (now b) (now «b_table») «b_count» (now «b_memo») ⌝ }
     ensures { λ _. ⌜ ((w : Feed) (ps : List ℕ) → ((k : ℕ) → getD places k 0 ≡ getD ps k 0)
         → Refers f w (now (a .entry)) (now («a_table» .entry)) «a_count» (now (b .entry)) (now («b_table» .entry)) «b_count»
-        → (f ≡ 1 → getD (now (t .entry)) (r * 6 + 5) (pos 0) ≡ pos (refer (parentStation (rowOf ps (now (l .entry)))) (stopIds w)))
+        → (waits f ≡ true → getD (now (t .entry)) (lastOf f r) (pos 0) ≡ pos (namedOf f w (rowOf ps (now (l .entry)))))
         → now (t .exit) ≡ putAt (now (t .entry)) (r * widthOf f) (writtenOf f w ps (line at (now (l .entry))))) ⌝ }
     ensures { λ _. ⌜ Sought f (now (a .entry)) (now («a_table» .entry)) «a_count» (now («a_memo» .exit)) (now (b .entry)) (now («b_table» .entry)) «b_count» (now («b_memo» .exit)) ⌝ }
 {
@@ -199,6 +215,10 @@ pub fn put_record(
     }
     if f == Calendar::FILE {
         put_service(l, at, q, t, ServiceRow(r));
+        return;
+    }
+    if f == Dates::FILE {
+        put_date(l, at, q, t, DateRow(r));
         return;
     }
     if f == Trips::FILE {

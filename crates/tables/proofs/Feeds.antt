@@ -1,28 +1,31 @@
--- What the tables of a feed hold when files that refer to them are read: ids in their order, parents, room.
+-- What the tables of a feed hold when files that refer to them are read: ids in their order, fields that are settled, room.
 use mathlib.Core.Path.{_≡_, refl, sym, ap, _∙_}
+use mathlib.Core.Bool.{false}
 use mathlib.Core.List.{List, [], _∷_}
 use Prim.Native.Nat.{ℕ, _+_, _*_, _-_, _≤_, _<_}
 use lib.ListN.{length, getD, replicate, length-map, length-replicate}
 use native.Mathlib.Omega.{arith}
-use native.Mathlib.Nat.{add-zero}
+use native.Mathlib.Nat.{mul-le-mul-right}
 use lib.IntN.{ℤ, pos}
-use Rattle.num.specs.Signs.{natOf}
 use Rattle.meaning.specs.Lists.{laid}
 use Rattle.meaning.specs.Bytes.{countLf}
-use Rattle.rows.specs.Cells.{natAt}
-use Rattle.meaning.specs.Promises.{WholeKept}
-use Rattle.text.proofs.Lines.{ended-count}
 use Rattle.meaning.specs.Columns.{rowsOf}
-use Rattle.meaning.specs.Tables.{Feed, under, idColumn, widths, widthOf, parentStation, stopIds, routeIds, serviceIds, tripIds, fileOf, feedOf}
-use Rattle.ordering.specs.Ids.{Placed, Arranged}
-use Rattle.seeking.proofs.First.{refer-held, held-as}
+use Rattle.meaning.specs.Tables.{Feed, under, refer, idColumn, widthOf, stopIds, routeIds, serviceIds, tripIds, datedIds, fileOf, feedOf, filled}
+use Rattle.meaning.specs.Refusals.{mayLack}
+use Rattle.meaning.specs.Promises.{WholeKept}
+use Rattle.meaning.proofs.ListLaws.{both}
+use Rattle.meaning.proofs.Records.{ended-count, supplied, no-rows, unsupplied}
+use Rattle.ordering.specs.Cells.{KeptAt}
+use Rattle.ordering.specs.Ids.{Sorted, Apart, Placed, Arranged}
 use Rattle.seeking.proofs.Laws.{held-placed, arranged-as}
 use Rattle.records.specs.Refers.{Lists}
-use Rattle.tables.specs.Fill.{Room}
-use Rattle.tables.specs.Walk.{idsOf, Beyond, Ordered, Settled, Parents}
-use Rattle.tables.proofs.Past.{beyond-trans, settled-beyond, laid-rest}
+use Rattle.records.specs.Waiting.{waits, lastOf, soughtIds, namedOf}
+use Rattle.tables.specs.Fill.{Room, Fits}
+use Rattle.tables.specs.Walk.{idsOf, Beyond, Ordered, OrderedIf, IndexedIf, ListsIf, Named, Settled}
+use Rattle.tables.proofs.Past.{beyond-trans, kept-beyond, laid-rest}
 use Rattle.tables.proofs.Ids.{rows-count}
-use Rattle.tables.proofs.Settling.{placed-as}
+use Rattle.tables.proofs.SecondWalk.{filled-beyond}
+use Rattle.tables.proofs.Settling.{placed-as, lists-as, kept-three}
 
 -- a table that holds the ids of its file in their order
 module _ (f : ℕ) (s : List ℕ) (n : ℕ) (t u : List ℤ) (o : Ordered f s n t u) where
@@ -38,93 +41,152 @@ module _ (f : ℕ) (s : List ℕ) (n : ℕ) (t u : List ℤ) (o : Ordered f s n 
   pub ordered-room : Room f s t → Room f s u
   ordered-room r = record { lines = r .lines; few = r .few; size = r .size; room = rw (o .beyond .size) (r .room) }
 
--- stops whose parents are settled
-module _ (s : List ℕ) (n : ℕ) (t u v : List ℤ) (o : Ordered 1 s n t u) (settled : Settled s n u v) where
-  same3 : (r k : ℕ) → k < 3 → getD v (r * 6 + k) (pos 0) ≡ getD u (r * 6 + k) (pos 0)
-  same3 r k h = settled .same (r * 6 + k) (λ q a b e. omega arith)
+-- .. and whose fields that wait are settled
+module _ (f : ℕ) (wide : 5 < widthOf f) (s : List ℕ) (n : ℕ) (t u v : List ℤ) (o : Ordered f s n t u) (kept : KeptAt (widthOf f - 1) (widthOf f) n u v) where
+  same3 : (r k : ℕ) → k < 3 → getD v (r * widthOf f + k) (pos 0) ≡ getD u (r * widthOf f + k) (pos 0)
+  same3 = kept-three (widthOf f) n u v wide kept
 
-  pub settled-index : Placed s v 6 n × Arranged s 6 n v
-  unfolding widthOf widths
+  pub settled-index : Placed s v (widthOf f) n × Arranged s (widthOf f) n v
   settled-index =
-      let i = ordered-index 1 s n t u o in
-      (placed-as s 6 u v (settled .size) same3 n (i .0), arranged-as s 6 n u v (settled .size) same3 (i .1))
+      let i = ordered-index f s n t u o in
+      (placed-as s (widthOf f) u v (kept .size) same3 n (i .0), arranged-as s (widthOf f) n u v (kept .size) same3 (i .1))
 
-  pub settled-lists : (ids : List (List ℕ)) → ids ≡ idsOf 1 s → Lists s v 6 n ids
-  unfolding widthOf widths
-  settled-lists ids e =
-      let l = ordered-lists 1 s n t u o ids e in
-      record {
-        held = held-as s u v 6 ids (l .held) (settled .size) (λ r. (ap natOf (start r), ap natOf (same3 r 1 (omega arith))));
-        count = l .count;
-      }
+  pub settled-lists : (ids : List (List ℕ)) → ids ≡ idsOf f s → Lists s v (widthOf f) n ids
+  settled-lists ids e = lists-as s (widthOf f) n u v ids (kept .size) same3 (ordered-lists f s n t u o ids e)
+
+  pub settled-room : Room f s t → Room f s v
+  settled-room r = record { lines = r .lines; few = r .few; size = r .size; room = rw (kept .size, o .beyond .size) (r .room) }
+
+  pub settled-past : Beyond (countLf s * widthOf f) t v
+  settled-past = beyond-trans (o .beyond) (rw (o .count) at (kept-beyond (widthOf f - 1) (widthOf f) n u v (omega arith) kept))
+
+  pub settled-named : (w : Feed) → Named (widthOf f) s (n + 1) (soughtIds f w) u v → Settled f w s v
+  unfolding namedOf Named Settled
+  settled-named w named wait r a b =
+      named r a (omega (arith, o .count))
+      ∙ ap (λ (x : List ℕ). pos (refer x (soughtIds f w))) (o .waiting (omega arith) r a (omega (arith, o .count)))
+
+-- ---- files that may be not supplied
+
+data Supply (s : List ℕ) : Type 0 where
+  given : 0 < length s → Supply s
+  none : length s ≡ 0 → Supply s
+
+supply : (s : List ℕ) → Supply s
+supply [] = none refl
+supply (b ∷ r) = given (omega arith)
+
+pub nothing : (s : List ℕ) → length s ≡ 0 → s ≡ []
+nothing [] e = refl
+nothing (b ∷ r) e = absurd (omega arith)
+
+-- a table of one record for a file that has none
+module _ (s : List ℕ) (t : List ℤ) (w : ℕ) (low : 2 < w) (high : w ≤ 8) (size : w ≤ length t) where
+  pub none-index : Placed s t w 0 × Arranged s w 0 t
+  unfolding Sorted Apart
+  none-index = (
+    record { room = omega arith; ordered = λ r a b. absurd (omega arith); inside = λ r a b. absurd (omega arith) },
+    record {
+      room = record { wide = low; narrow = high; rows = omega arith };
+      few = omega arith;
+      whole = record { within = λ i a b. absurd (omega arith); each = λ x a b. absurd (omega arith) };
+      apart = λ i j a b c e. omega arith;
+      sorted = λ i j a b c. absurd (omega arith);
+    },
+  )
+
+  pub none-lists : (ids : List (List ℕ)) → ids ≡ [] → Lists s t w 0 ids
+  none-lists ids e = rw e (record { held = record { room = omega arith; at = λ k h. absurd (omega arith) }; count = refl })
+
+pub fits-room : (f : ℕ) (s : List ℕ) (t : List ℤ) → Fits f s t → 0 < length s → Room f s t
+fits-room f s t h l = record { lines = h .lines l; few = h .few; size = h .size; room = h .room }
+
+pub room-fits : (f : ℕ) (s : List ℕ) (t : List ℤ) → Room f s t → Fits f s t
+room-fits f s t h = record { lines = λ _. h .lines; few = h .few; size = h .size; room = h .room }
+
+-- a file that isn't supplied leaves its table as lent
+pub filled-none : (f : ℕ) (w : Feed) (s : List ℕ) (t : List ℤ) → length s ≡ 0 → t ≡ filled f w s t
+filled-none f w s t e = rw (nothing s e) (sym (unsupplied f w t))
+
+module _ (f : ℕ) (s : List ℕ) (n : ℕ) (t u : List ℤ) (o : OrderedIf f s n t u) where
+  pub lacked-index : IndexedIf s u (widthOf f) n
+  lacked-index h = ordered-index f s n t u (o .supplied h)
+
+  pub lacked-lists : (ids : List (List ℕ)) → ids ≡ idsOf f s → ListsIf s u (widthOf f) n ids
+  lacked-lists ids e = ((λ h. ordered-lists f s n t u (o .supplied h) ids e), λ z. e ∙ empty-ids z)
     where
-      start : (r : ℕ) → getD v (r * 6) (pos 0) ≡ getD u (r * 6) (pos 0)
-      start r = rw (add-zero (r * 6)) at (same3 r 0 (omega arith))
+      empty-ids : length s ≡ 0 → idsOf f s ≡ []
+      empty-ids z = rw (nothing s z, no-rows f)
 
-  pub settled-room : Room 1 s t → Room 1 s v
-  settled-room r = record { lines = r .lines; few = r .few; size = r .size; room = rw (settled .size, o .beyond .size) (r .room) }
+  pub lacked-count : n ≤ countLf s
+  lacked-count = go (supply s)
+    where
+      go : Supply s → n ≤ countLf s
+      go (given h) = omega (arith, o .supplied h .count)
+      go (none z) = omega (arith, o .lacking z .0)
 
-  pub settled-past : Beyond (countLf s * widthOf 1) t v
-  unfolding widthOf widths
-  settled-past = beyond-trans (o .beyond) (rw (o .count) at (settled-beyond s n u v settled))
+  pub lacked-fits : Fits f s t → Fits f s u
+  lacked-fits r = record { lines = r .lines; few = r .few; size = r .size; room = rw (go (supply s)) (r .room) }
+    where
+      go : Supply s → length u ≡ length t
+      go (given h) = o .supplied h .beyond .size
+      go (none z) = ap length (o .lacking z .1)
 
-  pub settled-parents : (w : Feed) → stopIds w ≡ idsOf 1 s → Parents 1 w s v
-  unfolding widthOf widths
-  settled-parents w e one r a b =
-      let l : r ≤ n = omega (arith, o .count) in
-      let c : n ≡ length (idsOf 1 s) = ordered-count 1 s n t u o in
-      let first = rw (o .waits one r a l, c) at (settled .named r a l) in
-      settled .stored r a l
-      ∙ ap pos (rw e (refer-held s u 6 (idsOf 1 s) (parentStation (getD (rowsOf 1 s) (r - 1) [])) (o .held) (natAt v (r * 6 + 5)) first))
+  pub lacked-filled : 1 ≤ f → f ≤ 6 → Fits f s t → (w : Feed) → filled f w s u ≡ filled f w s t
+  lacked-filled low high r w = go (supply s)
+    where
+      go : Supply s → filled f w s u ≡ filled f w s t
+      go (given h) = filled-beyond f low high w s (r .lines h) t u (o .supplied h .beyond)
+      go (none z) = ap (filled f w s) (o .lacking z .1)
 
--- the rows of a feed are those of its files
-module _ (a b c d e : List ℕ) where
-  pub feed-stops : feedOf (a ∷ b ∷ c ∷ d ∷ e ∷ []) .stops ≡ rowsOf 1 a
-  unfolding feedOf fileOf
-  feed-stops = refl
+-- ---- the rows of a feed are those of its files
 
-  pub feed-routes : feedOf (a ∷ b ∷ c ∷ d ∷ e ∷ []) .routes ≡ rowsOf 2 b
-  unfolding feedOf fileOf
-  feed-routes = refl
+module _ (a b c d e g : List ℕ) where
+  abbrev pub six : Feed
+  six = feedOf (a ∷ b ∷ c ∷ d ∷ e ∷ g ∷ [])
 
-  pub feed-calendar : feedOf (a ∷ b ∷ c ∷ d ∷ e ∷ []) .calendar ≡ rowsOf 3 c
-  unfolding feedOf fileOf
-  feed-calendar = refl
-
-  pub feed-trips : feedOf (a ∷ b ∷ c ∷ d ∷ e ∷ []) .trips ≡ rowsOf 4 d
-  unfolding feedOf fileOf
-  feed-trips = refl
-
-  pub feed-times : feedOf (a ∷ b ∷ c ∷ d ∷ e ∷ []) .stopTimes ≡ rowsOf 5 e
+  pub feed-times : six .stopTimes ≡ rowsOf 5 e
   unfolding feedOf fileOf
   feed-times = refl
 
--- .. and so are their ids
-module _ (a b c d e : List ℕ) where
-  pub stop-ids : stopIds (feedOf (a ∷ b ∷ c ∷ d ∷ e ∷ [])) ≡ idsOf 1 a
+  -- .. and so are their ids
+  pub stop-ids : stopIds six ≡ idsOf 1 a
   unfolding feedOf fileOf stopIds idColumn
   stop-ids = refl
 
-  pub route-ids : routeIds (feedOf (a ∷ b ∷ c ∷ d ∷ e ∷ [])) ≡ idsOf 2 b
+  pub route-ids : routeIds six ≡ idsOf 2 b
   unfolding feedOf fileOf routeIds idColumn
   route-ids = refl
 
-  pub service-ids : serviceIds (feedOf (a ∷ b ∷ c ∷ d ∷ e ∷ [])) ≡ idsOf 3 c
+  pub service-ids : serviceIds six ≡ idsOf 3 c
   unfolding feedOf fileOf serviceIds idColumn
   service-ids = refl
 
-  pub trip-ids : tripIds (feedOf (a ∷ b ∷ c ∷ d ∷ e ∷ [])) ≡ idsOf 4 d
+  pub trip-ids : tripIds six ≡ idsOf 4 d
   unfolding feedOf fileOf tripIds idColumn
   trip-ids = refl
 
--- record 0 is written over no parent
-pub parents-zeroed :
-    (f : ℕ) (w : Feed) (s : List ℕ) (t u : List ℤ) → u ≡ laid (replicate (widthOf f) (pos 0)) t → Parents f w s t → Parents f w s u
-unfolding widthOf widths
-parents-zeroed f w s t u e p one r a b =
-    let l : length (replicate (widthOf f) (pos 0)) ≡ 6 = length-replicate (widthOf f) (pos 0) ∙ ap widthOf one in
-    rw e (laid-rest (replicate (widthOf f) (pos 0)) t (r * 6 + 5) (omega arith)) ∙ p one r a b
+  pub dated-ids : datedIds six ≡ idsOf 6 g
+  unfolding feedOf fileOf datedIds idColumn
+  dated-ids = refl
+
+-- a file in which no field waits has nothing to settle
+pub settled-none : (f : ℕ) (w : Feed) (s : List ℕ) (t : List ℤ) → waits f ≡ false → Settled f w s t
+unfolding Settled
+settled-none f w s t e wait = both (waits f) wait e
+
+-- record 0 is written over nothing that is settled
+pub settled-zeroed :
+    (f : ℕ) (w : Feed) (s : List ℕ) (t u : List ℤ) → u ≡ laid (replicate (widthOf f) (pos 0)) t → Settled f w s t → Settled f w s u
+unfolding Settled
+settled-zeroed f w s t u e p wait r a b =
+    let m : 1 * widthOf f ≤ r * widthOf f = mul-le-mul-right {m = 1} {n = r} (widthOf f) a in
+    rw e (laid-rest (replicate (widthOf f) (pos 0)) t (lastOf f r) (omega (arith, length-replicate (widthOf f) (pos 0)))) ∙ p wait r a b
 
 -- what reading guarantees: rules 1 to 4 are kept
-pub room-kept : (f : ℕ) (s : List ℕ) (t : List ℤ) → WholeKept f s (length t) → Room f s t
-room-kept f s t h = record { lines = ended-count f s (length t) (h .ended); few = h .few; size = h .short; room = h .roomy }
+pub fits-kept : (files : List (List ℕ)) (f : ℕ) (s : List ℕ) (t : List ℤ) → WholeKept files f s (length t) → Fits f s t
+fits-kept files f s t h = record { lines = ended-count files f s (length t) (h .ended); few = h .few; size = h .short; room = h .roomy }
+
+pub room-kept :
+    (files : List (List ℕ)) (f : ℕ) (s : List ℕ) (t : List ℤ) → WholeKept files f s (length t) → mayLack files f ≡ false → Room f s t
+room-kept files f s t h m = fits-room f s t (fits-kept files f s t h) (supplied files f s (length t) (h .ended) m)

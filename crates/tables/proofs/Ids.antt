@@ -10,7 +10,7 @@ use lib.Seq.{getD-drop}
 use Rattle.meaning.specs.Lists.{flat, laid}
 use Rattle.meaning.specs.Bytes.{Line, bounds, part, value, countLf, linesFrom, linesOf, startOf}
 use Rattle.meaning.specs.Columns.{Row, places, headerOf, fieldAt, cell, rowOf, rowsOf}
-use Rattle.meaning.specs.Tables.{Feed, under, widthOf, idColumn, recordOf, recordsOf, filled}
+use Rattle.meaning.specs.Tables.{Feed, under, widthOf, idColumn, recordOf, filled}
 use Rattle.text.specs.declared.LineStep.{LineStep}
 use Rattle.text.specs.declared.LineStep.the-variants.{Line as LineAt, Done}
 use Rattle.text.specs.Lines.{LineStands, lineAt}
@@ -24,8 +24,8 @@ use Rattle.seeking.specs.First.{IdAt, Held}
 use Rattle.records.specs.Line.{line}
 use Rattle.tables.specs.Walk.{placeOf, tabled}
 use Rattle.text.proofs.Walk.{line-here}
-use Rattle.tables.proofs.Turns.{two-wide, wide, table-length, table-at, walk-inside}
-use Rattle.tables.proofs.Written.{IdFirst, record-id}
+use Rattle.tables.proofs.Turns.{three-wide, wide, table-length, table-at, walk-inside}
+use Rattle.tables.proofs.Written.{IdFirst, record-id, records-are}
 
 -- a line lies inside its file
 pub record LineIn (s : List ℕ) (x : Line) : Type 0 where
@@ -121,7 +121,7 @@ module _ (f : ℕ) (s : List ℕ) (lent : List ℤ) (some : 1 ≤ countLf s) (g 
   laid-count : length (flat (tabled f g s)) ≡ countLf s * widthOf f
   laid-count = flat-length (widthOf f) (tabled f g s) (wide f s g long) ∙ rw (table-length f s g long some)
 
-  module _ (low : 1 ≤ f) (high : f ≤ 5) (first : IdFirst f (places f (headerOf (linesOf s))) g) where
+  module _ (low : 1 ≤ f) (high : f ≤ 6) (first : IdFirst f (places f (headerOf (linesOf s))) g) where
     column : ℕ
     column = getD (places f (headerOf (linesOf s))) (idColumn f) 0
 
@@ -135,13 +135,13 @@ module _ (f : ℕ) (s : List ℕ) (lent : List ℤ) (some : 1 ≤ countLf s) (g 
       id-start : getD table ((k + 1) * widthOf f) (pos 0) ≡ pos (placeOf column (at-line k) .start)
       unfolding table column at-line
       id-start =
-          let j : 0 < widthOf f = omega (arith, two-wide f low high) in
+          let j : 0 < widthOf f = omega (arith, three-wide f low high) in
           rw (add-zero ((k + 1) * widthOf f)) at (cell-of (k + 1) 0 (line 0 []) (omega arith) inside j) ∙ first (at-line k) .0
 
       id-end : getD table ((k + 1) * widthOf f + 1) (pos 0) ≡ pos (placeOf column (at-line k) .end)
       unfolding table column at-line
       id-end =
-          cell-of (k + 1) 1 (line 0 []) (omega arith) inside (omega (arith, two-wide f low high)) ∙ first (at-line k) .1
+          cell-of (k + 1) 1 (line 0 []) (omega arith) inside (omega (arith, three-wide f low high)) ∙ first (at-line k) .1
 
       id-line : LineIn s (at-line k)
       unfolding at-line linesOf
@@ -177,7 +177,7 @@ module _ (f : ℕ) (s : List ℕ) (lent : List ℤ) (some : 1 ≤ countLf s) (g 
         }
 
 -- a table that is filled for a file
-module _ (f : ℕ) (low : 1 ≤ f) (high : f ≤ 5) (w : Feed) (s : List ℕ) (lent : List ℤ) (some : 1 ≤ countLf s) where
+module _ (f : ℕ) (low : 1 ≤ f) (high : f ≤ 6) (w : Feed) (s : List ℕ) (lent : List ℤ) (some : 1 ≤ countLf s) where
   abbrev pub by-record : Line → List ℤ
   by-record = recordOf f w (places f (headerOf (linesOf s)))
 
@@ -185,8 +185,8 @@ module _ (f : ℕ) (low : 1 ≤ f) (high : f ≤ 5) (w : Feed) (s : List ℕ) (l
   by-width x = record-wide f w (places f (headerOf (linesOf s))) x low (omega arith)
 
   pub filled-as : filled f w s lent ≡ laid (flat (tabled f by-record s)) lent
-  unfolding filled recordsOf tabled
-  filled-as = refl
+  unfolding filled
+  filled-as = ap (λ (v : List (List ℤ)). laid (flat v) lent) (records-are f w s some)
 
   -- number j of record r
   pub cell-at :

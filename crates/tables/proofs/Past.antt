@@ -10,7 +10,7 @@ use lib.Seq.{ext-getD, getD-drop, getD-append-add}
 use Rattle.meaning.specs.Lists.{laid}
 use Rattle.rows.proofs.Records.{laid-length}
 use Rattle.ordering.specs.Cells.{KeptAt}
-use Rattle.tables.specs.Walk.{Beyond, Settled}
+use Rattle.tables.specs.Walk.{Beyond}
 
 pub beyond-trans : {m : ℕ} {t u v : List ℤ} → Beyond m t u → Beyond m u v → Beyond m t v
 beyond-trans p q = record { size = q .size ∙ p .size; same = λ j h. q .same j h ∙ p .same j h }
@@ -50,7 +50,3 @@ kept-beyond o w n t u wide p = record { size = p .size; same = λ j h. rw (div-a
     at j h =
         let l : n + 1 ≤ j / w = within (omega arith) h in
         p .same (j / w) (j % w) (mod-lt j (omega arith)) (λ a b c. omega arith)
-
--- so do parents that are settled
-pub settled-beyond : (s : List ℕ) (n : ℕ) (t u : List ℤ) → Settled s n t u → Beyond ((n + 1) * 6) t u
-settled-beyond s n t u p = record { size = p .size; same = λ j h. p .same j (λ r a b e. omega arith) }

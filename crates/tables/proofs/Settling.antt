@@ -1,20 +1,25 @@
--- Parents are settled one by one: number 5 of a stop's record is none of those that its id's place and the order use.
-use mathlib.Core.Path.{_≡_, refl, _∙_, fun-ext}
+-- What fields that wait name is settled one by one: the last number of a record is none of those that its id's place and the order use.
+use mathlib.Core.Path.{_≡_, sym, ap, _∙_, fun-ext}
 use mathlib.Core.List.{List}
-use Prim.Native.Nat.{ℕ, _+_, _*_, _-_, _≤_, _<_}
+use Prim.Native.Nat.{ℕ, _+_, _*_, _-_, _/_, _≤_, _<_}
 use native.Mathlib.Omega.{arith}
-use native.Mathlib.Nat.{add-zero}
+use native.Mathlib.Nat.{add-zero, mul-div-cancel}
 use lib.IntN.{ℤ, pos}
-use lib.ListN.{length, getD, set, length-set}
+use lib.ListN.{length, getD, set}
 use lib.Seq.{getD-set-same, getD-set-other}
+use Rattle.num.specs.Signs.{natOf}
 use Rattle.meaning.specs.Bytes.{part, value}
-use Rattle.rows.specs.Cells.{natAt, boundsAt}
+use Rattle.meaning.specs.Tables.{refer}
+use Rattle.rows.specs.Cells.{boundsAt}
+use Rattle.ordering.specs.Cells.{KeptAt}
 use Rattle.ordering.specs.Ids.{idOf, Placed}
-use Rattle.ordering.proofs.Laws.{Alike, yes, no, alike}
-use Rattle.seeking.specs.First.{First, idIs, names}
+use Rattle.ordering.proofs.Laws.{Alike, yes, no, alike, put-kept, kept-trans}
+use Rattle.seeking.specs.First.{idIs}
+use Rattle.seeking.proofs.First.{held-as}
 use Rattle.seeking.proofs.Laws.{arranged-as}
 use Rattle.memo.specs.Memo.{FirstOfOwn, Known, Ready}
-use Rattle.tables.specs.Walk.{Settled}
+use Rattle.records.specs.Refers.{Lists}
+use Rattle.tables.specs.Walk.{Named}
 
 -- a table u of the length of t with the same first three numbers in each record of width w
 module _ (s : List ℕ) (w : ℕ) (t u : List ℤ) (size : length u ≡ length t) (same3 : (r k : ℕ) → k < 3 → getD u (r * w + k) (pos 0) ≡ getD t (r * w + k) (pos 0)) where
@@ -28,10 +33,6 @@ module _ (s : List ℕ) (w : ℕ) (t u : List ℤ) (size : length u ≡ length t
   tests-as : (v : List ℕ) → idIs s u w v ≡ idIs s t w v
   unfolding idIs
   tests-as v = fun-ext (λ r. rw (size, start-as r, same3 r 1 (omega arith)))
-
-  pub names-as : (v : List ℕ) → names s u w v ≡ names s t w v
-  unfolding names
-  names-as v = fun-ext (λ r. rw (tests-as v))
 
   pub placed-as : (n : ℕ) → Placed s t w n → Placed s u w n
   placed-as n p = record {
@@ -52,73 +53,62 @@ module _ (s : List ℕ) (w : ℕ) (t u : List ℤ) (size : length u ≡ length t
     known = known-as n m (r .known);
   }
 
--- parents are settled in the records below r
-pub record Settling (s : List ℕ) (n r : ℕ) (t u : List ℤ) : Type 0 where
-  pub size : length u ≡ length t
-  pub same : (j : ℕ) → ((k : ℕ) → 0 < k → k < r → j ≡ k * 6 + 5 → ⊥) → getD u j (pos 0) ≡ getD t j (pos 0)
-  pub named : (k : ℕ) → 0 < k → k < r → First (names s t 6 (value (part s (boundsAt t (k * 6 + 3))))) (n + 1) (natAt u (k * 6 + 5))
-  pub stored : (k : ℕ) → 0 < k → k < r → getD u (k * 6 + 5) (pos 0) ≡ pos (natAt u (k * 6 + 5))
-
-pub settle-start : (s : List ℕ) (n : ℕ) (t : List ℤ) → Settling s n 1 t t
-settle-start s n t = record {
-  size = refl;
-  same = λ j free. refl;
-  named = λ k a b. absurd (none k a b);
-  stored = λ k a b. absurd (none k a b);
-}
-  where
-    none : (k : ℕ) → 0 < k → k < 1 → ⊥
-    none k a b = omega arith
-
-pub settle-end : (s : List ℕ) (n r : ℕ) (t u : List ℤ) → n < r → Settling s n r t u → r ≤ n + 1 → Settled s n t u
-settle-end s n r t u h p l = record {
-  size = p .size;
-  same = λ j free. p .same j (λ k a b. free k a (omega arith));
-  named = λ k a b. p .named k a (omega arith);
-  stored = λ k a b. p .stored k a (omega arith);
+-- .. and so it lists the same ids
+pub lists-as :
+    (s : List ℕ) (w n : ℕ) (t u : List ℤ) (ids : List (List ℕ))
+    → length u ≡ length t
+    → ((r k : ℕ) → k < 3 → getD u (r * w + k) (pos 0) ≡ getD t (r * w + k) (pos 0))
+    → Lists s t w n ids
+    → Lists s u w n ids
+lists-as s w n t u ids size same3 l = record {
+  held =
+      held-as s t u w ids (l .held) size
+      (λ r. (ap natOf (rw (add-zero (r * w)) at (same3 r 0 (omega arith))), ap natOf (same3 r 1 (omega arith))));
+  count = l .count;
 }
 
--- one parent more
-module _ (s : List ℕ) (n r : ℕ) (t u u′ : List ℤ) (q : ℕ) (above : 0 < r) (room : r * 6 + 6 ≤ length u) (set-is : u′ ≡ set u (r * 6 + 5) (pos q)) where
-  other : (j : ℕ) → (j ≡ r * 6 + 5 → ⊥) → getD u′ j (pos 0) ≡ getD u j (pos 0)
-  other j free = rw set-is (getD-set-other u (r * 6 + 5) j (pos q) (pos 0) free)
+-- where only last numbers change, the first three of a wide record stay
+pub kept-three : (w n : ℕ) (t u : List ℤ) → 5 < w → KeptAt (w - 1) w n t u → (r k : ℕ) → k < 3 → getD u (r * w + k) (pos 0) ≡ getD t (r * w + k) (pos 0)
+kept-three w n t u wide p r k h = p .same r k (omega arith) (λ e a b. omega arith)
 
-  here : getD u′ (r * 6 + 5) (pos 0) ≡ pos q
-  here = rw set-is (getD-set-same u (r * 6 + 5) (pos q) (pos 0) (omega arith))
+pub named-start : (w : ℕ) (s : List ℕ) (ids : List (List ℕ)) (t u : List ℤ) → Named w s 1 ids t u
+unfolding Named
+named-start w s ids t u k a b = absurd (omega arith)
 
-  long : length u′ ≡ length u
-  long = rw set-is (simp length-set)
+-- one field more is settled
+module _ (w n r : ℕ) (wide : 5 < w) (above : 0 < r) (below : r ≤ n) (u u′ : List ℤ) (q : ℕ) (set-is : u′ ≡ set u (r * w + (w - 1)) (pos q)) where
+  one-kept : KeptAt (w - 1) w n u u′
+  one-kept = rw set-is (put-kept u w r (pos q) (omega arith) n above below)
 
-  pub settle-ready : (m : List ℕ) → Ready s u 6 n m → Ready s u′ 6 n m
-  settle-ready m = ready-as s 6 u u′ long (λ k j h. other (k * 6 + j) (λ e. omega arith)) n m
+  pub settle-kept : (t : List ℤ) → KeptAt (w - 1) w n t u → KeptAt (w - 1) w n t u′
+  settle-kept t p = kept-trans p one-kept
 
-  pub settle-turn :
-      Settling s n r t u
-      → First (names s u 6 (value (part s (boundsAt u (r * 6 + 3))))) (n + 1) q
-      → Settling s n (r + 1) t u′
-  settle-turn p first = record {
-    size = long ∙ p .size;
-    same = λ j free. other j (λ e. free r above (omega arith) e) ∙ p .same j (λ k a b. free k a (omega arith));
-    named = λ k a b. named-at k (alike k r) a b;
-    stored = λ k a b. stored-at k (alike k r) a b;
-  }
-    where
-      before : (k j : ℕ) → j < 5 → getD u (k * 6 + j) (pos 0) ≡ getD t (k * 6 + j) (pos 0)
-      before k j h = p .same (k * 6 + j) (λ i a b e. omega arith)
+  pub settle-ready : (s m : List ℕ) → Ready s u w n m → Ready s u′ w n m
+  settle-ready s m = ready-as s w u u′ (one-kept .size) (kept-three w n u u′ wide one-kept) n m
 
-      at-r : First (names s t 6 (value (part s (boundsAt t (r * 6 + 3))))) (n + 1) q
-      at-r =
-          let a : getD u (r * 6 + 3) (pos 0) ≡ getD t (r * 6 + 3) (pos 0) = before r 3 (omega arith) in
-          let e : r * 6 + 4 ≡ r * 6 + 3 + 1 = omega arith in
-          let b : getD u (r * 6 + 3 + 1) (pos 0) ≡ getD t (r * 6 + 3 + 1) (pos 0) = rw e at (before r 4 (omega arith)) in
-          let c : names s u 6 (value (part s (boundsAt t (r * 6 + 3)))) ≡ names s t 6 (value (part s (boundsAt t (r * 6 + 3)))) =
-          names-as s 6 t u (p .size) (λ k j h. before k j (omega arith)) (value (part s (boundsAt t (r * 6 + 3)))) in
-          rw c at (rw (a, b) at first)
+  module _ (s : List ℕ) (ids : List (List ℕ)) (t : List ℤ) (kept : KeptAt (w - 1) w n t u) (room : (r + 1) * w ≤ length u) where
+    -- the field waits in u as it did in t
+    waiting-as : boundsAt u (r * w + 3) ≡ boundsAt t (r * w + 3)
+    waiting-as =
+        let e : r * w + 4 ≡ r * w + 3 + 1 = omega arith in
+        let a = kept .same r 3 (omega arith) (λ z g h. omega arith) in
+        let b = rw e at (kept .same r 4 (omega arith) (λ z g h. omega arith)) in
+        rw (a, b)
 
-      named-at : (k : ℕ) → Alike k r → 0 < k → k < r + 1 → First (names s t 6 (value (part s (boundsAt t (k * 6 + 3))))) (n + 1) (natAt u′ (k * 6 + 5))
-      named-at k (yes e) a b = rw (e, here) at-r
-      named-at k (no e) a b = rw (other (k * 6 + 5) (λ z. e (omega arith))) (p .named k a (omega (arith, e)))
+    apart : (k : ℕ) → k * w + (w - 1) ≡ r * w + (w - 1) → k ≡ r
+    apart k e =
+        let m : k * w ≡ r * w = omega arith in
+        sym (mul-div-cancel k (omega arith)) ∙ ap (λ (x : ℕ). x / w) m ∙ mul-div-cancel r (omega arith)
 
-      stored-at : (k : ℕ) → Alike k r → 0 < k → k < r + 1 → getD u′ (k * 6 + 5) (pos 0) ≡ pos (natAt u′ (k * 6 + 5))
-      stored-at k (yes e) a b = rw (e, here)
-      stored-at k (no e) a b = rw (other (k * 6 + 5) (λ z. e (omega arith))) (p .stored k a (omega (arith, e)))
+    pub settle-turn : Named w s r ids t u → q ≡ refer (value (part s (boundsAt u (r * w + 3)))) ids → Named w s (r + 1) ids t u′
+    unfolding Named
+    settle-turn p e k a b = go (alike k r)
+      where
+        go : Alike k r → getD u′ (k * w + (w - 1)) (pos 0) ≡ pos (refer (value (part s (boundsAt t (k * w + 3)))) ids)
+        go (yes z) = rw (z, set-is) (getD-set-same u (r * w + (w - 1)) (pos q) (pos 0) (omega arith) ∙ ap pos (rw waiting-as at e))
+        go (no z) = rw set-is (getD-set-other u (r * w + (w - 1)) (k * w + (w - 1)) (pos q) (pos 0) (λ g. z (apart k g))) ∙ p k a (omega (arith, z))
+
+-- all are settled
+pub named-end : (w : ℕ) (s : List ℕ) (n r : ℕ) (ids : List (List ℕ)) (t u : List ℤ) → n < r → r ≤ n + 1 → Named w s r ids t u → Named w s (n + 1) ids t u
+unfolding Named
+named-end w s n r ids t u h l p k a b = p k a (omega arith)

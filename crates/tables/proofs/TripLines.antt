@@ -165,6 +165,7 @@ trip-count w = simp length-map
 pub noted-kept : (w : Feed) (m m′ : List ℕ) → ((b r : ℕ) → b < 9 → marked m′ b r ≡ marked m b r) → Noted w m → Noted w m′
 noted-kept w m m′ kept p = record {
   repeats = λ f i a b h. kept f (i + 1) (omega arith) ∙ p .repeats f i a b h;
+  dates = λ i h. kept 6 (i + 1) (omega arith) ∙ p .dates i h;
   parents = λ i h. kept 7 (i + 1) (omega arith) ∙ p .parents i h;
   nameless = λ i h. kept 8 (i + 1) (omega arith) ∙ p .nameless i h;
 }

@@ -26,15 +26,16 @@ use Rattle.records.specs.Line.{line}
 use Rattle.tables.specs.Fill.{Heading, Room}
 use Rattle.tables.specs.Walk.{tabled}
 
-pub two-wide : (f : ℕ) → 1 ≤ f → f ≤ 5 → 2 ≤ widthOf f
+pub three-wide : (f : ℕ) → 1 ≤ f → f ≤ 6 → 2 < widthOf f
 unfolding widthOf widths
-two-wide zero h k = absurd (omega arith)
-two-wide (suc zero) h k = omega arith
-two-wide (suc (suc zero)) h k = omega arith
-two-wide (suc (suc (suc zero))) h k = omega arith
-two-wide (suc (suc (suc (suc zero)))) h k = omega arith
-two-wide (suc (suc (suc (suc (suc zero))))) h k = omega arith
-two-wide (suc (suc (suc (suc (suc (suc f)))))) h k = absurd (omega arith)
+three-wide zero h k = absurd (omega arith)
+three-wide (suc zero) h k = omega arith
+three-wide (suc (suc zero)) h k = omega arith
+three-wide (suc (suc (suc zero))) h k = omega arith
+three-wide (suc (suc (suc (suc zero)))) h k = omega arith
+three-wide (suc (suc (suc (suc (suc zero))))) h k = omega arith
+three-wide (suc (suc (suc (suc (suc (suc zero)))))) h k = omega arith
+three-wide (suc (suc (suc (suc (suc (suc (suc f))))))) h k = absurd (omega arith)
 
 pub eight-wide : (f : ℕ) → widthOf f ≤ 8
 unfolding widthOf widths
@@ -44,7 +45,8 @@ eight-wide (suc (suc zero)) = omega arith
 eight-wide (suc (suc (suc zero))) = omega arith
 eight-wide (suc (suc (suc (suc zero)))) = omega arith
 eight-wide (suc (suc (suc (suc (suc zero))))) = omega arith
-eight-wide (suc (suc (suc (suc (suc (suc f)))))) = omega arith
+eight-wide (suc (suc (suc (suc (suc (suc zero)))))) = omega arith
+eight-wide (suc (suc (suc (suc (suc (suc (suc f))))))) = omega arith
 
 -- what g makes of each line, each as wide as the file's records
 module _ (f : ℕ) (s : List ℕ) (g : Line → List ℤ) (long : (x : Line) → length (g x) ≡ widthOf f) where

@@ -12,7 +12,7 @@ use borrow.Author.Tests.{ltb-true, ltb-false}
 use Rattle.meaning.specs.Lists.{flat, laid}
 use Rattle.meaning.specs.Bytes.{Line, countLf, linesOf}
 use Rattle.meaning.specs.Columns.{places, headerOf}
-use Rattle.meaning.specs.Tables.{Feed, widths, widthOf, recordOf, recordsOf, filled}
+use Rattle.meaning.specs.Tables.{Feed, widths, widthOf, recordOf, filled}
 use Rattle.rows.specs.Cells.{putAt}
 use Rattle.rows.specs.Waiting.{settledAt}
 use Rattle.rows.proofs.Records.{laid-cell, laid-length, rows-turn, record-wide, wide-take}
@@ -23,8 +23,13 @@ use Rattle.records.proofs.Waiting.{waits-settled, written-wide}
 use Rattle.tables.specs.Walk.{tabled, writtenAll, written, Beyond}
 use Rattle.tables.proofs.Past.{beyond-trans, laid-rest, laid-beyond, kept-beyond}
 use Rattle.tables.proofs.Turns.{wide, table-length, table-at}
+use Rattle.tables.proofs.Written.{records-are}
 use Rattle.tables.proofs.Ids.{cell-of}
 use Rattle.tables.proofs.SecondWalk.{taken-length, all-length, filled-beyond}
+
+-- the records of stop_times
+abbrev pub recordTable : Feed → List ℕ → List (List ℤ)
+recordTable w s = tabled 5 (recordOf 5 w (places 5 (headerOf (linesOf s)))) s
 
 -- the lines of a file, as they wait
 module _ (w : Feed) (s : List ℕ) (lent : List ℤ) (some : 1 ≤ countLf s) where
@@ -55,8 +60,8 @@ module _ (w : Feed) (s : List ℕ) (lent : List ℤ) (some : 1 ≤ countLf s) wh
     unfolding written ps widthOf widths
     written-beyond = laid-beyond (flat (writtenAll 5 w s)) lent (countLf s * 8) (all-length 5 s some (writtenOf 5 w ps) long) room
 
-    pub settle-start : u ≡ laid (flat (take 1 (recordsOf 5 w s))) u
-    unfolding recordsOf tabled written widthOf widths ps
+    pub settle-start : u ≡ laid (flat (take 1 (recordTable w s))) u
+    unfolding tabled written widthOf widths ps
     settle-start = ext-getD (pos 0) u (laid (flat (take 1 (tabled 5 g s))) u) (sym size) at
       where
         g : Line → List ℤ
@@ -88,10 +93,10 @@ module _ (w : Feed) (s : List ℕ) (lent : List ℤ) (some : 1 ≤ countLf s) wh
         (t t′ : List ℤ) (r : ℕ)
         → 1 ≤ r
         → r ≤ n
-        → t ≡ laid (flat (take r (recordsOf 5 w s))) u
+        → t ≡ laid (flat (take r (recordTable w s))) u
         → t′ ≡ putAt t (r * 8) (settledAt t (r * 8))
-        → t′ ≡ laid (flat (take (r + 1) (recordsOf 5 w s))) u
-    unfolding recordsOf tabled widthOf widths ps
+        → t′ ≡ laid (flat (take (r + 1) (recordTable w s))) u
+    unfolding tabled widthOf widths ps
     settle-turn t t′ r a b is put =
         let g : Line → List ℤ = recordOf 5 w ps in
         let before : (k : ℕ) → k < 7 → getD t (r * 8 + k) (pos 0) ≡ getD (waitingOf w ps (getD (linesOf s) r (line 0 []))) k (pos 0) = λ k h.
@@ -102,10 +107,11 @@ module _ (w : Feed) (s : List ℕ) (lent : List ℤ) (some : 1 ≤ countLf s) wh
         waits-settled w ps (getD (linesOf s) r (line 0 [])) t (r * 8) before ∙ sym (table-at 5 s g wide-record r (line 0 []) a (omega arith)) in
         put ∙ ap (putAt t (r * 8)) here ∙ rows-turn 8 (tabled 5 g s) (wide 5 s g wide-record) t u r (omega (arith, table-length 5 s g wide-record some)) is
 
-    pub settle-end : (t : List ℤ) (r : ℕ) → n < r → t ≡ laid (flat (take r (recordsOf 5 w s))) u → t ≡ filled 5 w s lent
-    unfolding recordsOf tabled filled widthOf widths ps
+    pub settle-end : (t : List ℤ) (r : ℕ) → n < r → t ≡ laid (flat (take r (recordTable w s))) u → t ≡ filled 5 w s lent
+    unfolding tabled filled widthOf widths ps
     settle-end t r h is =
         let g : Line → List ℤ = recordOf 5 w ps in
         is
         ∙ ap (λ (v : List (List ℤ)). laid (flat v) u) (take-all r (tabled 5 g s) (omega (arith, table-length 5 s g wide-record some)))
+        ∙ ap (λ (v : List (List ℤ)). laid (flat v) u) (sym (records-are 5 w s some))
         ∙ filled-beyond 5 (omega arith) (omega arith) w s some lent u (beyond-trans written-beyond (rw count at (kept-beyond 7 8 n (written 5 w s lent) u (omega arith) kept)))

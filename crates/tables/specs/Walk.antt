@@ -1,18 +1,22 @@
 -- What the walks along a file write into its table.
 use Prim.Native.Nat.{ℕ, _+_, _*_, _-_, _≤_, _<_}
 use mathlib.Core.Path.{_≡_}
+use mathlib.Core.Bool.{true, cond}
 use mathlib.Core.List.{List, [], _∷_, _++_, map}
+use lib.Dec.{eqb}
 use lib.IntN.{ℤ, pos}
 use lib.ListN.{length, getD, take, drop, replicate}
 use Rattle.meaning.specs.declared.Bounds.{Bounds}
 use Rattle.meaning.specs.Lists.{flat, laid}
 use Rattle.meaning.specs.Bytes.{bounds, part, value, countLf, Line, linesOf}
-use Rattle.meaning.specs.Columns.{fieldAt, places, headerOf, rowsOf}
-use Rattle.meaning.specs.Tables.{Feed, under, stopIds, refer, idPlace, idColumn, widthOf, parentStation}
-use Rattle.rows.specs.Cells.{natAt, boundsAt}
-use Rattle.ordering.specs.Ids.{Arranged}
-use Rattle.seeking.specs.First.{First, Held, names}
-use Rattle.records.specs.Waiting.{writtenOf}
+use Rattle.meaning.specs.Columns.{Row, fieldAt, places, headerOf, rowOf, rowsOf}
+use Rattle.meaning.specs.Forms.{dateOf}
+use Rattle.meaning.specs.Tables.{Feed, under, day, exceptionDate, refer, idPlace, idColumn, widthOf}
+use Rattle.rows.specs.Cells.{boundsAt}
+use Rattle.ordering.specs.Ids.{Placed, Arranged}
+use Rattle.seeking.specs.First.{Held}
+use Rattle.records.specs.Refers.{Lists}
+use Rattle.records.specs.Waiting.{waits, waitingColumn, lastOf, namedOf, writtenOf}
 
 -- where the field in a column of a line lies in the file
 abbrev pub placeOf : ℕ → Line → Bounds
@@ -22,12 +26,19 @@ placeOf p x = bounds (x .start + fieldAt (x .text) p .start) (x .start + fieldAt
 unfoldable pub tabled : ℕ → (Line → List ℤ) → List ℕ → List (List ℤ)
 tabled f g s = replicate (widthOf f) (pos 0) ∷ map g (drop 1 (linesOf s))
 
--- The first walk: the place of a line's id and, since a parent may stand on a later line, that of the field under known
--- column 5, where a stop names its parent. Everything else is written when all ids are there.
+-- the date of a line of file 6, which goes with its service
+unfoldable pub dateKey : ℕ → Row → ℤ
+dateKey f r = cond (eqb f 6) (day (dateOf (exceptionDate r))) (pos 0)
+
+-- The first walk: the place of a line's id, its date in file 6 and, since what a field names may stand on a later line or in a later file,
+-- the place of the field that waits. Everything else is written when all ids are there.
 unfoldable pub placing : ℕ → List ℕ → Line → List ℤ
 placing f ps x =
-    let p = placeOf (getD ps 5 0) x in
-    take (widthOf f) (idPlace (getD ps (idColumn f) 0) x ++ (pos 0 ∷ pos (p .start) ∷ pos (p .end) ∷ pos 0 ∷ pos 0 ∷ []))
+    let p = placeOf (getD ps (waitingColumn f) 0) x in
+    take
+    (widthOf f)
+    (idPlace (getD ps (idColumn f) 0) x
+    ++ (dateKey f (rowOf ps (x .text)) ∷ pos (p .start) ∷ pos (p .end) ∷ pos 0 ∷ pos 0 ∷ pos 0 ∷ []))
 
 -- all that the first walk along a file writes
 abbrev pub placedOf : ℕ → List ℕ → List (List ℤ)
@@ -50,23 +61,42 @@ pub record Beyond (m : ℕ) (t u : List ℤ) : Type 0 where
 abbrev pub idsOf : ℕ → List ℕ → List (List ℕ)
 idsOf f s = map (under (idColumn f)) (rowsOf f s)
 
--- a table u, lent as t, that holds the ids of file f and an order of its n records by them; a stop's parent waits
+-- a table u, lent as t, that holds the ids of file f and an order of its n records by them, and fields that wait where a record is wide enough
 pub record Ordered (f : ℕ) (s : List ℕ) (n : ℕ) (t u : List ℤ) : Type 0 where
   pub count : n + 1 ≡ countLf s
   pub held : Held s u (widthOf f) (idsOf f s)
   pub arranged : Arranged s (widthOf f) n u
   pub beyond : Beyond (countLf s * widthOf f) t u
-  pub waits : f ≡ 1 → (r : ℕ) → 0 < r → r ≤ n → value (part s (boundsAt u (r * 6 + 3))) ≡ parentStation (getD (rowsOf 1 s) (r - 1) [])
+  pub waiting :
+      4 < widthOf f
+      → (r : ℕ)
+      → 0 < r
+      → r ≤ n
+      → value (part s (boundsAt u (r * widthOf f + 3))) ≡ under (waitingColumn f) (getD (rowsOf f s) (r - 1) [])
 
--- a table u of n stops in which number 5 of each record names the parent that waited in t, and nothing else has changed
-pub record Settled (s : List ℕ) (n : ℕ) (t u : List ℤ) : Type 0 where
-  pub size : length u ≡ length t
-  pub same : (j : ℕ) → ((r : ℕ) → 0 < r → r ≤ n → j ≡ r * 6 + 5 → ⊥) → getD u j (pos 0) ≡ getD t j (pos 0)
-  pub named : (r : ℕ) → 0 < r → r ≤ n → First (names s t 6 (value (part s (boundsAt t (r * 6 + 3))))) (n + 1) (natAt u (r * 6 + 5))
-  pub stored : (r : ℕ) → 0 < r → r ≤ n → getD u (r * 6 + 5) (pos 0) ≡ pos (natAt u (r * 6 + 5))
+-- the same for a file that may be not supplied: it has then no record, and its table is as lent
+pub record OrderedIf (f : ℕ) (s : List ℕ) (n : ℕ) (t u : List ℤ) : Type 0 where
+  pub supplied : 0 < length s → Ordered f s n t u
+  pub lacking : length s ≡ 0 → (n ≡ 0) × (u ≡ t)
 
--- number 5 of each record of file 1 is the parent's record
-abbrev pub Parents : ℕ → Feed → List ℕ → List ℤ → Type 0
-Parents f w s t =
-    f ≡ 1
-    → (r : ℕ) → 0 < r → r < countLf s → getD t (r * 6 + 5) (pos 0) ≡ pos (refer (parentStation (getD (rowsOf 1 s) (r - 1) [])) (stopIds w))
+-- a table of n records in the order of their ids, of a file that may be not supplied
+abbrev pub IndexedIf : List ℕ → List ℤ → ℕ → ℕ → Type 0
+IndexedIf s t w n = 0 < length s → Placed s t w n × Arranged s w n t
+
+-- .. holds these ids
+abbrev pub ListsIf : List ℕ → List ℤ → ℕ → ℕ → List (List ℕ) → Type 0
+ListsIf s t w n ids = (0 < length s → Lists s t w n ids) × (length s ≡ 0 → ids ≡ [])
+
+-- the last number of each record of u below r, of width w, is the record among ids that the field waiting in t names
+unfoldable pub Named : ℕ → List ℕ → ℕ → List (List ℕ) → List ℤ → List ℤ → Type 0
+Named w s r ids t u =
+    (k : ℕ)
+    → 0 < k
+    → k < r
+    → getD u (k * w + (w - 1)) (pos 0) ≡ pos (refer (value (part s (boundsAt t (k * w + 3)))) ids)
+
+-- what a field of file f that waits names is settled in each record
+unfoldable pub Settled : ℕ → Feed → List ℕ → List ℤ → Type 0
+Settled f w s t =
+    waits f ≡ true
+    → (r : ℕ) → 0 < r → r < countLf s → getD t (lastOf f r) (pos 0) ≡ pos (namedOf f w (getD (rowsOf f s) (r - 1) []))

@@ -1,4 +1,4 @@
-// The five lent tables, filled from the five files.
+// The six lent tables, filled from the six files.
 ghost use mathlib.Core.Path.{_≡_};
 ghost use mathlib.Core.Bool.{false};
 ghost use mathlib.Core.List.{List, [], _∷_};
@@ -7,21 +7,24 @@ ghost use lib.IntN.{ℤ};
 ghost use lib.ListN.{length, take};
 ghost use Rattle.meaning.specs.Lists.{flat, laid};
 ghost use Rattle.meaning.specs.Bytes.{countLf};
-ghost use Rattle.meaning.specs.Tables.{Feed, feedOf, filled};
+ghost use Rattle.meaning.specs.Tables.{Feed, feedOf, routeIds, serviceIds, filled};
 ghost use Rattle.meaning.specs.Refusals.{maxBytes, maxLines};
 ghost use Rattle.marks.specs.Marks.{marked, Blank};
 ghost use Rattle.marks.specs.Noted.{Noted, TripsNoted};
-ghost use Rattle.records.specs.Refers.{Indexed, Refers, Sought};
-ghost use Rattle.tables.specs.Fill.{Heading, Room};
-ghost use Rattle.tables.specs.Walk.{writtenAll, written, Ordered, Parents};
+ghost use Rattle.ordering.specs.Ids.{Placed, Arranged};
+ghost use Rattle.records.specs.Refers.{Lists, Indexed, Refers, Sought};
+ghost use Rattle.tables.specs.Fill.{Heading, Room, Fits};
+ghost use Rattle.tables.specs.Walk.{writtenAll, written, Ordered, OrderedIf, IndexedIf, ListsIf, Settled};
 use rows::Calendar;
+use rows::Dates;
 use rows::Routes;
 use rows::Stops;
 use rows::Trips;
 use text::LineStep;
 
-mod placing; // placing.rt: the first walk along files 1 to 4, and the order of their ids
+mod placing; // placing.rt: the first walk along files 1 to 4 and 6, and the order of their ids
 mod parents; // parents.rt: the parents of stops, once every stop's id is in the table
+mod services; // services.rt: the first exceptions of trips' services, once those of file 6 are in the table
 mod times; // times.rt: the lines of stop_times, which wait in their table while they are put in trip order
 
 // What a file's header tells: the columns of its known names, and where the next line starts.
@@ -32,7 +35,7 @@ struct Header {
 
 // The header of a file that has a line.
 fn read_header(f: usize, s: &[u8]) -> Header
-    requires { ⌜ (f < 6) × (1 ≤ countLf (now s)) ⌝ }
+    requires { ⌜ (f < 7) × (1 ≤ countLf (now s)) ⌝ }
     ensures { λ r. ⌜ Heading f (now (s .entry)) (r .known) (r .next) ⌝ }
 {
     let at = text::body_start(s);
@@ -65,13 +68,13 @@ fn fill_lines(
     b_count: usize,
     b_memo: &mut [u32],
 ) -> usize
-    requires { ⌜ (1 ≤ f) × ((f ≤ 5) × Room f (now s) (now t)) ⌝ }
+    requires { ⌜ (1 ≤ f) × ((f ≤ 6) × Room f (now s) (now t)) ⌝ }
     requires { ⌜ Heading f (now s) known at ⌝ }
     requires { ⌜ («a_count» ≤ maxBytes) × («b_count» ≤ maxBytes) ⌝ }
     requires { ⌜ Sought f (now a) (now «a_table») «a_count» (now «a_memo») (now b) (now «b_table») «b_count» (now «b_memo») ⌝ }
     ensures { λ _. ⌜ ((w : Feed) (lent : List ℤ)
         → Refers f w (now (a .entry)) (now («a_table» .entry)) «a_count» (now (b .entry)) (now («b_table» .entry)) «b_count»
-        → Parents f w (now (s .entry)) (now (t .entry))
+        → Settled f w (now (s .entry)) (now (t .entry))
         → now (t .entry) ≡ laid (flat (take 1 (writtenAll f w (now (s .entry))))) lent
         → now (t .exit) ≡ written f w (now (s .entry)) lent) ⌝ }
     ensures { λ r. ⌜ r + 1 ≡ countLf (now (s .entry)) ⌝ }
@@ -119,12 +122,12 @@ fn fill(
     b_table: &[i32],
     b_count: usize,
 ) -> usize
-    requires { ⌜ (1 ≤ f) × ((f ≤ 5) × Room f (now s) (now t)) ⌝ }
+    requires { ⌜ (1 ≤ f) × ((f ≤ 6) × Room f (now s) (now t)) ⌝ }
     requires { ⌜ («a_count» ≤ maxBytes) × («b_count» ≤ maxBytes) ⌝ }
     requires { ⌜ Indexed f (now a) (now «a_table») «a_count» (now b) (now «b_table») «b_count» ⌝ }
     ensures { λ _. ⌜ ((w : Feed)
         → Refers f w (now (a .entry)) (now («a_table» .entry)) «a_count» (now (b .entry)) (now («b_table» .entry)) «b_count»
-        → Parents f w (now (s .entry)) (now (t .entry))
+        → Settled f w (now (s .entry)) (now (t .entry))
         → now (t .exit) ≡ written f w (now (s .entry)) (now (t .entry))) ⌝ }
     ensures { λ r. ⌜ r + 1 ≡ countLf (now (s .entry)) ⌝ }
 {
@@ -151,97 +154,143 @@ fn fill(
     )
 }
 
-// A table that refers to no other.
+// A table that refers to no other, of a file that may be not supplied.
 fn fill_alone(f: usize, s: &[u8], t: &mut [i32])
-    requires { ⌜ (1 ≤ f) × ((f ≤ 3) × Room f (now s) (now t)) ⌝ }
-    ensures { λ _. ⌜ ((w : Feed) → Parents f w (now (s .entry)) (now (t .entry)) → now (t .exit) ≡ filled f w (now (s .entry)) (now (t .entry))) ⌝ }
+    requires { ⌜ ((1 ≤ f) × (f ≤ 6)) × ((f ≡ 4 → ⊥) × (f ≡ 5 → ⊥)) ⌝ }
+    requires { ⌜ Fits f (now s) (now t) ⌝ }
+    ensures { λ _. ⌜ ((w : Feed) → Settled f w (now (s .entry)) (now (t .entry)) → now (t .exit) ≡ filled f w (now (s .entry)) (now (t .entry))) ⌝ }
 {
+    if s.len() == 0 {
+        return;
+    }
     let none = [0i32; 1];
     fill(f, s, t, s, &none, 0, s, &none, 0);
 }
 
-// How many records files 1 to 4 have.
+// The table of trips: a is routes.txt, b is calendar.txt, which may be not supplied.
+fn fill_trips(
+    s: &[u8],
+    t: &mut [i32],
+    a: &[u8],
+    a_table: &[i32],
+    a_count: usize,
+    b: &[u8],
+    b_table: &[i32],
+    b_count: usize,
+)
+    requires { ⌜ Room 4 (now s) (now t) × ((«a_count» ≤ maxBytes) × («b_count» ≤ maxBytes)) ⌝ }
+    requires { ⌜ Placed (now a) (now «a_table») 3 «a_count» × Arranged (now a) 3 «a_count» (now «a_table») ⌝ }
+    requires { ⌜ IndexedIf (now b) (now «b_table») 5 «b_count» ⌝ }
+    ensures { λ _. ⌜ ((w : Feed)
+        → Lists (now (a .entry)) (now («a_table» .entry)) 3 «a_count» (routeIds w)
+        → ListsIf (now (b .entry)) (now («b_table» .entry)) 5 «b_count» (serviceIds w)
+        → Settled 4 w (now (s .entry)) (now (t .entry))
+        → now (t .exit) ≡ filled 4 w (now (s .entry)) (now (t .entry))) ⌝ }
+{
+    if b.len() == 0 {
+        let none = [0i32; 5];
+        fill(Trips::FILE, s, t, a, a_table, a_count, b, &none, 0);
+        return;
+    }
+    fill(Trips::FILE, s, t, a, a_table, a_count, b, b_table, b_count);
+}
+
+// How many records files 1 to 4 and 6 have.
 struct Counts {
     stops: usize,
     routes: usize,
     services: usize,
     trips: usize,
+    dates: usize,
 }
 
-// The ids of files 1 to 4 in their tables, and the records of each in their order; what only text and order tell is marked.
+// The ids of files 1 to 4 and 6 in their tables, and the records of each in their order; what only text and order tell is marked.
 fn order_all(
     stops: &[u8],
     routes: &[u8],
     calendar: &[u8],
     trips: &[u8],
+    dates: &[u8],
     stops_table: &mut [i32],
     routes_table: &mut [i32],
     calendar_table: &mut [i32],
     trips_table: &mut [i32],
+    dates_table: &mut [i32],
     marks: &mut [u16],
 ) -> Counts
-    requires { ⌜ Room 1 (now stops) (now «stops_table») × (Room 2 (now routes) (now «routes_table») × (Room 3 (now calendar) (now «calendar_table») × Room 4 (now trips) (now «trips_table»))) ⌝ }
+    requires { ⌜ Room 1 (now stops) (now «stops_table») × (Room 2 (now routes) (now «routes_table») × (Fits 3 (now calendar) (now «calendar_table»)
+        × (Room 4 (now trips) (now «trips_table») × Fits 6 (now dates) (now «dates_table»)))) ⌝ }
     requires { ⌜ Blank (now marks) × (maxLines ≤ length (now marks)) ⌝ }
     ensures { λ r. ⌜ Ordered 1 (now (stops .entry)) (r .stops) (now («stops_table» .entry)) (now («stops_table» .exit)) ⌝ }
     ensures { λ r. ⌜ Ordered 2 (now (routes .entry)) (r .routes) (now («routes_table» .entry)) (now («routes_table» .exit)) ⌝ }
-    ensures { λ r. ⌜ Ordered 3 (now (calendar .entry)) (r .services) (now («calendar_table» .entry)) (now («calendar_table» .exit)) ⌝ }
+    ensures { λ r. ⌜ OrderedIf 3 (now (calendar .entry)) (r .services) (now («calendar_table» .entry)) (now («calendar_table» .exit)) ⌝ }
     ensures { λ r. ⌜ Ordered 4 (now (trips .entry)) (r .trips) (now («trips_table» .entry)) (now («trips_table» .exit)) ⌝ }
-    ensures { λ _. ⌜ ((e : List ℕ) → Noted (feedOf (now (stops .entry) ∷ now (routes .entry) ∷ now (calendar .entry) ∷ now (trips .entry) ∷ e ∷ [])) (now (marks .exit))) ⌝ }
+    ensures { λ r. ⌜ OrderedIf 6 (now (dates .entry)) (r .dates) (now («dates_table» .entry)) (now («dates_table» .exit)) ⌝ }
+    ensures { λ _. ⌜ ((e : List ℕ) → Noted (feedOf (now (stops .entry) ∷ now (routes .entry) ∷ now (calendar .entry) ∷ now (trips .entry) ∷ e ∷ now (dates .entry) ∷ [])) (now (marks .exit))) ⌝ }
     ensures { λ _. ⌜ ((k i : ℕ) → 9 ≤ k → marked (now (marks .exit)) k i ≡ false) ⌝ }
 {
     Counts {
         stops: placing::order_file(Stops::FILE, stops, stops_table, marks),
         routes: placing::order_file(Routes::FILE, routes, routes_table, marks),
-        services: placing::order_file(Calendar::FILE, calendar, calendar_table, marks),
+        services: placing::order_services(calendar, calendar_table, marks),
         trips: placing::order_file(Trips::FILE, trips, trips_table, marks),
+        dates: placing::order_dates(dates, dates_table, marks),
     }
 }
 
-// The five tables of five files: ids and their orders first, by which references are found, then every record; and the marks.
+// The six tables of six files: ids and their orders first, by which references are found, then every record; and the marks.
 pub fn fill_all(
     stops: &[u8],
     routes: &[u8],
     calendar: &[u8],
     trips: &[u8],
     stop_times: &[u8],
+    dates: &[u8],
     stops_table: &mut [i32],
     routes_table: &mut [i32],
     calendar_table: &mut [i32],
     trips_table: &mut [i32],
     stop_times_table: &mut [i32],
+    dates_table: &mut [i32],
     marks: &mut [u16],
 )
     requires { ⌜ Room 1 (now stops) (now «stops_table») ⌝ }
     requires { ⌜ Room 2 (now routes) (now «routes_table») ⌝ }
-    requires { ⌜ Room 3 (now calendar) (now «calendar_table») ⌝ }
+    requires { ⌜ Fits 3 (now calendar) (now «calendar_table») ⌝ }
     requires { ⌜ Room 4 (now trips) (now «trips_table») ⌝ }
     requires { ⌜ Room 5 (now «stop_times») (now «stop_times_table») ⌝ }
+    requires { ⌜ Fits 6 (now dates) (now «dates_table») ⌝ }
     requires { ⌜ Blank (now marks) × (maxLines ≤ length (now marks)) ⌝ }
-    ensures { λ _. ⌜ now («stops_table» .exit) ≡ filled 1 (feedOf (now (stops .entry) ∷ now (routes .entry) ∷ now (calendar .entry) ∷ now (trips .entry) ∷ now («stop_times» .entry) ∷ []))
+    ensures { λ _. ⌜ now («stops_table» .exit) ≡ filled 1 (feedOf (now (stops .entry) ∷ now (routes .entry) ∷ now (calendar .entry) ∷ now (trips .entry) ∷ now («stop_times» .entry) ∷ now (dates .entry) ∷ []))
         (now (stops .entry)) (now («stops_table» .entry)) ⌝ }
-    ensures { λ _. ⌜ now («routes_table» .exit) ≡ filled 2 (feedOf (now (stops .entry) ∷ now (routes .entry) ∷ now (calendar .entry) ∷ now (trips .entry) ∷ now («stop_times» .entry) ∷ []))
+    ensures { λ _. ⌜ now («routes_table» .exit) ≡ filled 2 (feedOf (now (stops .entry) ∷ now (routes .entry) ∷ now (calendar .entry) ∷ now (trips .entry) ∷ now («stop_times» .entry) ∷ now (dates .entry) ∷ []))
         (now (routes .entry)) (now («routes_table» .entry)) ⌝ }
-    ensures { λ _. ⌜ now («calendar_table» .exit) ≡ filled 3 (feedOf (now (stops .entry) ∷ now (routes .entry) ∷ now (calendar .entry) ∷ now (trips .entry) ∷ now («stop_times» .entry) ∷ []))
+    ensures { λ _. ⌜ now («calendar_table» .exit) ≡ filled 3 (feedOf (now (stops .entry) ∷ now (routes .entry) ∷ now (calendar .entry) ∷ now (trips .entry) ∷ now («stop_times» .entry) ∷ now (dates .entry) ∷ []))
         (now (calendar .entry)) (now («calendar_table» .entry)) ⌝ }
-    ensures { λ _. ⌜ now («trips_table» .exit) ≡ filled 4 (feedOf (now (stops .entry) ∷ now (routes .entry) ∷ now (calendar .entry) ∷ now (trips .entry) ∷ now («stop_times» .entry) ∷ []))
+    ensures { λ _. ⌜ now («trips_table» .exit) ≡ filled 4 (feedOf (now (stops .entry) ∷ now (routes .entry) ∷ now (calendar .entry) ∷ now (trips .entry) ∷ now («stop_times» .entry) ∷ now (dates .entry) ∷ []))
         (now (trips .entry)) (now («trips_table» .entry)) ⌝ }
-    ensures { λ _. ⌜ now («stop_times_table» .exit) ≡ filled 5 (feedOf (now (stops .entry) ∷ now (routes .entry) ∷ now (calendar .entry) ∷ now (trips .entry) ∷ now («stop_times» .entry) ∷ []))
+    ensures { λ _. ⌜ now («stop_times_table» .exit) ≡ filled 5 (feedOf (now (stops .entry) ∷ now (routes .entry) ∷ now (calendar .entry) ∷ now (trips .entry) ∷ now («stop_times» .entry) ∷ now (dates .entry) ∷ []))
         (now («stop_times» .entry)) (now («stop_times_table» .entry)) ⌝ }
-    ensures { λ _. ⌜ Noted (feedOf (now (stops .entry) ∷ now (routes .entry) ∷ now (calendar .entry) ∷ now (trips .entry) ∷ now («stop_times» .entry) ∷ [])) (now (marks .exit)) ⌝ }
-    ensures { λ _. ⌜ TripsNoted (feedOf (now (stops .entry) ∷ now (routes .entry) ∷ now (calendar .entry) ∷ now (trips .entry) ∷ now («stop_times» .entry) ∷ [])) (now (marks .exit)) ⌝ }
+    ensures { λ _. ⌜ now («dates_table» .exit) ≡ filled 6 (feedOf (now (stops .entry) ∷ now (routes .entry) ∷ now (calendar .entry) ∷ now (trips .entry) ∷ now («stop_times» .entry) ∷ now (dates .entry) ∷ []))
+        (now (dates .entry)) (now («dates_table» .entry)) ⌝ }
+    ensures { λ _. ⌜ Noted (feedOf (now (stops .entry) ∷ now (routes .entry) ∷ now (calendar .entry) ∷ now (trips .entry) ∷ now («stop_times» .entry) ∷ now (dates .entry) ∷ [])) (now (marks .exit)) ⌝ }
+    ensures { λ _. ⌜ TripsNoted (feedOf (now (stops .entry) ∷ now (routes .entry) ∷ now (calendar .entry) ∷ now (trips .entry) ∷ now («stop_times» .entry) ∷ now (dates .entry) ∷ [])) (now (marks .exit)) ⌝ }
 {
     let n = order_all(
         stops,
         routes,
         calendar,
         trips,
+        dates,
         stops_table,
         routes_table,
         calendar_table,
         trips_table,
+        dates_table,
         marks,
     );
     parents::settle_parents(stops, n.stops, stops_table);
+    services::settle_services(trips, n.trips, trips_table, dates, dates_table, n.dates);
     times::fill_times(
         stop_times,
         stop_times_table,
@@ -253,8 +302,7 @@ pub fn fill_all(
         n.stops,
         marks,
     );
-    fill(
-        Trips::FILE,
+    fill_trips(
         trips,
         trips_table,
         routes,
@@ -264,6 +312,7 @@ pub fn fill_all(
         calendar_table,
         n.services,
     );
+    fill_alone(Dates::FILE, dates, dates_table);
     fill_alone(Calendar::FILE, calendar, calendar_table);
     fill_alone(Routes::FILE, routes, routes_table);
     fill_alone(Stops::FILE, stops, stops_table);

@@ -1,12 +1,15 @@
 // The parents of stops, once every stop's id is in the table and in its order.
-ghost use Prim.Native.Nat.{_+_, _*_, _≤_};
+ghost use mathlib.Core.List.{List};
+ghost use Prim.Native.Nat.{ℕ, _+_, _*_, _≤_};
 ghost use Rattle.meaning.specs.Bytes.{part, value};
 ghost use Rattle.meaning.specs.Refusals.{maxBytes};
 ghost use Rattle.rows.specs.Cells.{boundsAt};
+ghost use Rattle.ordering.specs.Cells.{KeptAt};
 ghost use Rattle.ordering.specs.Ids.{Placed, Arranged};
 ghost use Rattle.seeking.specs.First.{First, names};
 ghost use Rattle.memo.specs.Memo.{Ready};
-ghost use Rattle.tables.specs.Walk.{Settled};
+ghost use Rattle.records.specs.Refers.{Lists};
+ghost use Rattle.tables.specs.Walk.{Named};
 use rows::StopRow;
 use rows::Stops;
 
@@ -24,7 +27,8 @@ fn waiting_parent(s: &[u8], t: &[i32], n: usize, row: StopRow, memo: &mut [u32])
 // Each stop's parent, number 5 of its record, behind a memo.
 fn settle_with(s: &[u8], n: usize, t: &mut [i32], memo: &mut [u32])
     requires { ⌜ Ready (now s) (now t) 6 n (now memo) × (n ≤ maxBytes) ⌝ }
-    ensures { λ _. ⌜ Settled (now (s .entry)) n (now (t .entry)) (now (t .exit)) ⌝ }
+    ensures { λ _. ⌜ KeptAt 5 6 n (now (t .entry)) (now (t .exit)) ⌝ }
+    ensures { λ _. ⌜ ((ids : List (List ℕ)) → Lists (now (s .entry)) (now (t .entry)) 6 n ids → Named 6 (now (s .entry)) (n + 1) ids (now (t .entry)) (now (t .exit))) ⌝ }
 {
     let mut r = 1;
     while r <= n {
@@ -37,7 +41,8 @@ fn settle_with(s: &[u8], n: usize, t: &mut [i32], memo: &mut [u32])
 // Each stop's parent, number 5 of its record.
 pub fn settle_parents(s: &[u8], n: usize, t: &mut [i32])
     requires { ⌜ Placed (now s) (now t) 6 n × (Arranged (now s) 6 n (now t) × (n ≤ maxBytes)) ⌝ }
-    ensures { λ _. ⌜ Settled (now (s .entry)) n (now (t .entry)) (now (t .exit)) ⌝ }
+    ensures { λ _. ⌜ KeptAt 5 6 n (now (t .entry)) (now (t .exit)) ⌝ }
+    ensures { λ _. ⌜ ((ids : List (List ℕ)) → Lists (now (s .entry)) (now (t .entry)) 6 n ids → Named 6 (now (s .entry)) (n + 1) ids (now (t .entry)) (now (t .exit))) ⌝ }
 {
     let mut memo = memo::blank();
     settle_with(s, n, t, &mut memo);

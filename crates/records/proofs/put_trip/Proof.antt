@@ -1,7 +1,8 @@
 -- `records::put_trip` meets its contract.
 use Rattle.records.proofs.LineRecords.{trip-record}
-use Rattle.records.proofs.Readings.{put-as, referred}
+use Rattle.records.proofs.Readings.{referred}
 use Rattle.num.proofs.Laws.{kept-is}
+use mathlib.Core.Path.{_∙_}
 use Prim.Native.Nat.{_-_}
 use native.Mathlib.Omega.{arith}
 use borrow.Author.Needs.{needs}
@@ -36,7 +37,7 @@ put-requires : tie.Need-put-requires
 put-requires c κs =
     let s = c .before .before .before .before .before .before .before .before .before .before .before .before .before .before .before .before .before .before .before .before .pre in
     let i = c .before .before .before .before .field-place .ensures .1 in
-    (s .0 .1, (omega (arith, i .0), (omega (arith, i .1), (omega (arith, c .before .before .before .before .before .before .before .before .before .before .before .before .find-route .ensures .1 .0, s .1 .0 .0), (omega (arith, c .before .before .before .before .before .before .before .find-service .ensures .1 .0, s .1 .0 .1), (omega (arith, c .before .before .choice-or-zero .ensures .1), omega (arith, c .before .choice-or-zero2 .ensures .1)))))))
+    (omega (arith, s .0 .1), (omega (arith, i .0), (omega (arith, i .1), (omega (arith, c .before .before .before .before .before .before .before .before .before .before .before .before .find-route .ensures .1 .0, s .1 .0 .0), (omega (arith, c .before .before .before .before .before .before .before .find-service .ensures .1 .0, s .1 .0 .1), (omega (arith, c .before .before .choice-or-zero .ensures .1), omega (arith, c .before .choice-or-zero2 .ensures .1)))))))
 
 same-length : tie.Need-same-length
 same-length c = search needs
@@ -49,11 +50,13 @@ same-length-3 c = search needs
 
 returns : tie.Need-returns
 returns c =
-    let s = c .before .before .before .before .before .before .before .before .before .before .before .before .before .before .before .before .before .before .before .before .before .before .args in
+    let place = c .before .before .before .before .before .before .before .before .before .before .before .before .before .before .before .before .before .before .before .before .before .before in
+    let s = place .args in
     let i = c .before .before .before .before .before .before .field-place .ensures .0 in
     let d = c .before .before .before .before .before .choice-or-minus in (
-      (λ w ps loc routes services. put-as _ _ _ _ _ (c .before .put .ensures)
-          (trip-record ps (s .l .now) _ (s .q .start) (s .q .end) loc w _ _ _ _ _ _ _ (i .0) (i .1)
+      (λ w ps loc routes services dated.
+          c .before .put .ensures
+          ∙ (trip-record ps (s .l .now) _ (s .q .start) (s .q .end) loc w _ _ _ _ _ _ _ _ _ (place .pre .0 .1) dated (i .0) (i .1)
           (referred _ _ _ _ _ _ _ _ routes (c .before .before .before .before .before .before .before .before .before .before .before .before .before .before .find-route .ensures .0) (c .before .before .before .before .before .before .before .before .before .before .before .before .before .before .before .before .raw .ensures))
           (referred _ _ _ _ _ _ _ _ services (c .before .before .before .before .before .before .before .before .before .find-service .ensures .0) (c .before .before .before .before .before .before .before .before .before .before .before .raw2 .ensures))
           (kept-is _ _ (d .ok) (d .ensures)) (c .before .before .before .before .choice-or-zero .ensures .0) (c .before .before .before .choice-or-zero2 .ensures .0))),

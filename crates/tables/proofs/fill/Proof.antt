@@ -4,7 +4,7 @@ use Rattle.meaning.specs.Bytes.{linesOf}
 use Rattle.records.specs.Waiting.{writtenOf}
 use Rattle.tables.proofs.Turns.{first-room, walk-first}
 use Rattle.records.proofs.References.{sought-blank}
-use Rattle.tables.proofs.Feeds.{parents-zeroed}
+use Rattle.tables.proofs.Feeds.{settled-zeroed}
 use Prim.Native.Nat.{_-_}
 use native.Mathlib.Omega.{arith}
 use borrow.Author.Needs.{needs}
@@ -48,8 +48,8 @@ returns c =
     let s = c .before .before .before .before .before .before .before .before .before .before .before .before .before .before .before .before .before .before in
     let z = rw (c .before .before .before .before .before .before .before .before .before .before .before .before .width-of .ensures) at (c .before .before .before .before .before .before .before .before .before .before .before .zero-record .ensures) in
     let p = c .before .before .before .fill-lines .ensures in (
-      (λ w refs parents.
-          p .0 w (s .args .t .now) refs (parents-zeroed _ w _ _ _ z parents)
+      (λ w refs settled.
+          p .0 w (s .args .t .now) refs (settled-zeroed _ w _ _ _ z settled)
           (walk-first (s .args .f) (writtenOf (s .args .f) w (places (s .args .f) (headerOf (linesOf (s .args .s .now))))) (s .args .s .now) _ _ z)),
       p .1,
     )

@@ -6,12 +6,12 @@ use Rattle.meaning.specs.Tables.{Feed, widthOf}
 use Rattle.text.proofs.Lines.{line-found, line-none}
 use Rattle.text.proofs.Walk.{line-next}
 use Rattle.records.specs.Refers.{Refers, Sought}
-use Rattle.tables.specs.Walk.{Parents, writtenAll, written}
+use Rattle.tables.specs.Walk.{Settled, writtenAll, written}
 use Rattle.records.specs.Waiting.{writtenOf}
 use Rattle.records.proofs.Waiting.{written-wide}
-use Rattle.tables.proofs.Turns.{two-wide, walk-inside, walk-room, walk-count, walk-size, walk-turn, walk-past, walk-end}
+use Rattle.tables.proofs.Turns.{three-wide, walk-inside, walk-room, walk-count, walk-size, walk-turn, walk-past, walk-end}
 use Rattle.tables.proofs.Ids.{row-here}
-use Rattle.tables.proofs.SecondWalk.{parent-here}
+use Rattle.tables.proofs.SecondWalk.{settled-here}
 use mathlib.Core.Path.{_≡_, refl, sym, _∙_}
 use mathlib.Core.List.{List}
 use Prim.Native.Nat.{_≤_, _-_}
@@ -23,7 +23,7 @@ use Rattle.tables.proofs.fill_lines.Statement.{statement}
 use Rattle.tables.proofs.fill_lines.Tie as tie
 
 abbrev Inv-loop : tie.InvT-loop
-Inv-loop f s at known t₀ a a-table a-count a-memo₀ b b-table b-count b-memo₀ here₀ r₀ t a-memo b-memo here r = ((1 ≤ r) × (r ≤ countLf s)) × ((linesFrom s here ≡ drop r (linesOf s)) × (((length t ≡ length t₀) × ((length a-memo ≡ length a-memo₀) × (length b-memo ≡ length b-memo₀))) × (Sought f a a-table a-count a-memo b b-table b-count b-memo × ((w : Feed) (lent : List ℤ) → Refers f w a a-table a-count b b-table b-count → Parents f w s t₀ → t₀ ≡ laid (flat (take 1 (writtenAll f w s))) lent → t ≡ laid (flat (take r (writtenAll f w s))) lent))))
+Inv-loop f s at known t₀ a a-table a-count a-memo₀ b b-table b-count b-memo₀ here₀ r₀ t a-memo b-memo here r = ((1 ≤ r) × (r ≤ countLf s)) × ((linesFrom s here ≡ drop r (linesOf s)) × (((length t ≡ length t₀) × ((length a-memo ≡ length a-memo₀) × (length b-memo ≡ length b-memo₀))) × (Sought f a a-table a-count a-memo b b-table b-count b-memo × ((w : Feed) (lent : List ℤ) → Refers f w a a-table a-count b b-table b-count → Settled f w s t₀ → t₀ ≡ laid (flat (take 1 (writtenAll f w s))) lent → t ≡ laid (flat (take r (writtenAll f w s))) lent))))
 
 abbrev μ-loop : tie.MeasureT-loop
 μ-loop f s at known t₀ a a-table a-count a-memo₀ b b-table b-count b-memo₀ here₀ r₀ t a-memo b-memo here r = length s - here
@@ -61,7 +61,7 @@ add-r c =
     let s = c .before .before .before .before .before .before .before .before .before .before .before .before .before .before .before .before .before .before .before .before in
     let l = c .before .before .before .before .before .before .before .before .before .before .before .before .before .before .loop in
     let h = line-found _ _ _ _ _ (sym (c .before .before .before .before .before .before .before .before .before .before .before .before .before .next-line .ensures) ∙ c .before .before .before .before .before .before .before .before .before .before .before .start .given .1) in
-    omega (arith, walk-count (s .args .s .now) (l .here) (l .r) (l .inv .1 .0) _ _ _ h (widthOf (s .args .f)) _ (omega (arith, two-wide (s .args .f) (s .pre .0 .0) (s .pre .0 .1 .0))) (s .pre .0 .1 .1 .room))
+    omega (arith, walk-count (s .args .s .now) (l .here) (l .r) (l .inv .1 .0) _ _ _ h (widthOf (s .args .f)) _ (omega (arith, three-wide (s .args .f) (s .pre .0 .0) (s .pre .0 .1 .0))) (s .pre .0 .1 .1 .room))
 
 loop-less : tie.Need-loop-less Inv-loop μ-loop
 loop-less c = let h = line-found _ _ _ _ _ (sym (c .before .before .before .before .before .before .before .before .before .before .before .before .before .next-line .ensures) ∙ c .before .before .before .before .before .before .before .before .before .before .before .start .given .1) in omega (arith, h .starts, h .ordered, h .before, h .within)
@@ -87,7 +87,7 @@ loop-again c =
                 let is = l .inv .1 .1 .1 .1 w lent refs parents e in
                 let row = row-here f text (l .here) (l .r) (l .inv .1 .0) _ _ _ h (l .inv .0 .0) in
                 walk-turn text (l .here) (l .r) (l .inv .1 .0) _ _ _ h f (writtenOf f w (places f (headerOf (linesOf text)))) (written-wide f (s .pre .0 .0) (s .pre .0 .1 .0) w _) _ _ lent (l .inv .0 .0) is
-                (p .0 w _ (s .pre .1 .0 .columns) refs (parent-here f text (s .pre .0 .1 .1 .lines) (writtenOf f w (places f (headerOf (linesOf text)))) (written-wide f (s .pre .0 .0) (s .pre .0 .1 .0) w _) w lent _ _ (l .r) _ is e parents (l .inv .0 .0) inside row)),
+                (p .0 w _ (s .pre .1 .0 .columns) refs (settled-here f text (s .pre .0 .1 .1 .lines) (writtenOf f w (places f (headerOf (linesOf text)))) (written-wide f (s .pre .0 .0) (s .pre .0 .1 .0) w _) w lent _ _ (l .r) _ is e parents (l .inv .0 .0) inside row)),
           ),
         ),
       ),

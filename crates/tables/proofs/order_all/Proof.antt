@@ -8,16 +8,19 @@ use Rattle.tables.proofs.order_all.Statement.{statement}
 use Rattle.tables.proofs.order_all.Tie as tie
 
 order-file-requires : tie.Need-order-file-requires
-order-file-requires c κs = let s = c .before .before .before .before .before .before .before .pre .0 in (omega arith, (omega arith, s .0))
+order-file-requires c κs = (omega arith, (omega arith, c .before .before .before .before .before .before .before .before .pre .0 .0))
 
 order-file-requires-2 : tie.Need-order-file-requires-2
-order-file-requires-2 c κs = let s = c .before .before .before .before .before .before .before .before .before .before .before .before .before .pre .0 in (omega arith, (omega arith, s .1 .0))
+order-file-requires-2 c κs = (omega arith, (omega arith, c .before .before .before .before .before .before .before .before .before .before .before .before .before .before .pre .0 .1 .0))
+
+order-services-requires : tie.Need-order-services-requires
+order-services-requires c κs = c .before .before .before .before .before .before .before .before .before .before .before .before .before .before .before .before .before .before .before .before .pre .0 .1 .1 .0
 
 order-file-requires-3 : tie.Need-order-file-requires-3
-order-file-requires-3 c κs = let s = c .before .before .before .before .before .before .before .before .before .before .before .before .before .before .before .before .before .before .before .pre .0 in (omega arith, (omega arith, s .1 .1 .0))
+order-file-requires-3 c κs = (omega arith, (omega arith, c .before .before .before .before .before .before .before .before .before .before .before .before .before .before .before .before .before .before .before .before .before .before .before .before .before .before .pre .0 .1 .1 .1 .0))
 
-order-file-requires-4 : tie.Need-order-file-requires-4
-order-file-requires-4 c κs = let s = c .before .before .before .before .before .before .before .before .before .before .before .before .before .before .before .before .before .before .before .before .before .before .before .before .before .pre .0 in (omega arith, (omega arith, s .1 .1 .1))
+order-dates-requires : tie.Need-order-dates-requires
+order-dates-requires c κs = c .before .before .before .before .before .before .before .before .before .before .before .before .before .before .before .before .before .before .before .before .before .before .before .before .before .before .before .before .before .before .before .before .pre .0 .1 .1 .1 .1
 
 same-length : tie.Need-same-length
 same-length c = search needs
@@ -34,13 +37,17 @@ same-length-4 c = search needs
 same-length-5 : tie.Need-same-length-5
 same-length-5 c = search needs
 
+same-length-6 : tie.Need-same-length-6
+same-length-6 c = search needs
+
 returns : tie.Need-returns
 returns c =
-    let s = c .before .before .before .before .before .before .before .before .before .before .before .before .before .before .before .before .before .before .before .before .before .before .before .before .before .before .before .before .before .pre in
-    let a = c .before .before .before .before .before .before .before .before .before .before .before .before .before .before .before .before .before .before .before .before .before .order-file .ensures in
-    let b = c .before .before .before .before .before .before .before .before .before .before .before .before .before .before .before .order-file2 .ensures in
-    let d = c .before .before .before .before .before .before .before .before .before .order-file3 .ensures in
-    let e = c .before .before .before .order-file4 .ensures in (
+    let s = c .before .before .before .before .before .before .before .before .before .before .before .before .before .before .before .before .before .before .before .before .before .before .before .before .before .before .before .before .before .before .before .before .before .before .before .before .pre in
+    let a = c .before .before .before .before .before .before .before .before .before .before .before .before .before .before .before .before .before .before .before .before .before .before .before .before .before .before .before .order-file .ensures in
+    let b = c .before .before .before .before .before .before .before .before .before .before .before .before .before .before .before .before .before .before .before .before .before .order-file2 .ensures in
+    let d = c .before .before .before .before .before .before .before .before .before .before .before .before .before .before .before .order-services .ensures in
+    let e = c .before .before .before .before .before .before .before .before .before .order-file3 .ensures in
+    let g = c .before .before .before .order-dates .ensures in (
       a .0,
       (
         b .0,
@@ -49,8 +56,11 @@ returns c =
           (
             e .0,
             (
-              (λ times. noted-all _ _ _ _ times _ _ _ _ _ (a .1) (b .1) (d .1) (e .1) (s .1 .0) (s .1 .1) (s .0 .0 .few, (s .0 .1 .0 .few, (s .0 .1 .1 .0 .few, s .0 .1 .1 .1 .few)))),
-              none-told _ _ _ _ [] _ _ _ _ _ (a .1) (b .1) (d .1) (e .1) (s .1 .0) (s .1 .1) (s .0 .0 .few, (s .0 .1 .0 .few, (s .0 .1 .1 .0 .few, s .0 .1 .1 .1 .few))),
+              g .0,
+              (
+                (λ times. noted-all _ _ _ _ times _ _ _ _ _ _ _ (a .1) (b .1) (d .1) (e .1) (g .1) (s .1 .0) (s .1 .1) (s .0 .0 .few, (s .0 .1 .0 .few, (s .0 .1 .1 .0 .few, (s .0 .1 .1 .1 .0 .few, s .0 .1 .1 .1 .1 .few))))),
+                none-told _ _ _ _ [] _ _ _ _ _ _ _ (a .1) (b .1) (d .1) (e .1) (g .1) (s .1 .0) (s .1 .1) (s .0 .0 .few, (s .0 .1 .0 .few, (s .0 .1 .1 .0 .few, (s .0 .1 .1 .1 .0 .few, s .0 .1 .1 .1 .1 .few)))),
+              ),
             ),
           ),
         ),
@@ -63,11 +73,13 @@ order-all-spec =
     (tie.spec
     order-file-requires
     order-file-requires-2
+    order-services-requires
     order-file-requires-3
-    order-file-requires-4
+    order-dates-requires
     same-length
     same-length-2
     same-length-3
     same-length-4
     same-length-5
+    same-length-6
     returns)

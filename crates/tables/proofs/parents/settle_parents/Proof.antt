@@ -18,7 +18,7 @@ same-length : tie.Need-same-length
 same-length c = search needs
 
 returns : tie.Need-returns
-returns c = search needs
+returns c = c .before .before .settle-with .ensures
 
 pub settle-parents-spec : {M : Type 1} → statement M
 settle-parents-spec =

@@ -7,7 +7,7 @@ use Rattle.text.proofs.Lines.{line-found, line-none}
 use Rattle.text.proofs.Walk.{line-next}
 use Rattle.tables.specs.Walk.{placing, placedOf}
 use Rattle.tables.specs.Noting.{noted, noteMark, Telling}
-use Rattle.tables.proofs.Turns.{two-wide, walk-inside, walk-room, walk-count, walk-size, walk-turn, walk-past, walk-end}
+use Rattle.tables.proofs.Turns.{eight-wide, three-wide, walk-inside, walk-room, walk-count, walk-size, walk-turn, walk-past, walk-end}
 use Rattle.tables.proofs.Written.{placing-wide}
 use Rattle.tables.proofs.Ids.{row-here}
 use Rattle.tables.proofs.Marking.{telling-start, telling-turn}
@@ -63,7 +63,7 @@ add-r c =
     let s = c .before .before .before .before .before .before .before .before .before .before .before .before .before .before in
     let l = c .before .before .before .before .before .before .before .before .before .before .before .loop in
     let h = line-found _ _ _ _ _ (sym (c .before .before .before .before .before .before .before .before .before .before .next-line .ensures) ∙ c .before .before .before .before .before .before .before .before .start .given .1) in
-    omega (arith, walk-count (s .args .s .now) (l .here) (l .r) (l .inv .1 .0) _ _ _ h (widthOf (s .args .f)) _ (omega (arith, two-wide (s .args .f) (s .pre .0 .0) (omega (arith, s .pre .0 .1 .0)))) (s .pre .0 .1 .1 .room))
+    omega (arith, walk-count (s .args .s .now) (l .here) (l .r) (l .inv .1 .0) _ _ _ h (widthOf (s .args .f)) _ (omega (arith, three-wide (s .args .f) (s .pre .0 .0) (s .pre .0 .1 .0))) (s .pre .0 .1 .1 .room))
 
 loop-less : tie.Need-loop-less Inv-loop μ-loop
 loop-less c = let h = line-found _ _ _ _ _ (sym (c .before .before .before .before .before .before .before .before .before .before .next-line .ensures) ∙ c .before .before .before .before .before .before .before .before .start .given .1) in omega (arith, h .starts, h .ordered, h .before, h .within)
@@ -83,7 +83,7 @@ loop-again c =
           omega arith,
           (
             (λ lent e.
-                walk-turn (s .args .s .now) (l .here) (l .r) (l .inv .1 .0) _ _ _ h f (placing f (places f (headerOf (linesOf (s .args .s .now))))) (placing-wide f (s .pre .0 .0) (s .pre .0 .1 .0) _) _ _ lent (l .inv .0 .0) (l .inv .1 .1 .1 .0 lent e) (put .0)),
+                walk-turn (s .args .s .now) (l .here) (l .r) (l .inv .1 .0) _ _ _ h f (placing f (places f (headerOf (linesOf (s .args .s .now))))) (λ x. placing-wide f _ x (eight-wide f)) _ _ lent (l .inv .0 .0) (l .inv .1 .1 .1 .0 lent e) (put .0)),
             telling-turn _ _ _ (l .r) _ _ (l .inv .0 .0) (l .inv .1 .1 .1 .1) (rw (row-here f (s .args .s .now) (l .here) (l .r) (l .inv .1 .0) _ _ _ h (l .inv .0 .0)) at (put .1)),
           ),
         ),
@@ -110,7 +110,7 @@ returns c =
     let none = line-none _ _ (sym (c .before .before .next-line .ensures) ∙ c .enum-told .given .1) in
     let past = walk-past (s .args .s .now) (l .here) (l .r) (l .inv .1 .0) none in
     let all : l .r ≡ countLf (s .args .s .now) = omega (arith, past, l .inv .0 .1) in (
-      (λ lent e. walk-end (s .args .s .now) (l .here) (l .r) (l .inv .1 .0) f (placing f (places f (headerOf (linesOf (s .args .s .now))))) (placing-wide f (s .pre .0 .0) (s .pre .0 .1 .0) _) _ lent (s .pre .0 .1 .1 .lines) none (l .inv .1 .1 .1 .0 lent e)),
+      (λ lent e. walk-end (s .args .s .now) (l .here) (l .r) (l .inv .1 .0) f (placing f (places f (headerOf (linesOf (s .args .s .now))))) (λ x. placing-wide f _ x (eight-wide f)) _ lent (s .pre .0 .1 .1 .lines) none (l .inv .1 .1 .1 .0 lent e)),
       (rw all at (l .inv .1 .1 .1 .1), omega (arith, all, l .inv .0 .0)),
     )
 

@@ -1,6 +1,8 @@
 -- `tables::times::fill_times` meets its contract.
 use Rattle.meaning.specs.Tables.{widths, widthOf}
 use Rattle.tables.proofs.TripLines.{trip-count, trips-noted}
+use Rattle.records.specs.Waiting.{waits}
+use Rattle.tables.proofs.Feeds.{settled-none}
 use mathlib.Core.Path.{refl, _∙_}
 use Prim.Native.Nat.{_-_}
 use native.Mathlib.Omega.{arith}
@@ -33,13 +35,13 @@ same-length-2 : tie.Need-same-length-2
 same-length-2 c = c .before .before .before .before .before .before .mark-times .kept .1 .1 .1 .0
 
 returns : tie.Need-returns
-unfolding widthOf widths
+unfolding widthOf widths waits
 returns c =
     let s = c .before .before .before .before .before .before .before .before .before .before .before .before .before .before .before .before in
     let x = c .before .before .before .before .before .before .before .before .before .before .fill .ensures in
     let y = c .before .before .before .before .before .before .mark-times .ensures in (
       (λ w own refs.
-          let is = x .0 w refs (λ p. absurd (omega arith)) in (
+          let is = x .0 w refs (settled-none 5 w _ _ refl) in (
             c .before .settle-times .ensures w _ _ (x .1) (omega (arith, s .pre .0 .0 .room)) (rw is at (y .0)),
             trips-noted w _ _ (s .pre .0 .0 .lines) own _ (x .1) _ (rw is at (y .1 .0)) (omega (arith, refs .trips refl .count, trip-count w, y .1 .1 .0, s .pre .1 .1 .0 .1)),
           )),

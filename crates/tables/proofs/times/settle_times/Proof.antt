@@ -1,10 +1,10 @@
 -- `tables::times::settle_times` meets its contract.
 use Rattle.meaning.specs.Lists.{flat, laid}
 use Rattle.meaning.specs.Bytes.{countLf}
-use Rattle.meaning.specs.Tables.{Feed, recordsOf}
+use Rattle.meaning.specs.Tables.{Feed}
 use Rattle.ordering.specs.Cells.{KeptAt}
 use Rattle.tables.specs.Walk.{written}
-use Rattle.tables.proofs.Waits.{settle-start, settle-turn, settle-end}
+use Rattle.tables.proofs.Waits.{recordTable, settle-start, settle-turn, settle-end}
 use mathlib.Core.Path.{_≡_, refl, _∙_}
 use mathlib.Core.List.{List}
 use Prim.Native.Nat.{ℕ, _≤_, _-_, _+_, _*_}
@@ -15,7 +15,7 @@ use Rattle.tables.proofs.times.settle_times.Statement.{statement}
 use Rattle.tables.proofs.times.settle_times.Tie as tie
 
 abbrev Inv-loop : tie.InvT-loop
-Inv-loop t₀ n r₀ t r = ((1 ≤ r) × (r ≤ n + 1)) × ((length t ≡ length t₀) × ((w : Feed) (s : List ℕ) (lent : List ℤ) → n + 1 ≡ countLf s → countLf s * 8 ≤ length lent → KeptAt 7 8 n (written 5 w s lent) t₀ → t ≡ laid (flat (take r (recordsOf 5 w s))) t₀))
+Inv-loop t₀ n r₀ t r = ((1 ≤ r) × (r ≤ n + 1)) × ((length t ≡ length t₀) × ((w : Feed) (s : List ℕ) (lent : List ℤ) → n + 1 ≡ countLf s → countLf s * 8 ≤ length lent → KeptAt 7 8 n (written 5 w s lent) t₀ → t ≡ laid (flat (take r (recordTable w s))) t₀))
 
 abbrev μ-loop : tie.MeasureT-loop
 μ-loop t₀ n r₀ t r = n + 1 - r
