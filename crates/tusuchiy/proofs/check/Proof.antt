@@ -14,7 +14,7 @@ enum-told : tie.Need-enum-told
 enum-told c = search needs
 
 checked-requires : tie.Need-checked-requires
-checked-requires c κs = sym (c .before .before .before .before .before .before .before .before .verdict .ensures) ∙ c .before .before .before .before .before .before .enum-told .given .1
+checked-requires c κs = sym (c .before .before .before .before .before .before .before .before .before .verdict .ensures) ∙ c .before .before .before .before .before .before .before .enum-told .given .1
 
 enum-known-r : tie.Need-enum-known-r
 enum-known-r c = search needs
@@ -37,8 +37,14 @@ same-length-5 c = search needs
 same-length-6 : tie.Need-same-length-6
 same-length-6 c = search needs
 
+same-length-7 : tie.Need-same-length-7
+same-length-7 c = search needs
+
 returns : tie.Need-returns
-returns c = (outcome-readable _ _ _ _ _ (sym (c .before .before .before .before .before .before .before .before .before .before .before .before .before .before .before .verdict .ensures) ∙ c .before .before .before .before .before .before .before .before .before .before .before .before .before .enum-told .given .1) (c .before .before .before .before .before .before .checked .ensures .0), c .before .before .before .before .before .before .checked .ensures .1)
+returns c =
+    let read = sym (c .before .before .before .before .before .before .before .before .before .before .before .before .before .before .before .before .before .verdict .ensures) ∙ c .before .before .before .before .before .before .before .before .before .before .before .before .before .before .before .enum-told .given .1 in
+    let k = c .before .before .before .before .before .before .before .checked .ensures in
+    (outcome-readable _ _ _ _ _ read (k .0), k .1)
 
 returns-2 : tie.Need-returns-2
 returns-2 c =
@@ -59,5 +65,6 @@ check-spec =
     same-length-4
     same-length-5
     same-length-6
+    same-length-7
     returns
     returns-2)

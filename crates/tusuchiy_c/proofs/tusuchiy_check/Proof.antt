@@ -33,11 +33,14 @@ same-length-5 c = search needs
 same-length-6 : tie.Need-same-length-6
 same-length-6 c = search needs
 
+same-length-7 : tie.Need-same-length-7
+same-length-7 c = search needs
+
 returns : tie.Need-returns
 returns c =
-    let k = c .before .before .before .before .before .before .before .check .ensures .0 in
-    let z = c .before .before .before .before .before .before .before .before .before .before .before .before .before .before .before .before .before .before .before .before in
-    let is = simp (toZ-ofZ w32 (z .args .after-file) (z .fits .after-file), toZ-ofZ w32 (z .args .after-line) (z .fits .after-line), toZ-ofZ w32 (z .args .after-rule) (z .fits .after-rule)) at (c .before .before .before .before .before .before .before .before .before .before .before .before .before .before .place-of .ensures) in
+    let k = c .before .before .before .before .before .before .before .before .check .ensures .0 in
+    let z = c .before .before .before .before .before .before .before .before .before .before .before .before .before .before .before .before .before .before .before .before .before .before .before in
+    let is = simp (toZ-ofZ w32 (z .args .after-file) (z .fits .after-file), toZ-ofZ w32 (z .args .after-line) (z .fits .after-line), toZ-ofZ w32 (z .args .after-rule) (z .fits .after-rule)) at (c .before .before .before .before .before .before .before .before .before .before .before .before .before .before .before .before .place-of .ensures) in
     (told-answer _ _ _ _ _ _ is k _ (c .told .ensures), (told-tables _ _ _ _ _ _ is k, told-list _ _ _ _ _ _ is k))
 
 pub tusuchiy-check-spec : {M : Type 1} → statement M
@@ -53,4 +56,5 @@ tusuchiy-check-spec =
     same-length-4
     same-length-5
     same-length-6
+    same-length-7
     returns)
