@@ -83,13 +83,19 @@ def compare_cards(browser, case, wanted):
         compare_marks(case, card, found)
 
 
+# The value of a field.
+def unquoted(field):
+    return field[1:-1].replace('""', '"') if field.startswith('"') else field
+
+
 # What is marked stands in the finding's own columns.
 def compare_marks(case, card, found):
     columns = {20: 1, 21: 1, 22: 1, 23: 1, 24: 2, 26: 2, 27: 2, 28: 1, 29: 1, 30: 1, 31: 1, 5: 1, 6: 1, 8: 1, 11: 1, 12: 1, 13: 1}
     holds(f"{case.name}: marks of {card}", len(card["marks"]) >= columns.get(number(found), 0))
     about = found["about"]
-    if number(found) in (20, 11, 13):
-        same(f"{case.name}: mark", card["marks"][0][1].strip('"'), about["value"])
+    # What can't be printed is shown as an escape.
+    if number(found) in (20, 11, 13) and about["value"].isprintable():
+        same(f"{case.name}: mark", unquoted(card["marks"][0][1]), about["value"])
     if "date" in about:
         same(f"{case.name}: mark of the date", card["marks"][1:], [["date", about["date"]]])
     if number(found) == 24:

@@ -105,8 +105,8 @@ typedef struct {
  * A refusal leaves all tables and the list as they were.
  *
  * What you owe: each pointer is valid for its length, aligned, and not NULL, even where the length is 0, as of a file
- * that isn't supplied and of its table; no table and no list overlaps another or a file; nobody else writes any of them during the call. Nothing else is asked of
- * the contents, and no call fails otherwise.
+ * that isn't supplied and of its table; no table and no list overlaps another or a file; nobody else writes any of them
+ * during the call. Nothing else is asked of the contents, and no call fails otherwise.
  *
  * The call keeps nothing: it allocates no memory, opens no file, holds no state between calls, so several threads may
  * call it at a time on memory of their own. A call uses at most 4 MiB of stack. */

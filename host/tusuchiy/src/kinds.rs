@@ -17,29 +17,27 @@ pub enum File {
     CalendarDates,
 }
 
-/// A file with its name, the width of its table, and whether a feed may lack it.
-type Known = (File, &'static str, usize, bool);
+/// What is known of a file: its name, the width of its table, and whether a feed may lack it.
+struct Known {
+    name: &'static str,
+    width: usize,
+    may_be_missing: bool,
+}
 
 /// All that differs from file to file, in the order of their numbers.
 const KNOWN: [Known; FILES] = [
-    (File::Stops, "stops.txt", 6, false),
-    (File::Routes, "routes.txt", 3, false),
-    (File::Calendar, "calendar.txt", 5, true),
-    (File::Trips, "trips.txt", 8, false),
-    (File::StopTimes, "stop_times.txt", 8, false),
-    (File::CalendarDates, "calendar_dates.txt", 4, true),
+    Known { name: "stops.txt", width: 6, may_be_missing: false },
+    Known { name: "routes.txt", width: 3, may_be_missing: false },
+    Known { name: "calendar.txt", width: 5, may_be_missing: true },
+    Known { name: "trips.txt", width: 8, may_be_missing: false },
+    Known { name: "stop_times.txt", width: 8, may_be_missing: false },
+    Known { name: "calendar_dates.txt", width: 4, may_be_missing: true },
 ];
 
 impl File {
     /// In the order of their numbers.
-    pub const ALL: [File; FILES] = {
-        let (mut all, mut place) = ([File::Stops; FILES], 0);
-        while place < FILES {
-            all[place] = KNOWN[place].0;
-            place += 1;
-        }
-        all
-    };
+    pub const ALL: [File; FILES] =
+        [File::Stops, File::Routes, File::Calendar, File::Trips, File::StopTimes, File::CalendarDates];
 
     /// The file with this number, 1 to 6.
     #[must_use]
@@ -56,19 +54,19 @@ impl File {
     /// Its name in a feed.
     #[must_use]
     pub const fn name(self) -> &'static str {
-        KNOWN[self.number() - 1].1
+        KNOWN[self.number() - 1].name
     }
 
     /// How many numbers one of its records has in its table.
     #[must_use]
     pub const fn width(self) -> usize {
-        KNOWN[self.number() - 1].2
+        KNOWN[self.number() - 1].width
     }
 
     /// A feed may lack it, which is to lend it as no bytes; but of the files of which this is true it needs one.
     #[must_use]
     pub const fn may_be_missing(self) -> bool {
-        KNOWN[self.number() - 1].3
+        KNOWN[self.number() - 1].may_be_missing
     }
 }
 
