@@ -3,10 +3,10 @@ import math
 import os
 import random
 
-NAMES = ["stops.txt", "routes.txt", "calendar.txt", "trips.txt", "stop_times.txt"]
+NAMES = ["stops.txt", "routes.txt", "calendar.txt", "trips.txt", "stop_times.txt", "calendar_dates.txt"]
 
 
-# Writes the five files, given as lists of lines (text or bytes), and gives the folder.
+# Writes the files, given as lists of lines (text or bytes), and gives the folder; the sixth may be left out.
 def put(folder, *files):
     os.makedirs(folder)
     for name, lines in zip(NAMES, files):
@@ -59,7 +59,8 @@ def town(folder):
                     at += 1500
     trips.append("R1,W,L1-9")
     routes = ["route_id,route_short_name,route_long_name,route_type", "R0,1,North line,0", "R1,2,,0", "R2,,,3"]
-    return put(folder, stops, routes, CALENDAR + [WEEK, "H,0,0,0,0,0,1,1,20261231,20260101"], trips, times)
+    dates = ["service_id,date,exception_type", "W,20261225,2", "H,20261225,1", "W,20261226,2", "W,20261225,1"]
+    return put(folder, stops, routes, CALENDAR + [WEEK, "H,0,0,0,0,0,1,1,20261231,20260101"], trips, times, dates)
 
 
 # Every line of stop_times but the last ones has a finding: 65,000 in all, on 32,500 trips of two lines.
@@ -103,7 +104,8 @@ def hostile(folder):
     # What isn't UTF-8.
     stops.append(b"\xff\xfe<b>,\xc3,1,1,1,\x80")
     trips.append(b"\xff,W,\xed\xa0\x80<i>")
-    put(folder, stops, routes, CALENDAR + [WEEK], trips, times)
+    dates = ["service_id,date,exception_type"] + [f"{quoted(value + '.')},20260101,{kind}" for value in MARKUP for kind in [1, 2]]
+    put(folder, stops, routes, CALENDAR + [WEEK], trips, times, dates)
     open(os.path.join(folder, "<svg onload=window.broken=1>.txt"), "w").close()
     return folder
 

@@ -90,6 +90,8 @@ def compare_marks(case, card, found):
     about = found["about"]
     if number(found) in (20, 11, 13):
         same(f"{case.name}: mark", card["marks"][0][1].strip('"'), about["value"])
+    if "date" in about:
+        same(f"{case.name}: mark of the date", card["marks"][1:], [["date", about["date"]]])
     if number(found) == 24:
         same(f"{case.name}: marks", [text for _, text in card["marks"]], [about["start_date"], about["end_date"]])
     if number(found) == 28:
@@ -140,9 +142,11 @@ def compare_head(browser, case):
     if document["totals"]:
         same(f"{case.name}: totals of the document", [[one["rule"], one["count"]] for one in document["totals"]], sorted(map(list, counts.items())))
     records = browser.value("[...document.querySelectorAll('#read tbody tr')].map((row) => row.cells[1].textContent)")
-    same(f"{case.name}: records", records, [f"{count:,}" for count in document["records"] or []] or [""] * 5)
+    # The feeds that are refused here have no calendar_dates.txt.
+    shown = ["not supplied" if count is None else f"{count:,}" for count in document["records"] or []]
+    same(f"{case.name}: records", records, shown or [""] * 5 + ["not supplied"])
     line = browser.value("document.getElementById('records')?.textContent ?? ''")
-    wanted = ", ".join(f"{name} {count:,}" for name, count in zip(feeds.NAMES, document["records"] or []))
+    wanted = ", ".join(f"{name} {count}" for name, count in zip(feeds.NAMES, shown))
     same(f"{case.name}: records in a line", line, f"Records read: {wanted}. More" if wanted else "")
 
 
@@ -365,7 +369,7 @@ def main():
             getattr(feeds, name)(os.path.join(folder, name))
         feeds.hostile(os.path.join(folder, feeds.HOSTILE_NAME))
         large_case = Case(folder, "many", "many", plain=True)
-        cases = {name: Case(folder, name, os.path.join(TOP, "examples", name)) for name in ["feed", "findings", "refused"]}
+        cases = {name: Case(folder, name, os.path.join(TOP, "examples", name)) for name in ["feed", "findings", "refused", "by-date"]}
         cases.update({name: Case(folder, name, name) for name in ["town", "hostile_refused", "shuffled"]})
         cases["hostile"] = Case(folder, "hostile", feeds.HOSTILE_NAME)
         browser = Browser()
@@ -396,7 +400,7 @@ def main():
             picture(browser, cases["town"])
         finally:
             browser.close()
-    print("report: three examples, a town, hostile feeds and 65,000 findings show in a browser what the JSON document says", flush=True)
+    print("report: four examples, a town, hostile feeds and 65,000 findings show in a browser what the JSON document says", flush=True)
 
 
 main()

@@ -1,5 +1,6 @@
-/* embed.c: the check called from C. It reads the five files of a feed and prints the verdict and all findings. */
+/* embed.c: the check called from C. It reads the six files of a feed and prints the verdict and all findings. */
 #define _POSIX_C_SOURCE 200809L
+#include <errno.h>
 #include <fcntl.h>
 #include <stdio.h>
 #include <stdlib.h>
@@ -8,9 +9,21 @@
 
 #include "tusuchiy.h"
 
-static const char *const NAMES[5] = {"stops.txt", "routes.txt", "calendar.txt", "trips.txt", "stop_times.txt"};
-static const size_t WIDTHS[5] = {TUSUCHIY_STOPS_WIDTH, TUSUCHIY_ROUTES_WIDTH, TUSUCHIY_CALENDAR_WIDTH,
-                                 TUSUCHIY_TRIPS_WIDTH, TUSUCHIY_STOP_TIMES_WIDTH};
+enum { FILES = 6 };
+
+/* A file: its name, the width of its table, and whether a feed may lack it. */
+static const struct {
+    const char *name;
+    size_t width;
+    int may_be_missing;
+} KNOWN[FILES] = {
+    {"stops.txt", TUSUCHIY_STOPS_WIDTH, 0},
+    {"routes.txt", TUSUCHIY_ROUTES_WIDTH, 0},
+    {"calendar.txt", TUSUCHIY_CALENDAR_WIDTH, 1},
+    {"trips.txt", TUSUCHIY_TRIPS_WIDTH, 0},
+    {"stop_times.txt", TUSUCHIY_STOP_TIMES_WIDTH, 0},
+    {"calendar_dates.txt", TUSUCHIY_CALENDAR_DATES_WIDTH, 1},
+};
 
 /* Rules 1 and 2 refuse longer files and more lines, so nothing past these need be lent. */
 enum { MOST_BYTES = 16777216 + 1, MOST_LINES = 65536 };
@@ -36,9 +49,12 @@ static void *memory(size_t count, size_t size) {
     return got;
 }
 
-/* Opens a file of the folder. A pipe, which would be waited for, isn't one, nor is a device or a folder. */
-static FILE *opened(int folder, const char *name) {
+/* Opens a file of the folder; NULL where it isn't there and may be missing. A pipe, which would be waited for, isn't a
+ * file, nor is a device or a folder. */
+static FILE *opened(int folder, const char *name, int may_be_missing) {
     int file = openat(folder, name, O_RDONLY | O_NONBLOCK | O_CLOEXEC);
+    if (file < 0 && errno == ENOENT && may_be_missing)
+        return NULL;
     struct stat about;
     if (file < 0 || fstat(file, &about))
         stop(name);
@@ -52,18 +68,20 @@ static FILE *opened(int folder, const char *name) {
     return from;
 }
 
-/* Reads a file and lends a table for its lines. */
+/* Reads a file, which has a length of 0 where it isn't there, and lends a table for its lines. */
 static struct lent lend(int folder, int file) {
     struct lent lent = {.bytes = memory(MOST_BYTES, 1)};
-    FILE *from = opened(folder, NAMES[file]);
-    lent.length = fread(lent.bytes, 1, MOST_BYTES, from);
-    if (ferror(from))
-        stop(NAMES[file]);
-    fclose(from);
+    FILE *from = opened(folder, KNOWN[file].name, KNOWN[file].may_be_missing);
+    if (from) {
+        lent.length = fread(lent.bytes, 1, MOST_BYTES, from);
+        if (ferror(from))
+            stop(KNOWN[file].name);
+        fclose(from);
+    }
     size_t lines = 0;
     for (size_t place = 0; place < lent.length && lines < MOST_LINES; place++)
         lines += lent.bytes[place] == '\n';
-    lent.numbers = lines * WIDTHS[file];
+    lent.numbers = lines * KNOWN[file].width;
     lent.table = memory(lent.numbers, sizeof *lent.table);
     return lent;
 }
@@ -71,15 +89,16 @@ static struct lent lend(int folder, int file) {
 /* One call, after the finding at `after`. */
 static tusuchiy_answer check(const struct lent *f, int32_t *list, size_t length, const int32_t *after) {
     return tusuchiy_check(f[0].bytes, f[0].length, f[1].bytes, f[1].length, f[2].bytes, f[2].length,
-                          f[3].bytes, f[3].length, f[4].bytes, f[4].length, f[0].table, f[0].numbers,
-                          f[1].table, f[1].numbers, f[2].table, f[2].numbers, f[3].table, f[3].numbers,
-                          f[4].table, f[4].numbers, list, length, after[0], after[1], after[2]);
+                          f[3].bytes, f[3].length, f[4].bytes, f[4].length, f[5].bytes, f[5].length,
+                          f[0].table, f[0].numbers, f[1].table, f[1].numbers, f[2].table, f[2].numbers,
+                          f[3].table, f[3].numbers, f[4].table, f[4].numbers, f[5].table, f[5].numbers,
+                          list, length, after[0], after[1], after[2]);
 }
 
 /* Prints a page of findings and gives the place of the last. */
 static void print(const int32_t *list, int32_t written, int32_t *after) {
     for (const int32_t *found = list; found < list + 3 * written; found += 3) {
-        printf("%s %d %d\n", NAMES[found[0] - 1], found[1], found[2]);
+        printf("%s %d %d\n", KNOWN[found[0] - 1].name, found[1], found[2]);
         memcpy(after, found, 3 * sizeof *after);
     }
 }
@@ -89,7 +108,7 @@ static int report(const struct lent *files) {
     int32_t list[12], after[3] = {0, 0, 0};
     tusuchiy_answer answer = check(files, list, 12, after);
     if (answer.verdict == TUSUCHIY_REFUSED) {
-        printf("refused %d %s %d\n", answer.number, NAMES[answer.file - 1], answer.line);
+        printf("refused %d %s %d\n", answer.number, KNOWN[answer.file - 1].name, answer.line);
         return answer.verdict;
     }
     printf("%s %d\n", answer.verdict == TUSUCHIY_ACCEPTED ? "accepted" : "findings", answer.total);
@@ -114,8 +133,8 @@ int main(int count, char **words) {
     int folder = open(words[1], O_RDONLY | O_DIRECTORY | O_CLOEXEC);
     if (folder < 0)
         stop(words[1]);
-    struct lent files[5];
-    for (int file = 0; file < 5; file++)
+    struct lent files[FILES];
+    for (int file = 0; file < FILES; file++)
         files[file] = lend(folder, file);
     int status = report(files);
     /* What was printed must have arrived: a verdict that nobody could read is none. */

@@ -10,16 +10,17 @@ extern "C" {
 #endif
 
 /* The version of the check, as a text and as a number: 10000 for each major, 100 for each minor step. */
-#define TUSUCHIY_VERSION "0.2.0"
-#define TUSUCHIY_VERSION_NUMBER 200
+#define TUSUCHIY_VERSION "0.3.0"
+#define TUSUCHIY_VERSION_NUMBER 300
 
-/* The five files have numbers: in `file` of an answer and of a finding. */
+/* The six files have numbers: in `file` of an answer and of a finding. */
 enum {
-    TUSUCHIY_STOPS = 1,     /* stops.txt */
-    TUSUCHIY_ROUTES = 2,    /* routes.txt */
-    TUSUCHIY_CALENDAR = 3,  /* calendar.txt */
-    TUSUCHIY_TRIPS = 4,     /* trips.txt */
-    TUSUCHIY_STOP_TIMES = 5 /* stop_times.txt */
+    TUSUCHIY_STOPS = 1,         /* stops.txt */
+    TUSUCHIY_ROUTES = 2,        /* routes.txt */
+    TUSUCHIY_CALENDAR = 3,      /* calendar.txt */
+    TUSUCHIY_TRIPS = 4,         /* trips.txt */
+    TUSUCHIY_STOP_TIMES = 5,    /* stop_times.txt */
+    TUSUCHIY_CALENDAR_DATES = 6 /* calendar_dates.txt */
 };
 
 /* A record has so many numbers in the table of its file. Lend each table at least its width times the number of
@@ -28,10 +29,12 @@ enum {
     TUSUCHIY_STOPS_WIDTH = 6,      /* id start, id end, latitude, longitude, location_type, parent record */
     TUSUCHIY_ROUTES_WIDTH = 3,     /* id start, id end, route_type */
     TUSUCHIY_CALENDAR_WIDTH = 5,   /* id start, id end, days (Monday is bit 0), start_date, end_date (YYYYMMDD) */
-    TUSUCHIY_TRIPS_WIDTH = 7,      /* id start, id end, route record, service record, direction_id,
-                                      wheelchair_accessible, bikes_allowed */
-    TUSUCHIY_STOP_TIMES_WIDTH = 8  /* trip record, stop record, stop_sequence, arrival, departure (seconds, -1 where
+    TUSUCHIY_TRIPS_WIDTH = 8,      /* id start, id end, route record, service record in calendar.txt, direction_id,
+                                      wheelchair_accessible, bikes_allowed, first service record in
+                                      calendar_dates.txt */
+    TUSUCHIY_STOP_TIMES_WIDTH = 8, /* trip record, stop record, stop_sequence, arrival, departure (seconds, -1 where
                                       empty), pickup_type, drop_off_type, timepoint */
+    TUSUCHIY_CALENDAR_DATES_WIDTH = 4 /* id start, id end, date (YYYYMMDD), exception_type (1 added, 2 removed) */
 };
 /* Line n of a file (the header is line 1) has record n - 1. Record 0 is all zero, so a reference of 0 means none.
  * Record r of a table t of width w is t[r * w] to t[r * w + w - 1]. Ids are places in the file: start, and the end
@@ -80,16 +83,20 @@ enum {
 
 typedef struct {
     int32_t verdict;            /* 0 accepted, 1 findings, 2 refused */
-    int32_t number, file, line; /* of a refusal (1 to 13; 1 to 5; 0 for a whole file), else 0 */
+    int32_t number, file, line; /* of a refusal (1 to 13; 1 to 6; 0 for a whole file), else 0 */
     int32_t column;             /* always 0 for now */
     int32_t written, total;     /* of the findings, else 0: how many this call wrote, how many the feed has */
 } tusuchiy_answer;
 
 /* Checks a feed.
  *
- * Files: five pairs of a pointer and a length in bytes, only read. Any bytes may stand in them.
- * Tables: five pairs of a pointer and a length in numbers, filled for every feed that isn't refused; numbers past the
- *   last record stay as they were.
+ * Files: six pairs of a pointer and a length in bytes, only read. Any bytes may stand in them.
+ *   For calendar.txt and calendar_dates.txt a length of 0 means "not supplied": the file isn't read, and references to
+ *   it are 0. One of the two must be supplied; if neither is, calendar.txt is refused with number 4, as any other file
+ *   of length 0 is. A file with a header alone is supplied.
+ * Tables: six pairs of a pointer and a length in numbers, filled for every feed that isn't refused; numbers past the
+ *   last record stay as they were. The table of a file that isn't supplied stays as it was, record 0 too, and may have
+ *   any length, 0 among them.
  * findings: room for findings_len / 3 findings of three numbers each: file, line, rule (20 to 31; docs/RULES.md).
  *   Those after the place (after_file, after_line, after_rule) are written, in rising order, as many as fit; the rest
  *   of the list stays as it was. Start with 0, 0, 0. For the next page give the last finding written; once a call
@@ -97,8 +104,8 @@ typedef struct {
  *
  * A refusal leaves all tables and the list as they were.
  *
- * What you owe: each pointer is valid for its length, aligned, and not NULL, even where the length is 0; no table
- * and no list overlaps another or a file; nobody else writes any of them during the call. Nothing else is asked of
+ * What you owe: each pointer is valid for its length, aligned, and not NULL, even where the length is 0, as of a file
+ * that isn't supplied and of its table; no table and no list overlaps another or a file; nobody else writes any of them during the call. Nothing else is asked of
  * the contents, and no call fails otherwise.
  *
  * The call keeps nothing: it allocates no memory, opens no file, holds no state between calls, so several threads may
@@ -109,11 +116,13 @@ tusuchiy_answer tusuchiy_check(
     const uint8_t *calendar, size_t calendar_len,
     const uint8_t *trips, size_t trips_len,
     const uint8_t *stop_times, size_t stop_times_len,
+    const uint8_t *calendar_dates, size_t calendar_dates_len,
     int32_t *stops_table, size_t stops_table_len,
     int32_t *routes_table, size_t routes_table_len,
     int32_t *calendar_table, size_t calendar_table_len,
     int32_t *trips_table, size_t trips_table_len,
     int32_t *stop_times_table, size_t stop_times_table_len,
+    int32_t *calendar_dates_table, size_t calendar_dates_table_len,
     int32_t *findings, size_t findings_len,
     int32_t after_file, int32_t after_line, int32_t after_rule);
 

@@ -20,7 +20,7 @@ static inline const char *tusuchiy_meaning(int32_t number) {
     case 11: return "an id is longer than 64 bytes";
     case 12: return "a value that is needed is empty";
     case 13: return "a value doesn't have the form that its column asks for";
-    case 20: return "the id stands on an earlier line of the file";
+    case 20: return "the id, or in calendar_dates.txt the service and date, stands on an earlier line of the file";
     case 21: return "a reference names no line";
     case 22: return "the parent station doesn't fit the kind of stop";
     case 23: return "the trip calls at something that isn't a stop or platform";

@@ -1,5 +1,5 @@
 // Runs the whole check on feeds: both sides of each rule, tables, pages, starting places and lists; `stdout` has what host/model makes of them.
-// A line of standard input is a title, after #, or a case: list length, starting place, which table to write, and five files, each after a bar.
+// A line of standard input is a title, after #, or a case: list length, starting place, which table to write, and six files, each after a bar; one without a bar has no bytes.
 use libc::STDIN_FILENO;
 use libc::STDOUT_FILENO;
 use meaning::Answer;
@@ -23,6 +23,8 @@ const TRIPS: [u8; 34] = *b"route_id,service_id,trip_id\nR,W,T\n";
 
 const TIMES: [u8; 106] =
     *b"trip_id,arrival_time,departure_time,stop_id,stop_sequence\nT,08:00:00,08:00:00,A,1\nT,08:05:00,08:05:00,B,2\n";
+
+const DATES: [u8; 57] = *b"service_id,date,exception_type\nW,20240704,2\nX,20241224,1\n";
 
 // What every number of a table is as lent; no record has it.
 const LENT: i32 = -777;
@@ -105,6 +107,7 @@ fn tell_table(
     calendar: &[i32],
     trips: &[i32],
     stop_times: &[i32],
+    calendar_dates: &[i32],
 ) {
     match file {
         b'1' => tell_used(b"stops", stops),
@@ -112,6 +115,7 @@ fn tell_table(
         b'3' => tell_used(b"calendar", calendar),
         b'4' => tell_used(b"trips", trips),
         b'5' => tell_used(b"stop_times", stop_times),
+        b'6' => tell_used(b"calendar_dates", calendar_dates),
         _ => {}
     }
 }
@@ -283,13 +287,14 @@ fn given<'a>(file: &'a [u8], standard: &'a [u8]) -> &'a [u8] {
     file
 }
 
-// The check of five files with tables as lent, and the table that is asked for.
+// The check of six files with tables as lent, and the table that is asked for.
 fn check_files(
     stops: &[u8],
     routes: &[u8],
     calendar: &[u8],
     trips: &[u8],
     stop_times: &[u8],
+    calendar_dates: &[u8],
     list: &mut [i32],
     from: Place,
     told: u8,
@@ -299,17 +304,20 @@ fn check_files(
     let mut calendar_table = [LENT; 256];
     let mut trips_table = [LENT; 256];
     let mut stop_times_table = [LENT; 256];
+    let mut calendar_dates_table = [LENT; 256];
     let a = tusuchiy::check(
         stops,
         routes,
         calendar,
         trips,
         stop_times,
+        calendar_dates,
         &mut stops_table,
         &mut routes_table,
         &mut calendar_table,
         &mut trips_table,
         &mut stop_times_table,
+        &mut calendar_dates_table,
         list,
         from,
     );
@@ -320,6 +328,7 @@ fn check_files(
         &calendar_table,
         &trips_table,
         &stop_times_table,
+        &calendar_dates_table,
     );
     a
 }
@@ -331,6 +340,7 @@ fn check_given(
     calendar: &[u8],
     trips: &[u8],
     stop_times: &[u8],
+    calendar_dates: &[u8],
     list: &mut [i32],
     from: Place,
     told: u8,
@@ -341,13 +351,14 @@ fn check_given(
         given(calendar, &CALENDAR),
         given(trips, &TRIPS),
         given(stop_times, &TIMES),
+        given(calendar_dates, &DATES),
         list,
         from,
         told,
     )
 }
 
-// The check of five files, each after a bar.
+// The check of six files, each after a bar.
 fn check_feed(s: &[u8], list: &mut [i32], from: Place, told: u8) -> Answer {
     let p = part(s, 0);
     let stops = p.start;
@@ -364,12 +375,16 @@ fn check_feed(s: &[u8], list: &mut [i32], from: Place, told: u8) -> Answer {
     let p = part(s, trips_end);
     let times = p.start;
     let times_end = p.end;
+    let p = part(s, times_end);
+    let dates = p.start;
+    let dates_end = p.end;
     check_given(
         &s[stops..stops_end],
         &s[routes..routes_end],
         &s[calendar..calendar_end],
         &s[trips..trips_end],
         &s[times..times_end],
+        &s[dates..dates_end],
         list,
         from,
         told,

@@ -8,18 +8,18 @@ use lib.IntN.{ℤ}
 use lib.ListN.{length, length-map}
 use Rattle.meaning.specs.declared.Time.{Time}
 use Rattle.meaning.specs.Lists.{empty}
-use Rattle.meaning.specs.Tables.{Feed, under, refer, stopIds, parentStation, timeStop}
-use Rattle.meaning.specs.Rules.{row, recordCounts, recordCount, firstOfTrip, rulesOf}
+use Rattle.meaning.specs.Tables.{Feed, rowsIn, under, refer, stopIds, parentStation, timeStop}
+use Rattle.meaning.specs.Rules.{row, recordCount, firstOfTrip, rulesOf}
 use Rattle.meaning.proofs.References.{named}
 use Rattle.marks.specs.Marks.{marked, parentMark, namelessMark, equalMark, fallingMark, pairedMark, openMark}
 use Rattle.marks.specs.Noted.{idsIn}
 use Rattle.rows.specs.Cells.{natAt, timeAt}
 use Rattle.held.specs.Held.{Filled}
-use Rattle.held.proofs.Numbers.{stop-kind, stop-parent, service-start, service-end, trip-route, trip-service, time-trip, time-stop, time-arrival, time-departure, time-point}
-use Rattle.judging.specs.Judging.{stopJudged, routeJudged, serviceJudged, tripJudged, timeJudged}
+use Rattle.held.proofs.Numbers.{stop-kind, stop-parent, service-start, service-end, trip-route, trip-service, trip-dated, time-trip, time-stop, time-arrival, time-departure, time-point}
+use Rattle.judging.specs.Judging.{stopJudged, routeJudged, serviceJudged, tripJudged, timeJudged, dateJudged}
 use Rattle.judging.proofs.Seen.{KindAt}
-use Rattle.judging.proofs.Judged.{twice-not, stop-judged, route-judged, service-judged, trip-judged, time-judged}
-use Rattle.file_rules.specs.Lines.{rowsIn, ruleNumbers, ruleCount, Judges, Ready}
+use Rattle.judging.proofs.Judged.{twice-not, stop-judged, route-judged, service-judged, trip-judged, time-judged, date-judged}
+use Rattle.file_rules.specs.Lines.{ruleNumbers, ruleCount, Judges, Ready}
 
 -- the kind of a stop that a reference resolves to
 kind-referred : (w : Feed) (s : List ℕ) (t : List ℤ) (v : List ℕ) (k kind : ℕ) → Filled 1 w (w .stops) s t → k ≡ refer v (stopIds w) → kind ≡ natAt t (k * 6 + 4) → KindAt w k kind
@@ -42,7 +42,7 @@ module _ {w : Feed} {n : ℕ} {t stops : List ℤ} {marks : List ℕ} {i : ℕ} 
       → parentKind ≡ natAt t (parent * 6 + 4)
       → r ≡ stopJudged repeats (not parented) parent kind parentKind
       → Judges 1 w i r
-  unfolding ruleNumbers ruleCount rowsIn recordCount recordCounts idsIn rulesOf
+  unfolding ruleNumbers ruleCount rowsIn recordCount idsIn rulesOf
   stop-line-is h below {repeats} {parented} {parent} {kind} {parentKind} a b p k pk e =
       let s = h .file in
       let inside : i < length (w .stops) = rw (h .all) at below in
@@ -63,7 +63,7 @@ module _ {w : Feed} {n : ℕ} {t stops : List ℤ} {marks : List ℕ} {i : ℕ} 
       → nameless ≡ marked marks namelessMark (i + 1)
       → r ≡ routeJudged repeats nameless
       → Judges 2 w i r
-  unfolding ruleNumbers ruleCount rowsIn recordCount recordCounts idsIn rulesOf
+  unfolding ruleNumbers ruleCount rowsIn recordCount idsIn rulesOf
   route-line-is h below a b e =
       let inside : i < length (w .routes) = rw (h .all) at below in
       rw e (sym (route-judged (record {
@@ -80,7 +80,7 @@ module _ {w : Feed} {n : ℕ} {t stops : List ℤ} {marks : List ℕ} {i : ℕ} 
       → end ≡ natAt t ((i + 1) * 5 + 4)
       → r ≡ serviceJudged repeats start end
       → Judges 3 w i r
-  unfolding ruleNumbers ruleCount rowsIn recordCount recordCounts idsIn rulesOf
+  unfolding ruleNumbers ruleCount rowsIn recordCount idsIn rulesOf
   service-line-is h below a b d e =
       let inside : i < length (w .calendar) = rw (h .all) at below in
       rw e (sym (service-judged (record {
@@ -92,16 +92,17 @@ module _ {w : Feed} {n : ℕ} {t stops : List ℤ} {marks : List ℕ} {i : ℕ} 
   pub trip-line-is :
       Ready 4 n w t stops marks
       → i < n
-      → {repeats : Bool} {route service : ℕ} {paired openEnd : Bool} {r : List Bool}
+      → {repeats : Bool} {route service dated : ℕ} {paired openEnd : Bool} {r : List Bool}
       → repeats ≡ marked marks 4 (i + 1)
-      → route ≡ natAt t ((i + 1) * 7 + 2)
-      → service ≡ natAt t ((i + 1) * 7 + 3)
+      → route ≡ natAt t ((i + 1) * 8 + 2)
+      → service ≡ natAt t ((i + 1) * 8 + 3)
+      → dated ≡ natAt t ((i + 1) * 8 + 7)
       → paired ≡ marked marks pairedMark (i + 1)
       → openEnd ≡ marked marks openMark (i + 1)
-      → r ≡ tripJudged repeats route service paired openEnd
+      → r ≡ tripJudged repeats route service dated paired openEnd
       → Judges 4 w i r
-  unfolding ruleNumbers ruleCount rowsIn recordCount recordCounts idsIn rulesOf firstOfTrip
-  trip-line-is h below a b d x y e =
+  unfolding ruleNumbers ruleCount rowsIn recordCount idsIn rulesOf firstOfTrip
+  trip-line-is h below a b d g x y e =
       let s = h .file in
       let inside : i < length (w .trips) = rw (h .all) at below in
       let own = h .named .ids i inside in
@@ -110,6 +111,7 @@ module _ {w : Feed} {n : ℕ} {t stops : List ℤ} {marks : List ℕ} {i : ℕ} 
         again = again;
         routed = record { bare = sym (h .named .routes i inside); resolves = b ∙ trip-route w s t i (h .table) inside };
         served = record { bare = sym (h .named .services i inside); resolves = d ∙ trip-service w s t i (h .table) inside };
+        on-dates = record { bare = sym (h .named .services i inside); resolves = g ∙ trip-dated w s t i (h .table) inside };
         pairs = λ first. x ∙ h .trips-noted .paired i inside own (ap not (sym again ∙ first));
         ends = λ first. y ∙ h .trips-noted .open-ended i inside own (ap not (sym again ∙ first));
       })))
@@ -128,7 +130,7 @@ module _ {w : Feed} {n : ℕ} {t stops : List ℤ} {marks : List ℕ} {i : ℕ} 
       → falling ≡ marked marks fallingMark (i + 1)
       → r ≡ timeJudged trip stop stopKind arrival departure point equal falling
       → Judges 5 w i r
-  unfolding ruleNumbers ruleCount rowsIn recordCount recordCounts rulesOf
+  unfolding ruleNumbers ruleCount rowsIn recordCount rulesOf
   time-line-is h below {trip} {stop} {stopKind} a b k x y p q f e =
       let s = h .file in
       let inside : i < length (w .stopTimes) = rw (h .all) at below in
@@ -144,6 +146,18 @@ module _ {w : Feed} {n : ℕ} {t stops : List ℤ} {marks : List ℕ} {i : ℕ} 
         equals = q ∙ h .trips-noted .equal i inside;
         falls = f ∙ h .trips-noted .falling i inside;
       })))
+
+  pub date-line-is :
+      Ready 6 n w t stops marks
+      → i < n
+      → {repeats : Bool} {r : List Bool}
+      → repeats ≡ marked marks 6 (i + 1)
+      → r ≡ dateJudged repeats
+      → Judges 6 w i r
+  unfolding ruleNumbers ruleCount rowsIn recordCount rulesOf
+  date-line-is h below a e =
+      let inside : i < length (w .dates) = rw (h .all) at below in
+      rw e (sym (date-judged (record { again = a ∙ h .noted .dates i inside })))
 
 -- what holds of one file holds of the file whose number that is
 pub in-file :

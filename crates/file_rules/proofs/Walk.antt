@@ -1,31 +1,19 @@
 -- Laws of a walk along the records of a file that hands out what each line breaks.
-use Prim.Native.Nat.{ℕ, zero, suc, _+_, _*_, _-_, _≤_, _<_}
-use mathlib.Core.Path.{_≡_, refl, sym, _∙_}
+use Prim.Native.Nat.{ℕ, suc, _+_, _*_, _-_, _≤_, _<_}
+use mathlib.Core.Path.{_≡_, sym, _∙_}
 use mathlib.Core.List.{List}
 use mathlib.Core.Bool.{Bool}
 use native.Mathlib.Omega.{arith}
 use native.Mathlib.Nat.{mul-suc, mul-le-mul-left, mul-le-mul-right}
 use lib.IntN.{ℤ}
-use lib.ListN.{length}
 use Rattle.meaning.specs.declared.Place.{Place}
 use Rattle.meaning.specs.Tables.{Feed}
 use Rattle.meaning.specs.Refusals.{onLine}
-use Rattle.meaning.specs.Rules.{recordCounts, recordCount, rulesOf, onRecords, bindingsOf}
+use Rattle.meaning.specs.Rules.{recordCount, rulesOf, onRecords, bindingsOf}
 use Rattle.listing.specs.Handing.{State, noting}
 use Rattle.listing.proofs.Laws.{noting-line, noting-end}
 use Rattle.judging.specs.Judging.{testsFrom}
-use Rattle.file_rules.specs.Lines.{rowsIn, ruleNumbers, ruleCount, Judges, Ready}
-
--- a file has as many rows as records
-pub rows-records : (w : Feed) (f : ℕ) → length (rowsIn w f) ≡ recordCount w f
-unfolding rowsIn recordCount recordCounts
-rows-records w zero = refl
-rows-records w (suc zero) = refl
-rows-records w (suc (suc zero)) = refl
-rows-records w (suc (suc (suc zero))) = refl
-rows-records w (suc (suc (suc (suc zero)))) = refl
-rows-records w (suc (suc (suc (suc (suc zero))))) = refl
-rows-records w (suc (suc (suc (suc (suc (suc f)))))) = refl
+use Rattle.file_rules.specs.Lines.{ruleNumbers, ruleCount, Judges, Ready}
 
 -- what is left of a file's findings, from line i on, brings a list to what all of them bring the lent one to
 abbrev pub Left : Place → ℕ → Feed → ℕ → State → State → Type 0

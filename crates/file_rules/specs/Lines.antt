@@ -6,16 +6,11 @@ use mathlib.Core.Bool.{Bool, false}
 use lib.IntN.{ℤ}
 use lib.ListN.{length, getD}
 use Rattle.meaning.specs.Lists.{empty}
-use Rattle.meaning.specs.Columns.{Row}
-use Rattle.meaning.specs.Tables.{Feed, tripRoute, tripService, tripId, timeTrip, timeStop}
+use Rattle.meaning.specs.Tables.{Feed, rowsIn, tripRoute, tripService, tripId, timeTrip, timeStop}
 use Rattle.meaning.specs.Rules.{row, recordCount, rulesOf}
 use Rattle.marks.specs.Noted.{Noted, TripsNoted}
 use Rattle.held.specs.Held.{Filled}
 use Rattle.judging.specs.Judging.{testsFrom}
-
--- the rows of file f
-unfoldable pub rowsIn : Feed → ℕ → List Row
-rowsIn w f = getD ([] ∷ w .stops ∷ w .routes ∷ w .calendar ∷ w .trips ∷ w .stopTimes ∷ []) f []
 
 -- the numbers of the rules of a line of file f, filled up by 0, and how many they are
 unfoldable pub ruleNumbers : ℕ → List ℕ
@@ -27,12 +22,13 @@ ruleNumbers f =
     ∷ (20 ∷ 24 ∷ 0 ∷ 0 ∷ 0 ∷ 0 ∷ [])
     ∷ (20 ∷ 21 ∷ 30 ∷ 31 ∷ 0 ∷ 0 ∷ [])
     ∷ (21 ∷ 23 ∷ 26 ∷ 27 ∷ 28 ∷ 29 ∷ [])
+    ∷ (20 ∷ 0 ∷ 0 ∷ 0 ∷ 0 ∷ 0 ∷ [])
     ∷ [])
     f
     []
 
 unfoldable pub ruleCount : ℕ → ℕ
-ruleCount f = getD (0 ∷ 3 ∷ 2 ∷ 2 ∷ 4 ∷ 6 ∷ []) f 0
+ruleCount f = getD (0 ∷ 3 ∷ 2 ∷ 2 ∷ 4 ∷ 6 ∷ 1 ∷ []) f 0
 
 -- what was judged of the line with index i of file f is what its rules say
 abbrev pub Judges : ℕ → Feed → ℕ → List Bool → Type 0

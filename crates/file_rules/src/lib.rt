@@ -10,6 +10,7 @@ ghost use Rattle.file_rules.specs.Lines.{ruleNumbers, ruleCount, Judges,
 use listing::Sink;
 use meaning::Place;
 use rows::Calendar;
+use rows::Dates;
 use rows::Routes;
 use rows::ServiceRow;
 use rows::StopRow;
@@ -72,6 +73,7 @@ fn trip_line(t: &[i32], marks: &[u16], i: usize) -> [bool; 6]
         marks::is_marked(marks, Trips::FILE, row),
         Trips::route_at(t, TripRow(row)).0,
         Trips::service_at(t, TripRow(row)).0,
+        Trips::dated_at(t, TripRow(row)).0,
         marks::is_marked(marks, marks::PAIRED, row),
         marks::is_marked(marks, marks::OPEN, row),
     )
@@ -96,9 +98,17 @@ fn time_line(t: &[i32], stops: &[i32], marks: &[u16], i: usize) -> [bool; 6]
     )
 }
 
+// What a line of calendar_dates.txt breaks.
+fn date_line(marks: &[u16], i: usize) -> [bool; 6]
+    requires { ⌜ i < 2 ^ 31 ⌝ }
+    ensures { λ r. ⌜ ((w : Feed) (n : ℕ) (t stops : List ℤ) → Ready 6 n w t stops (now (marks .entry)) → i < n → Judges 6 w i r) ⌝ }
+{
+    judging::judge_date(marks::is_marked(marks, Dates::FILE, i + 1))
+}
+
 // The numbers of a file's rules, filled up by 0.
 fn numbers_of(f: usize) -> [u8; 6]
-    requires { ⌜ (1 ≤ f) × (f ≤ 5) ⌝ }
+    requires { ⌜ (1 ≤ f) × (f ≤ 6) ⌝ }
     ensures { λ r. ⌜ r ≡ ruleNumbers f ⌝ }
 {
     match f {
@@ -106,13 +116,14 @@ fn numbers_of(f: usize) -> [u8; 6]
         Routes::FILE => [20, 25, 0, 0, 0, 0],
         Calendar::FILE => [20, 24, 0, 0, 0, 0],
         Trips::FILE => [20, 21, 30, 31, 0, 0],
-        _ => [21, 23, 26, 27, 28, 29],
+        StopTimes::FILE => [21, 23, 26, 27, 28, 29],
+        _ => [20, 0, 0, 0, 0, 0],
     }
 }
 
 // How many rules a line of a file has.
 fn count_of(f: usize) -> usize
-    requires { ⌜ (1 ≤ f) × (f ≤ 5) ⌝ }
+    requires { ⌜ (1 ≤ f) × (f ≤ 6) ⌝ }
     ensures { λ r. ⌜ (r ≡ ruleCount f) × (r ≤ 6) ⌝ }
 {
     match f {
@@ -120,13 +131,14 @@ fn count_of(f: usize) -> usize
         Routes::FILE => 2,
         Calendar::FILE => 2,
         Trips::FILE => 4,
-        _ => 6,
+        StopTimes::FILE => 6,
+        _ => 1,
     }
 }
 
 // What a line of a file breaks.
 fn judge_line(f: usize, t: &[i32], stops: &[i32], marks: &[u16], i: usize) -> [bool; 6]
-    requires { ⌜ (1 ≤ f) × ((f ≤ 5) × (i < 2 ^ 31)) ⌝ }
+    requires { ⌜ (1 ≤ f) × ((f ≤ 6) × (i < 2 ^ 31)) ⌝ }
     ensures { λ r. ⌜ ((w : Feed) (n : ℕ) → Ready f n w (now (t .entry)) (now (stops .entry)) (now (marks .entry)) → i < n → Judges f w i r) ⌝ }
 {
     match f {
@@ -134,7 +146,8 @@ fn judge_line(f: usize, t: &[i32], stops: &[i32], marks: &[u16], i: usize) -> [b
         Routes::FILE => route_line(marks, i),
         Calendar::FILE => service_line(t, marks, i),
         Trips::FILE => trip_line(t, marks, i),
-        _ => time_line(t, stops, marks, i),
+        StopTimes::FILE => time_line(t, stops, marks, i),
+        _ => date_line(marks, i),
     }
 }
 
@@ -149,7 +162,7 @@ pub fn list_file(
     k: Sink,
     p: Place,
 ) -> Sink
-    requires { ⌜ (1 ≤ f) × ((f ≤ 5) × ((n < 2 ^ 30) × (k .total ≤ 2 ^ 61))) ⌝ }
+    requires { ⌜ (1 ≤ f) × ((f ≤ 6) × ((n < 2 ^ 30) × (k .total ≤ 2 ^ 61))) ⌝ }
     ensures { λ r. ⌜ ((w : Feed) → Ready f n w (now (t .entry)) (now (stops .entry)) (now (marks .entry))
         → state (now (out .exit)) r ≡ noting p (bindingsOf w f) (state (now (out .entry)) k)) ⌝ }
     ensures { λ r. ⌜ r .total ≤ k .total + ruleCount f * n ⌝ }

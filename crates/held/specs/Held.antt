@@ -13,5 +13,4 @@ pub record Filled (f : ℕ) (w : Feed) (rows : List Row) (s : List ℕ) (t : Lis
   pub lent : List ℤ
   pub is : t ≡ filled f w s lent
   pub roomy : widthOf f * countLf s ≤ length lent
-  pub some : 1 ≤ countLf s
   pub read : rows ≡ rowsOf f s

@@ -11,12 +11,12 @@ use Rattle.meaning.specs.declared.Time.{Time}
 use Rattle.meaning.specs.Columns.{Row}
 use Rattle.meaning.specs.Forms.{timeOf, dateOf}
 use Rattle.meaning.specs.Tables.{Feed, stopIds, refer, parentStation, startDate, endDate, tripId, arrivalTime, departureTime, timeStop, timepoint, orMinus}
-use Rattle.meaning.specs.Rules.{row, dangling, rule21·stops, rule21·trips, rule21·times, kindOf, otherKind, rule22, rule23, rule24, given, secondsOf, timed, untimed, arrives, departs, rule26, rule27, ofTripLine, firstOfTrip, rule30, openEnded, rule31, stopRules, routeRules, serviceRules, tripRules, timeRules}
+use Rattle.meaning.specs.Rules.{row, dangling, rule21·stops, inNeither, rule21·trips, rule21·times, kindOf, otherKind, rule22, rule23, rule24, given, secondsOf, timed, untimed, arrives, departs, rule26, rule27, ofTripLine, firstOfTrip, rule30, openEnded, rule31, stopRules, routeRules, serviceRules, tripRules, timeRules, dateRules}
 use Rattle.meaning.proofs.References.{dangling-refer}
-use Rattle.judging.specs.Judging.{loose, offKind, bothGiven, halfTimed, sooner, stopJudged, routeJudged, serviceJudged, tripJudged, timeJudged, testsFrom}
+use Rattle.judging.specs.Judging.{loose, offKind, bothGiven, halfTimed, sooner, stopJudged, routeJudged, serviceJudged, tripJudged, timeJudged, dateJudged, testsFrom}
 use Rattle.judging.proofs.Stored.{kind-number, one-number, day-number}
 use Rattle.rows.proofs.Stored.{given-stored, seconds-stored}
-use Rattle.judging.proofs.Seen.{Refers, KindAt, IsTime, StopSeen, RouteSeen, ServiceSeen, TripSeen, TimeSeen}
+use Rattle.judging.proofs.Seen.{Refers, KindAt, IsTime, StopSeen, RouteSeen, ServiceSeen, TripSeen, TimeSeen, DateSeen}
 
 -- ---- one rule
 
@@ -115,16 +115,17 @@ module _ {w : Feed} {i : ℕ} where
       rw (← s .again, s .starts, s .ends, day-number (dateOf (startDate r)), day-number (dateOf (endDate r)))
 
   pub trip-judged :
-      {repeats : Bool} {route service : ℕ} {paired openEnd : Bool}
-      → TripSeen w i repeats route service paired openEnd
-      → tripRules w i ≡ testsFrom (20 ∷ 21 ∷ 30 ∷ 31 ∷ 0 ∷ 0 ∷ []) (tripJudged repeats route service paired openEnd) 4
-  unfolding tripRules testsFrom tripJudged rule21·trips rule30 rule31 firstOfTrip
-  trip-judged {repeats} {route} {service} {paired} {openEnd} s =
+      {repeats : Bool} {route service dated : ℕ} {paired openEnd : Bool}
+      → TripSeen w i repeats route service dated paired openEnd
+      → tripRules w i ≡ testsFrom (20 ∷ 21 ∷ 30 ∷ 31 ∷ 0 ∷ 0 ∷ []) (tripJudged repeats route service dated paired openEnd) 4
+  unfolding tripRules testsFrom tripJudged rule21·trips inNeither rule30 rule31 firstOfTrip
+  trip-judged {repeats} {route} {service} {dated} {paired} {openEnd} s =
       let few = ltb (length (ofTripLine w i)) 2 in
       rw (
         ← s .again,
         loose-is (s .routed),
         loose-is (s .served),
+        loose-is (s .on-dates),
         unless repeats few (not paired) (λ e. sym (ap not (s .pairs e) ∙ twice-not few)),
         unless repeats (openEnded w (tripId (row (w .trips) i))) openEnd (λ e. sym (s .ends e)),
       )
@@ -145,3 +146,8 @@ module _ {w : Feed} {i : ℕ} where
         ← s .equals,
         ← s .falls,
       )
+
+  pub date-judged :
+      {repeats : Bool} → DateSeen w i repeats → dateRules w i ≡ testsFrom (20 ∷ 0 ∷ 0 ∷ 0 ∷ 0 ∷ 0 ∷ []) (dateJudged repeats) 1
+  unfolding dateRules testsFrom dateJudged
+  date-judged s = rw (← s .again)

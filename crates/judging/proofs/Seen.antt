@@ -9,8 +9,8 @@ use Rattle.num.specs.Signs.{natOf}
 use Rattle.meaning.specs.declared.Time.{Time}
 use Rattle.meaning.specs.Lists.{empty}
 use Rattle.meaning.specs.Forms.{timeOf, dateOf}
-use Rattle.meaning.specs.Tables.{Feed, stopIds, routeIds, serviceIds, tripIds, refer, locationType, parentStation, startDate, endDate, tripRoute, tripService, tripId, timeTrip, arrivalTime, departureTime, timeStop, timepoint, orZero, orMinus, day, seconds}
-use Rattle.meaning.specs.Rules.{row, rule20, rule25, rule28, rule29, ofTripLine, openEnded}
+use Rattle.meaning.specs.Tables.{Feed, stopIds, routeIds, serviceIds, tripIds, datedIds, refer, locationType, parentStation, startDate, endDate, tripRoute, tripService, tripId, timeTrip, arrivalTime, departureTime, timeStop, timepoint, orZero, orMinus, day, seconds}
+use Rattle.meaning.specs.Rules.{row, rule20, rule20·dates, rule25, rule28, rule29, ofTripLine, openEnded}
 use Rattle.rows.specs.Cells.{timeIn}
 
 -- a reference: whether it is empty, and its record
@@ -42,10 +42,11 @@ pub record ServiceSeen (w : Feed) (i : ℕ) (repeats : Bool) (start end : ℕ) :
   pub ends : end ≡ natOf (day (dateOf (endDate (row (w .calendar) i))))
 
 -- neither reference of a line of trips is empty; on a line whose id stands on an earlier one the trip's lines aren't asked for
-pub record TripSeen (w : Feed) (i : ℕ) (repeats : Bool) (route service : ℕ) (paired openEnd : Bool) : Type 0 where
+pub record TripSeen (w : Feed) (i : ℕ) (repeats : Bool) (route service dated : ℕ) (paired openEnd : Bool) : Type 0 where
   pub again : repeats ≡ rule20 (tripIds w) i
   pub routed : Refers (tripRoute (row (w .trips) i)) (routeIds w) false route
   pub served : Refers (tripService (row (w .trips) i)) (serviceIds w) false service
+  pub on-dates : Refers (tripService (row (w .trips) i)) (datedIds w) false dated
   pub pairs : repeats ≡ false → paired ≡ not (ltb (length (ofTripLine w i)) 2)
   pub ends : repeats ≡ false → openEnd ≡ openEnded w (tripId (row (w .trips) i))
 
@@ -59,3 +60,6 @@ pub record TimeSeen (w : Feed) (i trip stop stopKind : ℕ) (arrival departure :
   pub points : point ≡ natOf (orMinus 1 (timepoint (row (w .stopTimes) i)))
   pub equals : equal ≡ rule28 w i
   pub falls : falling ≡ rule29 w i
+
+pub record DateSeen (w : Feed) (i : ℕ) (repeats : Bool) : Type 0 where
+  pub again : repeats ≡ rule20·dates w i

@@ -56,10 +56,10 @@ unfoldable pub serviceJudged : Bool → ℕ → ℕ → List Bool
 serviceJudged repeats start end = repeats ∷ ltb end start ∷ false ∷ false ∷ false ∷ false ∷ []
 
 -- neither reference of a line of trips or of stop_times is empty, by rule 12; 28 to 31 are judged by marks: equal, falling, paired, open-ended
-unfoldable pub tripJudged : Bool → ℕ → ℕ → Bool → Bool → List Bool
-tripJudged repeats route service paired openEnded =
+unfoldable pub tripJudged : Bool → ℕ → ℕ → ℕ → Bool → Bool → List Bool
+tripJudged repeats route service dated paired openEnded =
     repeats
-    ∷ (loose false route || loose false service)
+    ∷ (loose false route || (loose false service && loose false dated))
     ∷ (not repeats && not paired)
     ∷ (not repeats && openEnded)
     ∷ false
@@ -75,6 +75,10 @@ timeJudged trip stop stopKind arrival departure timepoint equal falling =
     ∷ equal
     ∷ falling
     ∷ []
+
+-- 20 is judged by the mark that the service and the date repeat an earlier line's
+unfoldable pub dateJudged : Bool → List Bool
+dateJudged repeats = repeats ∷ false ∷ false ∷ false ∷ false ∷ false ∷ []
 
 -- the first n rules of a line, by their numbers, with what was judged of them
 unfoldable pub testsFrom : List ℕ → List Bool → ℕ → List Test

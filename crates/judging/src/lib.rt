@@ -1,7 +1,6 @@
 // What the stored numbers of one line, and a few tests of its values, say of each binding rule.
 ghost use mathlib.Core.Path.{_≡_};
-ghost use Rattle.meaning.specs.Rules.{given};
-ghost use Rattle.judging.specs.Judging.{loose, offKind, misplaced, halfTimed, sooner, stopJudged, routeJudged, serviceJudged, tripJudged, timeJudged};
+ghost use Rattle.judging.specs.Judging.{loose, offKind, misplaced, halfTimed, sooner, stopJudged, routeJudged, serviceJudged, tripJudged, timeJudged, dateJudged};
 use meaning::Time;
 use rows::times;
 
@@ -80,14 +79,15 @@ pub fn judge_trip(
     repeats: bool,
     route: usize,
     service: usize,
+    dated: usize,
     paired: bool,
     open_ended: bool,
 ) -> [bool; 6]
-    ensures { λ r. ⌜ r ≡ tripJudged repeats route service paired «open_ended» ⌝ }
+    ensures { λ r. ⌜ r ≡ tripJudged repeats route service dated paired «open_ended» ⌝ }
 {
     [
         repeats,
-        is_loose(false, route) | is_loose(false, service),
+        is_loose(false, route) | (is_loose(false, service) & is_loose(false, dated)),
         !repeats & !paired,
         !repeats & open_ended,
         false,
@@ -116,4 +116,11 @@ pub fn judge_time(
         equal,
         falling,
     ]
+}
+
+// Rule 20 on a line of calendar_dates.txt.
+pub fn judge_date(repeats: bool) -> [bool; 6]
+    ensures { λ r. ⌜ r ≡ dateJudged repeats ⌝ }
+{
+    [repeats, false, false, false, false, false]
 }

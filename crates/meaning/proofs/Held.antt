@@ -146,7 +146,7 @@ module _ (w : Feed) (s : List ℕ) (lent : List ℤ) where
 -- ---- the outcome
 
 -- table f of those filled, counted from table m
-filled-at :
+pub filled-at :
     (m : ℕ) (w : Feed) (files : List (List ℕ)) (tables : List (List ℤ)) (k : ℕ)
     → k < length files
     → k < length tables

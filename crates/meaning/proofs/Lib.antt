@@ -1,5 +1,6 @@
 -- Theorems about the definitions, a file for each promise.
 pub mod ListLaws
+pub mod Tests
 pub mod Laws
 pub mod Lines
 pub mod References
@@ -13,4 +14,5 @@ pub mod Records
 pub mod Held
 pub mod Calls
 pub mod Demands
+pub mod ByDate
 pub mod Starred

@@ -2,33 +2,21 @@
 use Prim.Native.Nat.{ℕ, zero, suc, _+_, _-_, _≤_, _<_}
 use mathlib.Core.Path.{_≡_, refl, _∙_}
 use mathlib.Core.List.{List, [], _∷_, map, List·Memᴰ, List·Memᴰ·head, List·Memᴰ·tail, Memᴰ·append-right}
-use mathlib.Core.Bool.{Bool, true, false, cond}
+use mathlib.Core.Bool.{false}
 use native.Mathlib.Omega.{arith}
-use native.Mathlib.Decide.{ℕ-discrete}
 use lib.ListN.{length, getD, drop, length-map, length-drop}
 use lib.Seq.{getD-drop}
 use borrow.Author.Tests.{ne-eqb, ltb-false}
 use Rattle.meaning.specs.declared.Verdict.the-variants.{Readable}
-use Rattle.meaning.specs.Lists.{some}
 use Rattle.meaning.specs.Bytes.{linesOf}
 use Rattle.meaning.specs.Columns.{columnOf, countOf, places, rowOf, headerOf, rowsOf}
 use Rattle.meaning.specs.Tables.{fileOf}
 use Rattle.meaning.specs.Refusals.{Test, test, claim, rule1, rule2, rule3, rule4, rule11, rule12, rule13, long, blank, formless, overRow, textTests, rowTests, lineTests, verdictOf}
 use Rattle.meaning.specs.Promises.{fileTests, testsOn, noLine, ValueKept}
 pub use Rattle.meaning.specs.Promises.{WholeKept}
+use Rattle.meaning.proofs.Tests.{some-none}
 use Rattle.meaning.proofs.FirstBroken.{readable-exactly}
 use Rattle.meaning.proofs.Claims.{claim-of-file, claim-of-line}
-
--- a test that holds of none of n numbers from k on
-pub some-none : (P : ℕ → Bool) (k n : ℕ) → some P k n ≡ false → (j : ℕ) → k ≤ j → j < k + n → P j ≡ false
-unfolding some
-some-none P k zero e j a b = absurd (omega arith)
-some-none P k (suc n) e j a b = go (P k) refl e (some-none P (k + 1) n) (ℕ-discrete k j)
-  where
-    go : (t : Bool) → P k ≡ t → cond t true (some P (k + 1) n) ≡ false → (some P (k + 1) n ≡ false → (i : ℕ) → k + 1 ≤ i → i < k + 1 + n → P i ≡ false) → Dec (k ≡ j) → P j ≡ false
-    go true q z rest d = let z′ : _≡_ {A = ℕ} 0 1 = cc in absurd (omega arith)
-    go false q z rest (yes d) = rw (← d) q
-    go false q z rest (no d) = rest z j (omega (arith, d)) (omega arith)
 
 pub getD-map-in : {A B : Type 0} (g : A → B) (l : List A) (i : ℕ) (d : A) (e : B) → i < length l → getD (map g l) i e ≡ g (getD l i d)
 getD-map-in g [] i d e h = absurd (omega arith)

@@ -16,7 +16,7 @@ use Rattle.meaning.specs.Findings.{findingsOf, answerNumbers}
 use Rattle.meaning.specs.Outcome.{outcome}
 use Rattle.meaning.specs.Promises.{saysAccepted, TimesNeverFall, SequencesDiffer}
 use Rattle.meaning.proofs.ListLaws.{and-second}
-use Rattle.meaning.proofs.Readable.{some-none}
+use Rattle.meaning.proofs.Tests.{some-none}
 use Rattle.meaning.proofs.Pages.{accepted-exactly}
 use Rattle.meaning.proofs.TheList.{listed-exactly}
 

@@ -12,4 +12,5 @@ pub mod Promises
 pub mod Held
 pub mod Calls
 pub mod Demands
+pub mod ByDate
 pub mod Cases

@@ -106,6 +106,6 @@ module _ (files : List (List ℕ)) where
       (join _ _ (each-whole 1 (omega arith) (omega arith) rule1 1 (omega arith) files refl rooms)
       (join _ _ (each-whole 2 (omega arith) (omega arith) rule2 1 (omega arith) files refl rooms)
       (join _ _ (each-whole 3 (omega arith) (omega arith) rule3 1 (omega arith) files refl rooms)
-      (join _ _ (each-whole 4 (omega arith) (omega arith) rule4 1 (omega arith) files refl rooms)
+      (join _ _ (each-whole 4 (omega arith) (omega arith) (rule4 files) 1 (omega arith) files refl rooms)
       (each-files 1 (omega arith) files refl)))))
       r e

@@ -1,30 +1,30 @@
 -- The lines of a file and the files of a feed: the first broken claim.
 use mathlib.Core.Path.{_≡_, refl, sym, ap, _∙_}
-use mathlib.Core.Bool.{Bool, true, false, not}
-use mathlib.Core.List.{List, [], _∷_, _++_, append-nil}
+use mathlib.Core.Bool.{Bool, true, false}
+use mathlib.Core.List.{List, [], _∷_}
 use Prim.Native.Nat.{ℕ, zero, suc, _+_, _*_, _/_, _≤_, _<_}
 use native.Mathlib.Omega.{arith}
 use native.Mathlib.Nat.{div-lt-iff-lt-mul, mul-comm}
 use lib.Dec.{T, ltb, leb→le}
 use lib.ListN.{length, getD}
 use borrow.Author.Tests.{lt-ltb, le-ltb, ltb-true, ltb-false}
-use Rattle.meaning.specs.declared.Refusal.{Refusal}
 use Rattle.meaning.specs.declared.Verdict.{Verdict}
-use Rattle.meaning.specs.declared.Verdict.the-variants.{Readable, Unreadable}
+use Rattle.meaning.specs.declared.Verdict.the-variants.{Readable}
 use Rattle.meaning.specs.Bytes.{Line, bounds, part, linesFrom, linesOf, startOf, fields, values}
 use Rattle.meaning.specs.Columns.{places}
 use Rattle.meaning.specs.Tables.{widths, widthOf}
-use Rattle.meaning.specs.Refusals.{test, Claim, rule4, textTests, headTests, rowTests, lineTests, onLines, inFile, inFiles, overFiles, claims, speaks, verdictOf}
+use Rattle.meaning.specs.Refusals.{textTests, headTests, rowTests, lineTests, onLines, inFile, inFiles, speaks, verdictOf}
 use Rattle.text.specs.Lines.{LineStands}
 use Rattle.text.proofs.Laws.{all}
 use Rattle.schema.proofs.Laws.{below-all}
 use Rattle.columns.specs.Columns.{placesOf}
 use Rattle.columns.proofs.Laws.{places-at}
 use Rattle.reading.specs.Tests.{first}
-use Rattle.reading.specs.Wholes.{wholeOf, marked, wholeClaims}
+use Rattle.reading.specs.Wholes.{wholesOf, wholeClaims, orElse}
 use Rattle.reading.proofs.First.{positive}
 use Rattle.reading.proofs.Values.{line-same}
-use Rattle.reading.proofs.Speaks.{refused, then-stop, then-on, line-stop, line-on}
+use Rattle.reading.proofs.Speaks.{refused, speaks-then, then-stop, then-on, or-assoc, or-none, line-stop, line-on}
+use Rattle.reading.proofs.Wholes.{all-claims}
 
 -- no test has number 0
 head-positive : (f : ℕ) (h : List ℕ) → T (all positive (headTests f h))
@@ -74,16 +74,25 @@ module _ (f : ℕ) (s : List ℕ) (at : ℕ) (start : at ≡ startOf s) where
         let y = rw (p, q, lines-same f _ (places f (values (part s (bounds a e)))) (places-at f _) _ 2 (linesFrom s m)) at h in
         y ∙ rw (← start, stands .lines) (sym (then-on _ _ (line-on f 1 _ (head-positive f _) t test z)))
 
--- one part of the claims after the other
-module _ (a b : List Claim) (v : Verdict) (e : v ≡ speaks a) where
-  pub first-speaks : (r : Refusal) → v ≡ Unreadable r → v ≡ speaks (a ++ b)
-  first-speaks r p = p ∙ sym (then-stop b a r (sym e ∙ p))
+-- the files from file f on, one after the other, after what was said before them
+abbrev readOn : Verdict → ℕ → List (List ℕ) → Verdict
+readOn v f [] = v
+readOn v f (s ∷ r) = readOn (orElse v (speaks (inFile f (linesOf s)))) (f + 1) r
 
-  pub second-speaks : v ≡ Readable → (u : Verdict) → u ≡ speaks b → u ≡ speaks (a ++ b)
-  second-speaks p u h = h ∙ sym (then-on b a (sym e ∙ p))
+read-all : (v : Verdict) (f : ℕ) (ss : List (List ℕ)) → readOn v f ss ≡ orElse v (speaks (inFiles f ss))
+unfolding inFiles speaks
+read-all v f [] = sym (or-none v)
+read-all v f (s ∷ r) =
+    let here = inFile f (linesOf s) in
+    read-all (orElse v (speaks here)) (f + 1) r
+    ∙ (or-assoc v (speaks here) (speaks (inFiles (f + 1) r)) ∙ ap (orElse v) (sym (speaks-then here (inFiles (f + 1) r))))
 
-  pub last-speaks : v ≡ speaks (a ++ [])
-  last-speaks = e ∙ sym (ap speaks (append-nil a))
+pub feed-read : (files : List (List ℕ)) (rooms : List ℕ) (v : Verdict) → v ≡ speaks (wholeClaims (wholesOf files rooms)) → readOn v 1 files ≡ verdictOf files rooms
+unfolding verdictOf
+feed-read files rooms v e =
+    read-all v 1 files
+    ∙ (ap (λ (u : Verdict). orElse u (speaks (inFiles 1 files))) e
+    ∙ (sym (speaks-then (wholeClaims (wholesOf files rooms)) (inFiles 1 files)) ∙ ap speaks (all-claims files rooms)))
 
 -- rule 3 by division, which can't overflow
 pub wide : (f : ℕ) → 0 < f → f < 7 → 0 < widthOf f
@@ -101,33 +110,3 @@ short-is f room lf h g = go (ltb (room / widthOf f) lf) refl
     go false e =
         let z : room < lf * widthOf f → ⊥ = λ y. let x : room / widthOf f < lf = div-lt-iff-lt-mul {k = widthOf f} {x = room} {y = lf} (wide f h g) .1 y in let w : lf ≤ room / widthOf f = ltb-false _ _ e in omega arith in
         rw (mul-comm (widthOf f) lf) (sym (le-ltb room (lf * widthOf f) (omega arith)))
-
--- rule 4 asks nothing of file and table
-pub unended-is : (f : ℕ) (s : List ℕ) (room : ℕ) (t : Bool) → t ≡ not (rule4 0 s 0) → not t ≡ rule4 f s room
-unfolding rule4
-unended-is f s room t e = rw e (go (rule4 0 s 0))
-  where
-    go : (b : Bool) → not (not b) ≡ b
-    go true = refl
-    go false = refl
-
--- rules 1 to 4 over five files, then the files
-module _ (s1 s2 s3 s4 s5 : List ℕ) (m1 m2 m3 m4 m5 : ℕ) (v : Verdict)
-    (e : v ≡ speaks (wholeClaims (wholeOf 1 s1 m1) (wholeOf 2 s2 m2) (wholeOf 3 s3 m3) (wholeOf 4 s4 m4) (wholeOf 5 s5 m5))) where
-  abbrev files : List (List ℕ)
-  files = s1 ∷ s2 ∷ s3 ∷ s4 ∷ s5 ∷ []
-
-  abbrev wholes : List Claim
-  wholes = wholeClaims (wholeOf 1 s1 m1) (wholeOf 2 s2 m2) (wholeOf 3 s3 m3) (wholeOf 4 s4 m4) (wholeOf 5 s5 m5)
-
-  all-claims : wholes ++ inFiles 1 files ≡ claims files (m1 ∷ m2 ∷ m3 ∷ m4 ∷ m5 ∷ [])
-  unfolding claims overFiles wholeClaims marked wholeOf
-  all-claims = refl
-
-  pub feed-stop : (r : Refusal) → v ≡ Unreadable r → v ≡ verdictOf files (m1 ∷ m2 ∷ m3 ∷ m4 ∷ m5 ∷ [])
-  unfolding verdictOf
-  feed-stop r p = first-speaks wholes (inFiles 1 files) v e r p ∙ ap speaks all-claims
-
-  pub feed-next : v ≡ Readable → (u : Verdict) → u ≡ speaks (inFiles 1 files) → u ≡ verdictOf files (m1 ∷ m2 ∷ m3 ∷ m4 ∷ m5 ∷ [])
-  unfolding verdictOf
-  feed-next p u h = second-speaks wholes (inFiles 1 files) v e p u h ∙ ap speaks all-claims

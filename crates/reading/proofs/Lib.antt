@@ -2,5 +2,6 @@
 pub mod First
 pub mod Values
 pub mod Speaks
+pub mod Wholes
 pub mod Files
 pub mod Bounds

@@ -1,6 +1,6 @@
 -- The first broken claim of a list, a part of the list at a time.
-use mathlib.Core.Path.{_≡_, refl, sym, _∙_}
-use mathlib.Core.Bool.{Bool, true, false}
+use mathlib.Core.Path.{_≡_, refl, sym, ap, _∙_}
+use mathlib.Core.Bool.{Bool, true, false, cond}
 use mathlib.Core.List.{List, [], _∷_, _++_}
 use Prim.Native.Nat.{ℕ, _+_, _≤_, _<_}
 use native.Mathlib.Omega.{arith}
@@ -11,31 +11,42 @@ use Rattle.meaning.specs.declared.Verdict.{Verdict}
 use Rattle.meaning.specs.declared.Verdict.the-variants.{Readable, Unreadable}
 use Rattle.meaning.specs.Refusals.{Test, Claim, refusal, speaks, onLine}
 use Rattle.reading.specs.Tests.{first}
-use Rattle.reading.specs.Wholes.{firstTrue, marked}
+use Rattle.reading.specs.Wholes.{firstTrue, marked, orElse}
 use Rattle.reading.proofs.First.{positive}
 
 abbrev pub refused : ℕ → ℕ → ℕ → Verdict
 refused number file line = Unreadable (record { number = number; file = file; line = line; column = 0 })
 
 -- one list after the other: the first speaks, or else the second
-module _ (b : List Claim) where
-  pub then-stop : (a : List Claim) (r : Refusal) → speaks a ≡ Unreadable r → speaks (a ++ b) ≡ Unreadable r
-  unfolding speaks
-  then-stop [] r e = let z : Readable ≡ Unreadable r = e in cc
-  then-stop (p ∷ a) r e = go (p .broken) refl (then-stop a r)
-    where
-      go : (t : Bool) → p .broken ≡ t → (speaks a ≡ Unreadable r → speaks (a ++ b) ≡ Unreadable r) → speaks (p ∷ (a ++ b)) ≡ Unreadable r
-      go true q ih = rw q (rw q at e)
-      go false q ih = rw q (ih (rw q at e))
+pub speaks-then : (a b : List Claim) → speaks (a ++ b) ≡ orElse (speaks a) (speaks b)
+unfolding speaks orElse
+speaks-then [] b = refl
+speaks-then (p ∷ a) b = go (p .broken) (speaks-then a b)
+  where
+    go : (t : Bool) → speaks (a ++ b) ≡ orElse (speaks a) (speaks b)
+        → cond t (Unreadable (refusal p)) (speaks (a ++ b)) ≡ orElse (cond t (Unreadable (refusal p)) (speaks a)) (speaks b)
+    go true e = refl
+    go false e = e
 
-  pub then-on : (a : List Claim) → speaks a ≡ Readable → speaks (a ++ b) ≡ speaks b
-  unfolding speaks
-  then-on [] e = refl
-  then-on (p ∷ a) e = go (p .broken) refl (then-on a)
-    where
-      go : (t : Bool) → p .broken ≡ t → (speaks a ≡ Readable → speaks (a ++ b) ≡ speaks b) → speaks (p ∷ (a ++ b)) ≡ speaks b
-      go true q ih = let z : Unreadable (refusal p) ≡ Readable = rw q at e in cc
-      go false q ih = rw q (ih (rw q at e))
+module _ (b a : List Claim) where
+  pub then-stop : (r : Refusal) → speaks a ≡ Unreadable r → speaks (a ++ b) ≡ Unreadable r
+  unfolding orElse
+  then-stop r e = speaks-then a b ∙ ap (λ (v : Verdict). orElse v (speaks b)) e
+
+  pub then-on : speaks a ≡ Readable → speaks (a ++ b) ≡ speaks b
+  unfolding orElse
+  then-on e = speaks-then a b ∙ ap (λ (v : Verdict). orElse v (speaks b)) e
+
+-- three verdicts, one after the other
+pub or-assoc : (u v w : Verdict) → orElse (orElse u v) w ≡ orElse u (orElse v w)
+unfolding orElse
+or-assoc Readable v w = refl
+or-assoc (Unreadable r) v w = refl
+
+pub or-none : (v : Verdict) → orElse v Readable ≡ v
+unfolding orElse
+or-none Readable = refl
+or-none (Unreadable r) = refl
 
 -- the tests of a line
 module _ (f n : ℕ) where

@@ -80,7 +80,7 @@ module _ (ps qs : List ℕ) (alike : (k : ℕ) → getD ps k 0 ≡ getD qs k 0) 
 pub past : (n k : ℕ) → k ≤ n → (n ≡ k → ⊥) → k + 1 ≤ n
 past n k h e = omega arith
 
--- no form has a number from 10 on
-pub no-form : (n : ℕ) (v : List ℕ) → 10 ≤ n → false ≡ shape n v
+-- no form has a number from 11 on
+pub no-form : (n : ℕ) (v : List ℕ) → 11 ≤ n → false ≡ shape n v
 unfolding shape shapes
 no-form n v h = sym (ap (λ (f : List ℕ → Bool). f v) (List·getD-eq-default shapes (λ w. false) {n = n} h))

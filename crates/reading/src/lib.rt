@@ -10,22 +10,25 @@ use meaning::Number;
 use meaning::Refusal;
 use meaning::Time;
 use meaning::Verdict;
+use rows::Calendar;
+use rows::Dates;
 use text::LineStep;
 use text::Measured;
 ghost use mathlib.Core.Path.{_≡_};
-ghost use mathlib.Core.Bool.{_&&_};
-ghost use mathlib.Core.List.{[], _∷_};
-ghost use Prim.Native.Nat.{_*_, _<_, _≤_};
+ghost use mathlib.Core.Bool.{not, _&&_};
+ghost use mathlib.Core.List.{List, [], _∷_};
+ghost use Prim.Native.Nat.{ℕ, _*_, _<_, _≤_};
 ghost use lib.Dec.{ltb};
 ghost use lib.ListN.{length};
+ghost use Rattle.meaning.specs.Lists.{empty};
 ghost use Rattle.meaning.specs.Bytes.{linesFrom, linesOf, good, fields, value, values};
 ghost use Rattle.meaning.specs.Columns.{rowOf};
-ghost use Rattle.meaning.specs.Forms.{timeOf, dateOf, latitudeOf, longitudeOf, sequenceOf, choiceOf, routeTypeOf, isTime, isDate, isDegrees, isNumber, isChoice, shape};
-ghost use Rattle.meaning.specs.Tables.{widthOf};
-ghost use Rattle.meaning.specs.Refusals.{textTests, headTests, rowTests, lineTests, onLines, inFile, inFiles, speaks, verdictOf};
+ghost use Rattle.meaning.specs.Forms.{timeOf, dateOf, latitudeOf, longitudeOf, sequenceOf, choiceOf, routeTypeOf, exceptionOf, isTime, isDate, isDegrees, isNumber, isChoice, shape};
+ghost use Rattle.meaning.specs.Tables.{fileOf, widthOf};
+ghost use Rattle.meaning.specs.Refusals.{textTests, headTests, rowTests, lineTests, onLines, inFile, mayLack, rule4, speaks, verdictOf};
 ghost use Rattle.columns.specs.Columns.{placesOf};
 ghost use Rattle.reading.specs.Tests.{first, valueTests, lowerOf};
-ghost use Rattle.reading.specs.Wholes.{wholeOf, firstTrue, wholeClaims};
+ghost use Rattle.reading.specs.Wholes.{wholeOf, wholesOf, ruleMarks, firstTrue, wholeClaims, orElse};
 
 // Is the value of a raw field a time, or empty?
 fn is_time(raw: &[u8]) -> bool
@@ -98,6 +101,16 @@ fn is_route_type(raw: &[u8]) -> bool
     }
 }
 
+// Is it an exception_type?
+fn is_exception(raw: &[u8]) -> bool
+    ensures { λ r. ⌜ r ≡ isChoice (exceptionOf (value (now (raw .entry)))) ⌝ }
+{
+    match forms::exception_of(raw) {
+        Choice::Picked(_) => true,
+        Choice::NoChoice => false,
+    }
+}
+
 // Is it of the form with this number, from 5 on?
 fn is_of_late_form(form: u8, raw: &[u8]) -> bool
     requires { ⌜ 5 ≤ form ⌝ }
@@ -109,6 +122,7 @@ fn is_of_late_form(form: u8, raw: &[u8]) -> bool
         7 => is_choice(raw, 2),
         8 => is_choice(raw, 3),
         9 => is_route_type(raw),
+        10 => is_exception(raw),
         _ => false,
     }
 }
@@ -297,27 +311,15 @@ fn read_file(f: usize, s: &[u8]) -> Verdict
     }
 }
 
-// The files in order.
-fn read_files(s1: &[u8], s2: &[u8], s3: &[u8], s4: &[u8], s5: &[u8]) -> Verdict
-    ensures { λ r. ⌜ r ≡ speaks (inFiles 1 (now (s1 .entry) ∷ now (s2 .entry) ∷ now (s3 .entry) ∷ now (s4 .entry) ∷ now (s5 .entry) ∷ [])) ⌝ }
+// A verdict on what comes before file f; where that can be read, the first line of this file that breaks a rule.
+fn read_on(v: Verdict, f: usize, s: &[u8]) -> Verdict
+    requires { ⌜ f < 7 ⌝ }
+    ensures { λ r. ⌜ r ≡ orElse v (speaks (inFile f (linesOf (now (s .entry))))) ⌝ }
 {
-    let v = read_file(1, s1);
     if let Verdict::Unreadable(_) = v {
         return v;
     }
-    let v = read_file(2, s2);
-    if let Verdict::Unreadable(_) = v {
-        return v;
-    }
-    let v = read_file(3, s3);
-    if let Verdict::Unreadable(_) = v {
-        return v;
-    }
-    let v = read_file(4, s4);
-    if let Verdict::Unreadable(_) = v {
-        return v;
-    }
-    read_file(5, s5)
+    read_file(f, s)
 }
 
 // Is a table of this length shorter than its width times the file's LF count?
@@ -329,110 +331,105 @@ fn is_short(f: usize, room: usize, lf: usize) -> bool
     room / w < lf
 }
 
-// Which of rules 1 to 4 a file breaks.
-pub struct Whole {
-    pub one: bool,
-    pub two: bool,
-    pub three: bool,
-    pub four: bool,
+// May file f be empty, which means "not supplied"? `dated`: file 6 is supplied.
+fn may_lack(f: usize, dated: bool) -> bool
+    ensures { λ r. ⌜ ((files : List (List ℕ)) → dated ≡ not (empty (fileOf files 6)) → r ≡ mayLack files f) ⌝ }
+{
+    f == Dates::FILE || f == Calendar::FILE && dated
 }
 
-// Rules 1 to 4 of a file, with its table's length.
-fn whole_of(f: usize, s: &[u8], room: usize) -> Whole
+// Does a file break rule 4?
+fn is_unended(f: usize, s: &[u8], dated: bool) -> bool
+    ensures { λ r. ⌜ ((files : List (List ℕ)) (room : ℕ) → dated ≡ not (empty (fileOf files 6)) → r ≡ rule4 files f (now (s .entry)) room) ⌝ }
+{
+    if s.len() == 0 {
+        return !may_lack(f, dated);
+    }
+    !text::ends_with_lf(s)
+}
+
+// Which of rules 1 to 4 a file breaks, with its table's length.
+fn whole_of(f: usize, s: &[u8], room: usize, dated: bool) -> [bool; 4]
     requires { ⌜ (0 < f) × (f < 7) ⌝ }
-    ensures { λ r. ⌜ r ≡ wholeOf f (now (s .entry)) room ⌝ }
+    ensures { λ r. ⌜ ((files : List (List ℕ)) → dated ≡ not (empty (fileOf files 6)) → r ≡ wholeOf files f (now (s .entry)) room) ⌝ }
 {
     let lf = text::count_lf(s);
     let short = is_short(f, room, lf);
-    let ended = text::ends_with_lf(s);
-    Whole {
-        one: MAX_BYTES < s.len(),
-        two: MAX_LINES < lf,
-        three: short,
-        four: !ended,
-    }
+    let unended = is_unended(f, s, dated);
+    [MAX_BYTES < s.len(), MAX_LINES < lf, short, unended]
 }
 
-// The first file of five with a mark; 0 where none has one.
-fn first_true(a: bool, b: bool, c: bool, d: bool, e: bool) -> usize
-    ensures { λ r. ⌜ r ≡ firstTrue 1 (a ∷ b ∷ c ∷ d ∷ e ∷ []) ⌝ }
+// The first file that breaks rule k + 1; 0 where none does.
+fn first_true(wholes: [[bool; 4]; 6], k: usize) -> usize
+    requires { ⌜ k < 4 ⌝ }
+    ensures { λ r. ⌜ r ≡ firstTrue 1 (ruleMarks k wholes) ⌝ }
 {
-    if a {
-        return 1;
-    }
-    if b {
-        return 2;
-    }
-    if c {
-        return 3;
-    }
-    if d {
-        return 4;
-    }
-    if e {
-        return 5;
+    let mut f: usize = 0;
+    while f < 6 {
+        if wholes[f][k] {
+            return f + 1;
+        }
+        f += 1;
     }
     0
 }
 
 // Rules 1 to 4, rule by rule.
-fn order(a: Whole, b: Whole, c: Whole, d: Whole, e: Whole) -> Verdict
-    ensures { λ r. ⌜ r ≡ speaks (wholeClaims a b c d e) ⌝ }
+fn order(wholes: [[bool; 4]; 6]) -> Verdict
+    ensures { λ r. ⌜ r ≡ speaks (wholeClaims wholes) ⌝ }
 {
-    let one = first_true(a.one, b.one, c.one, d.one, e.one);
-    if one != 0 {
-        return refuse(1, one, 0);
-    }
-    let two = first_true(a.two, b.two, c.two, d.two, e.two);
-    if two != 0 {
-        return refuse(2, two, 0);
-    }
-    let three = first_true(a.three, b.three, c.three, d.three, e.three);
-    if three != 0 {
-        return refuse(3, three, 0);
-    }
-    let four = first_true(a.four, b.four, c.four, d.four, e.four);
-    if four != 0 {
-        return refuse(4, four, 0);
+    let mut k: usize = 0;
+    while k < 4 {
+        let f = first_true(wholes, k);
+        if f != 0 {
+            return refuse(k + 1, f, 0);
+        }
+        k += 1;
     }
     Verdict::Readable
 }
 
-// The lengths of the five lent tables.
-pub struct Rooms {
-    pub stops: usize,
-    pub routes: usize,
-    pub calendar: usize,
-    pub trips: usize,
-    pub stop_times: usize,
-}
-
-// Rules 1 to 4 over the five files.
-fn read_wholes(s1: &[u8], s2: &[u8], s3: &[u8], s4: &[u8], s5: &[u8], m: Rooms) -> Verdict
-    ensures { λ r. ⌜ r ≡ speaks (wholeClaims (wholeOf 1 (now (s1 .entry)) (m .stops)) (wholeOf 2 (now (s2 .entry)) (m .routes)) (wholeOf 3 (now (s3 .entry)) (m .calendar)) (wholeOf 4 (now (s4 .entry)) (m .trips)) (wholeOf 5 (now (s5 .entry)) (m .«stop_times»))) ⌝ }
+// Rules 1 to 4 over the files.
+fn read_wholes(
+    s1: &[u8],
+    s2: &[u8],
+    s3: &[u8],
+    s4: &[u8],
+    s5: &[u8],
+    s6: &[u8],
+    rooms: [usize; 6],
+) -> Verdict
+    ensures { λ r. ⌜ r ≡ speaks (wholeClaims (wholesOf (now (s1 .entry) ∷ now (s2 .entry) ∷ now (s3 .entry) ∷ now (s4 .entry) ∷ now (s5 .entry) ∷ now (s6 .entry) ∷ []) rooms)) ⌝ }
 {
-    let a = whole_of(1, s1, m.stops);
-    let b = whole_of(2, s2, m.routes);
-    let c = whole_of(3, s3, m.calendar);
-    let d = whole_of(4, s4, m.trips);
-    let e = whole_of(5, s5, m.stop_times);
-    order(a, b, c, d, e)
+    let dated = s6.len() != 0;
+    order([
+        whole_of(1, s1, rooms[0], dated),
+        whole_of(2, s2, rooms[1], dated),
+        whole_of(3, s3, rooms[2], dated),
+        whole_of(4, s4, rooms[3], dated),
+        whole_of(5, s5, rooms[4], dated),
+        whole_of(6, s6, rooms[5], dated),
+    ])
 }
 
-// Can the five files be read into tables of these lengths? If not, the first broken rule with its file and line.
+// Can the six files be read into tables of these lengths? If not, the first broken rule with its file and line.
 pub fn verdict(
     stops: &[u8],
     routes: &[u8],
     calendar: &[u8],
     trips: &[u8],
     stop_times: &[u8],
-    rooms: Rooms,
+    dates: &[u8],
+    rooms: [usize; 6],
 ) -> Verdict
-    ensures { λ r. ⌜ r ≡ verdictOf (now (stops .entry) ∷ now (routes .entry) ∷ now (calendar .entry) ∷ now (trips .entry) ∷ now («stop_times» .entry) ∷ []) (rooms .stops ∷ rooms .routes ∷ rooms .calendar ∷ rooms .trips ∷ rooms .«stop_times» ∷ []) ⌝ }
+    ensures { λ r. ⌜ r ≡ verdictOf (now (stops .entry) ∷ now (routes .entry) ∷ now (calendar .entry) ∷ now (trips .entry) ∷ now («stop_times» .entry) ∷ now (dates .entry) ∷ []) rooms ⌝ }
 {
-    let v = read_wholes(stops, routes, calendar, trips, stop_times, rooms);
-    if let Verdict::Unreadable(_) = v {
-        return v;
-    }
-    read_files(stops, routes, calendar, trips, stop_times)
+    let v = read_wholes(stops, routes, calendar, trips, stop_times, dates, rooms);
+    // A call for each file: slices of several lifetimes can't stand in one array.
+    let v = read_on(v, 1, stops);
+    let v = read_on(v, 2, routes);
+    let v = read_on(v, 3, calendar);
+    let v = read_on(v, 4, trips);
+    let v = read_on(v, 5, stop_times);
+    read_on(v, 6, dates)
 }

@@ -12,7 +12,7 @@ use borrow.Author.Tests.{lt-ltb, le-ltb, ltb-true, ltb-false}
 use Rattle.meaning.specs.Lists.{same, any, some, stands}
 use Rattle.meaning.specs.Rules.{rule20}
 use Rattle.meaning.proofs.ListLaws.{both}
-use Rattle.meaning.proofs.Readable.{some-none}
+use Rattle.meaning.proofs.Tests.{some-none, agree, Found, some-found, found-some, Standing, below, level, over, standing, some-as}
 use Rattle.meaning.proofs.References.{any-yes, any-no}
 use Rattle.marks.specs.Marks.{marked, OneMore}
 use Rattle.ordering.specs.declared.By.{By}
@@ -22,8 +22,6 @@ use Rattle.ordering.specs.Ids.{idOf, inOrder, alike, Sorted, Stands, Whole, Apa
 use Rattle.ordering.proofs.Laws.{Alike, yes, no, alike as decide}
 use Rattle.ordering.proofs.Alikes.{alike-turned, alike-rise, alike-between-last}
 use Rattle.seeking.specs.First.{Held}
-use Rattle.trip_order.proofs.Tests.{agree, Found, some-found, found-some, Standing, below, level, over, standing}
-use Rattle.trip_order.proofs.Feed.{some-as}
 use Rattle.repeats.specs.Repeats.{linked, Unmarked, Marking}
 
 -- ---- the cell before, and an earlier record

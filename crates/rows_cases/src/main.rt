@@ -5,6 +5,8 @@ use meaning::Bounds;
 use meaning::Place;
 use meaning::Time;
 use rows::Calendar;
+use rows::DateRow;
+use rows::Dates;
 use rows::RouteRow;
 use rows::Routes;
 use rows::ServiceRow;
@@ -53,7 +55,7 @@ fn stops() {
     let mut t = [7i32; 13];
     let id = Bounds { start: 36, end: 37 };
     let field = Bounds { start: 41, end: 44 };
-    rows::cells::put_places(&mut t, 1, Stops::WIDTH, id, field);
+    rows::cells::put_places(&mut t, 1, Stops::WIDTH, id, 0, field);
     told(
         b"places",
         same(&t, &[7, 7, 7, 7, 7, 7, 36, 37, 0, 41, 44, 0, 7]),
@@ -90,10 +92,16 @@ fn calendar() {
     told(b"calendar", same(&t, &[0, 0, 127, 10101, 99991231, 7]));
 }
 
-// No direction.
+// No direction. The place of the service's field waits, with zeros behind it; the eighth number is settled, and stays when the others are written.
 fn trips() {
-    let mut t = [7i32; 8];
+    let mut t = [7i32; 9];
     let id = Bounds { start: 5, end: 6 };
+    let field = Bounds { start: 7, end: 10 };
+    rows::cells::put_places(&mut t, 0, Trips::WIDTH, id, 0, field);
+    told(b"a service waits", same(&t, &[5, 6, 0, 7, 10, 0, 0, 0, 7]));
+    let place = Trips::waiting_at(&t, TripRow(0));
+    told(b"its place", both(place.start == 7, place.end == 10));
+    Trips::settle(&mut t, TripRow(0), DateRow(65535));
     Trips::put(
         &mut t,
         TripRow(0),
@@ -104,7 +112,33 @@ fn trips() {
         2,
         1,
     );
-    told(b"trips", same(&t, &[5, 6, 0, 65535, -1, 2, 1, 7]));
+    told(b"trips", same(&t, &[5, 6, 0, 65535, -1, 2, 1, 65535, 7]));
+    told(
+        b"a trip's dates",
+        Trips::dated_at(&t, TripRow(0)).0 == 65535,
+    );
+}
+
+// A service on the last date: its key while it is ordered, then its record. Number 3 is the order's cell until then.
+fn dates() {
+    let mut t = [7i32; 9];
+    let id = Bounds { start: 31, end: 34 };
+    let none = Bounds { start: 0, end: 0 };
+    rows::cells::put_places(&mut t, 1, Dates::WIDTH, id, 99991231, none);
+    told(
+        b"a date waits",
+        same(&t, &[7, 7, 7, 7, 31, 34, 99991231, 0, 7]),
+    );
+    Dates::put(&mut t, DateRow(1), id, 99991231, 2);
+    told(
+        b"calendar_dates",
+        same(&t, &[7, 7, 7, 7, 31, 34, 99991231, 2, 7]),
+    );
+    let date = Dates::date_at(&t, DateRow(1)) == 99991231;
+    told(
+        b"date and type",
+        both(date, Dates::kind_at(&t, DateRow(1)) == 2),
+    );
 }
 
 // The order's cell of record 1 of stop_times is used.
@@ -398,6 +432,7 @@ fn tables() {
     trips();
     waiting_times();
     timepoints();
+    dates();
 }
 
 // All that is read back.

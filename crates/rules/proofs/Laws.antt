@@ -1,75 +1,64 @@
--- Laws: what the findings of each file rest on, and those of all five together.
+-- Laws: what the findings of each file rest on, and those of all files together.
 use Prim.Native.Nat.{ℕ, _+_, _*_, _-_, _≤_}
-use mathlib.Core.Path.{_≡_, sym, ap, _∙_}
-use mathlib.Core.List.{List, _++_}
+use mathlib.Core.Path.{_≡_, refl, sym, ap, _∙_}
+use mathlib.Core.List.{List, [], _∷_, map}
 use native.Mathlib.Omega.{arith}
 use native.Mathlib.Nat.{mul-le-mul-left}
 use lib.IntN.{ℤ}
+use lib.ListN.{length}
 use Rattle.meaning.specs.declared.Place.{Place}
+use Rattle.meaning.specs.Lists.{flat}
 use Rattle.meaning.specs.Bytes.{countLf}
-use Rattle.meaning.specs.Tables.{Feed}
-use Rattle.meaning.specs.Refusals.{Claim, maxLines}
-use Rattle.meaning.specs.Rules.{bindings, bindingsOf}
+use Rattle.meaning.specs.Tables.{Feed, fileOf, rowsIn}
+use Rattle.meaning.specs.Refusals.{maxLines}
+use Rattle.meaning.specs.Rules.{recordCount, fileNumbers, bindings, bindingsOf}
 use Rattle.meaning.specs.Findings.{findingsOf}
 use Rattle.listing.specs.Handing.{State, lentOnly, noting, handedOut}
 use Rattle.listing.proofs.Laws.{noting-all, noting-append}
-use Rattle.held.specs.Held.{Filled}
-use Rattle.held.proofs.Numbers.{lines-held}
-use Rattle.file_rules.specs.Lines.{rowsIn, ruleCount, Ready}
-use Rattle.file_rules.proofs.Walk.{rows-records}
-use Rattle.rules.specs.Tabled.{Tabled}
+use Rattle.meaning.proofs.Records.{rows-count}
+use Rattle.text.proofs.Lines.{lines-all}
+use Rattle.file_rules.specs.Lines.{ruleCount, Ready}
+use Rattle.rules.specs.Tabled.{Tabled, tableOf}
 
 -- what the findings of each file rest on, which has a record for each line but the header
-module _ (w : Feed) (s₁ s₂ s₃ s₄ s₅ : List ℕ) (t₁ t₂ t₃ t₄ t₅ : List ℤ) (marks : List ℕ) (h : Tabled w s₁ s₂ s₃ s₄ s₅ t₁ t₂ t₃ t₄ t₅ marks) where
-  ready : (f : ℕ) → 1 ≤ f → f ≤ 5 → (s : List ℕ) (t : List ℤ) → Filled f w (rowsIn w f) s t → Ready f (countLf s - 1) w t t₁ marks
-  ready f low high s t k = record {
-    file = s;
-    table = k;
-    stops-file = s₁;
-    stops-table = h .stops;
-    all = omega (arith, lines-held f low high w (rowsIn w f) s t k, rows-records w f);
-    noted = h .noted;
-    trips-noted = h .trips-noted;
-    named = h .named;
-  }
+pub ready :
+    (f : ℕ)
+    → 1 ≤ f
+    → f ≤ 6
+    → (w : Feed) (files : List (List ℕ)) (tables : List (List ℤ)) (marks : List ℕ)
+    → Tabled w files tables marks
+    → Ready f (countLf (fileOf files f) - 1) w (tableOf tables f) (tableOf tables 1) marks
+unfolding rowsIn recordCount
+ready f low high w files tables marks h =
+    let k = h .filled f low high in
+    record {
+      file = fileOf files f;
+      table = k;
+      stops-file = fileOf files 1;
+      stops-table = h .filled 1 (omega arith) (omega arith);
+      all = sym (ap length (k .read) ∙ rows-count f (fileOf files f) ∙ ap (λ (n : ℕ). n - 1) (lines-all (fileOf files f)));
+      noted = h .noted;
+      trips-noted = h .trips-noted;
+      named = h .named;
+    }
 
-  pub stops-ready : Ready 1 (countLf s₁ - 1) w t₁ t₁ marks
-  unfolding rowsIn
-  stops-ready = ready 1 (omega arith) (omega arith) s₁ t₁ (h .stops)
+-- states of a list, each from the one before by the findings of one file after the other
+pub data Steps (w : Feed) (p : Place) : List ℕ → State → State → Type 0 where
+  done : {x : State} → Steps w p [] x x
+  step : {f : ℕ} {fs : List ℕ} {x y z : State} → y ≡ noting p (bindingsOf w f) x → Steps w p fs y z → Steps w p (f ∷ fs) x z
 
-  pub routes-ready : Ready 2 (countLf s₂ - 1) w t₂ t₁ marks
-  unfolding rowsIn
-  routes-ready = ready 2 (omega arith) (omega arith) s₂ t₂ (h .routes)
+steps-noted : (w : Feed) (p : Place) (fs : List ℕ) (x z : State) → Steps w p fs x z → z ≡ noting p (flat (map (bindingsOf w) fs)) x
+unfolding flat noting
+steps-noted w p [] x z done = refl
+steps-noted w p (f ∷ fs) x z (step {y = y} e r) =
+    steps-noted w p fs y z r
+    ∙ ap (noting p (flat (map (bindingsOf w) fs))) e
+    ∙ sym (noting-append p (bindingsOf w f) (flat (map (bindingsOf w) fs)) x)
 
-  pub calendar-ready : Ready 3 (countLf s₃ - 1) w t₃ t₁ marks
-  unfolding rowsIn
-  calendar-ready = ready 3 (omega arith) (omega arith) s₃ t₃ (h .calendar)
-
-  pub trips-ready : Ready 4 (countLf s₄ - 1) w t₄ t₁ marks
-  unfolding rowsIn
-  trips-ready = ready 4 (omega arith) (omega arith) s₄ t₄ (h .trips)
-
-  pub times-ready : Ready 5 (countLf s₅ - 1) w t₅ t₁ marks
-  unfolding rowsIn
-  times-ready = ready 5 (omega arith) (omega arith) s₅ t₅ (h .times)
-
--- the findings of five files, one file after the other
-pub all-noted :
-    (w : Feed) (p : Place) (lent : List ℤ) (x₁ x₂ x₃ x₄ x₅ : State)
-    → x₁ ≡ noting p (bindingsOf w 1) (lentOnly lent)
-    → x₂ ≡ noting p (bindingsOf w 2) x₁
-    → x₃ ≡ noting p (bindingsOf w 3) x₂
-    → x₄ ≡ noting p (bindingsOf w 4) x₃
-    → x₅ ≡ noting p (bindingsOf w 5) x₄
-    → x₅ ≡ handedOut p (findingsOf w) lent
+-- the findings of all files
+pub all-noted : (w : Feed) (p : Place) (lent : List ℤ) (z : State) → Steps w p fileNumbers (lentOnly lent) z → z ≡ handedOut p (findingsOf w) lent
 unfolding findingsOf bindings
-all-noted w p lent x₁ x₂ x₃ x₄ x₅ a b c d e =
-    after 1 (lentOnly lent) x₁ _ a (after 2 x₁ x₂ _ b (after 3 x₂ x₃ _ c (after 4 x₃ x₄ (bindingsOf w 5) d e)))
-    ∙ noting-all p (bindings w) lent
-  where
-    -- one file before those that follow
-    after : (f : ℕ) (x y : State) (rest : List Claim) → y ≡ noting p (bindingsOf w f) x → x₅ ≡ noting p rest y → x₅ ≡ noting p (bindingsOf w f ++ rest) x
-    after f x y rest g k = k ∙ ap (noting p rest) g ∙ sym (noting-append p (bindingsOf w f) rest x)
+all-noted w p lent z r = steps-noted w p fileNumbers (lentOnly lent) z r ∙ noting-all p (bindings w) lent
 
 -- a file of at most 65,536 lines has at most so many findings
 pub total-most : (f r k n l : ℕ) → r ≤ k + ruleCount f * n → n ≡ l - 1 → l ≤ maxLines → r ≤ k + ruleCount f * maxLines

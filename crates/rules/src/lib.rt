@@ -1,5 +1,6 @@
 // All findings of a feed whose tables are filled, handed out in order.
 ghost use mathlib.Core.Path.{_≡_};
+ghost use mathlib.Core.List.{[], _∷_};
 ghost use Prim.Native.Nat.{_+_, _*_, _-_, _^_, _≤_};
 ghost use lib.ListN.{length};
 ghost use Rattle.meaning.specs.Bytes.{countLf};
@@ -35,7 +36,7 @@ fn list_counted(
     k: Sink,
     p: Place,
 ) -> Sink
-    requires { ⌜ (1 ≤ f) × ((f ≤ 5) × ((countLf (now s) ≤ maxLines) × (k .total ≤ 2 ^ 61))) ⌝ }
+    requires { ⌜ (1 ≤ f) × ((f ≤ 6) × ((countLf (now s) ≤ maxLines) × (k .total ≤ 2 ^ 61))) ⌝ }
     ensures { λ r. ⌜ ((w : Feed) → Ready f (countLf (now (s .entry)) - 1) w (now (t .entry)) (now (stops .entry)) (now (marks .entry))
         → state (now (out .exit)) r ≡ noting p (bindingsOf w f) (state (now (out .entry)) k)) ⌝ }
     ensures { λ r. ⌜ r .total ≤ k .total + ruleCount f * maxLines ⌝ }
@@ -50,21 +51,25 @@ pub fn list_findings(
     calendar: &[u8],
     trips: &[u8],
     stop_times: &[u8],
+    dates: &[u8],
     stops_table: &[i32],
     routes_table: &[i32],
     calendar_table: &[i32],
     trips_table: &[i32],
-    times: &[i32],
+    times_table: &[i32],
+    dates_table: &[i32],
     marks: &[u16],
     out: &mut [i32],
     p: Place,
 ) -> Sink
-    requires { ⌜ (countLf (now stops) ≤ maxLines) × ((countLf (now routes) ≤ maxLines) × ((countLf (now calendar) ≤ maxLines) × ((countLf (now trips) ≤ maxLines) × (countLf (now «stop_times») ≤ maxLines)))) ⌝ }
+    requires { ⌜ (countLf (now stops) ≤ maxLines) × ((countLf (now routes) ≤ maxLines) × ((countLf (now calendar) ≤ maxLines) × ((countLf (now trips) ≤ maxLines) × ((countLf (now «stop_times») ≤ maxLines) × (countLf (now dates) ≤ maxLines))))) ⌝ }
     ensures { λ r. ⌜ ((w : Feed)
-        → Tabled w (now (stops .entry)) (now (routes .entry)) (now (calendar .entry)) (now (trips .entry)) (now («stop_times» .entry))
-        (now («stops_table» .entry)) (now («routes_table» .entry)) (now («calendar_table» .entry)) (now («trips_table» .entry)) (now (times .entry)) (now (marks .entry))
+        → Tabled w
+        (now (stops .entry) ∷ now (routes .entry) ∷ now (calendar .entry) ∷ now (trips .entry) ∷ now («stop_times» .entry) ∷ now (dates .entry) ∷ [])
+        (now («stops_table» .entry) ∷ now («routes_table» .entry) ∷ now («calendar_table» .entry) ∷ now («trips_table» .entry) ∷ now («times_table» .entry) ∷ now («dates_table» .entry) ∷ [])
+        (now (marks .entry))
         → state (now (out .exit)) r ≡ handedOut p (findingsOf w) (now (out .entry))) ⌝ }
-    ensures { λ r. ⌜ r .total ≤ 17 * maxLines ⌝ }
+    ensures { λ r. ⌜ r .total ≤ 18 * maxLines ⌝ }
 {
     let none = Sink {
         written: 0,
@@ -74,5 +79,6 @@ pub fn list_findings(
     let k = list_counted(2, routes, routes_table, stops_table, marks, out, k, p);
     let k = list_counted(3, calendar, calendar_table, stops_table, marks, out, k, p);
     let k = list_counted(4, trips, trips_table, stops_table, marks, out, k, p);
-    list_counted(5, stop_times, times, stops_table, marks, out, k, p)
+    let k = list_counted(5, stop_times, times_table, stops_table, marks, out, k, p);
+    list_counted(6, dates, dates_table, stops_table, marks, out, k, p)
 }

@@ -30,9 +30,8 @@ use Rattle.trip_order.proofs.Feed.{twenty-eight, twenty-nine, thirty, thirty-on
 use Rattle.trip_walk.specs.Table.{sameIn, timedIn, linesIn}
 use Rattle.trip_walk.specs.Told.{Told}
 use Rattle.records.specs.Line.{line}
-use Rattle.tables.specs.Walk.{placeOf}
+use Rattle.tables.specs.Walk.{placeOf, written}
 use Rattle.records.specs.Waiting.{waitingOf}
-use Rattle.tables.specs.Walk.{written}
 use Rattle.tables.proofs.Ids.{lines-in, place-value, row-of-line, rows-count}
 use Rattle.tables.proofs.Waits.{waits-at}
 

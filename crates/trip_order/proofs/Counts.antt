@@ -5,7 +5,7 @@ use mathlib.Core.Path.{_≡_, refl}
 use mathlib.Core.Bool.{Bool, true, false, cond}
 use Rattle.meaning.proofs.ListLaws.{both}
 use Rattle.trip_order.specs.Lines.{count}
-use Rattle.trip_order.proofs.Tests.{untrue, Standing, below, level, over, standing}
+use Rattle.meaning.proofs.Tests.{untrue, Standing, below, level, over, standing}
 
 pub count-none : (T : ℕ → Bool) (n : ℕ) → ((x : ℕ) → 0 < x → x ≤ n → T x ≡ false) → count T n ≡ 0
 unfolding count

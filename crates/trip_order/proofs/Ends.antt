@@ -11,7 +11,7 @@ use Rattle.meaning.proofs.ListLaws.{both, and-both}
 use Rattle.ordering.specs.Ids.{Stands, Whole}
 use Rattle.trip_order.specs.Lines.{Lines, Trips, count, ahead, beyond, isFirst, isLast, rule30, rule31}
 use Rattle.trip_order.specs.Cells.{Grouped, linked, ends, Walked}
-use Rattle.trip_order.proofs.Tests.{untrue, Found, some-found, Standing, below, level, over, standing}
+use Rattle.meaning.proofs.Tests.{untrue, Found, some-found, Standing, below, level, over, standing}
 use Rattle.trip_order.proofs.Groups.{linked-is, is-linked, no-fall}
 use Rattle.trip_order.proofs.Counts.{count-none, count-two, count-one}
 use Rattle.trip_order.proofs.Firsts.{best-only, ahead-yes, ahead-no, beyond-yes, beyond-no}

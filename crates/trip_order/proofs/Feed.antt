@@ -16,6 +16,7 @@ use Rattle.meaning.specs.Tables.{Feed, under, refer, tripIds, tripId, timeTrip}
 use Rattle.meaning.specs.Rules as R
 use Rattle.meaning.specs.Rules.{row, rule20, timeRow, sequenceAt, isOf, timed, arrives, departs, ofTrip, firstOfTrip, openEnded}
 use Rattle.meaning.proofs.ListLaws.{both, same-self, keep-append}
+use Rattle.meaning.proofs.Tests.{from-one}
 use Rattle.meaning.proofs.References.{First, absent, found, find-first, twentieth, refer-same}
 use Rattle.meaning.proofs.Readable.{getD-map-in}
 use Rattle.trip_order.specs.Lines.{Lines, rule28, rule29, rule30, rule31, count, ahead, beyond, isFirst, isLast}
@@ -23,21 +24,7 @@ use Rattle.trip_order.specs.Feed.{linesOf, Agree}
 
 -- ---- numbers from 1 on are indexes from 0 on
 
-pub some-as : (P Q : ℕ → Bool) (k n : ℕ) → ((j : ℕ) → k ≤ j → j < k + n → P j ≡ Q j) → some P k n ≡ some Q k n
-unfolding some
-some-as P Q k zero h = refl
-some-as P Q k (suc n) h = rw (h k (omega arith) (omega arith), some-as P Q (k + 1) n (λ j a b. h j (omega arith) (omega arith)))
-
-pub some-shift : (P : ℕ → Bool) (k n : ℕ) → some P (k + 1) n ≡ some (λ j. P (j + 1)) k n
-unfolding some
-some-shift P k zero = refl
-some-shift P k (suc n) = rw (some-shift P (k + 1) n)
-
--- a test of lines 1 to n is a test of indexes below n
-from-one : (P Q : ℕ → Bool) (n : ℕ) → ((j : ℕ) → j < n → P (j + 1) ≡ Q j) → some P 1 n ≡ some Q 0 n
-from-one P Q n h = some-shift P 0 n ∙ some-as (λ j. P (j + 1)) Q 0 n (λ j a b. h j (omega arith))
-
--- .. and so is a count
+-- a count of lines 1 to n is a count of indexes below n
 count-kept : (T : ℕ → Bool) (Q : Row → Bool) (rs : List Row) (n : ℕ) → n ≤ length rs → ((j : ℕ) → j < n → T (j + 1) ≡ Q (getD rs j [])) → count T n ≡ length (keep Q (take n rs))
 unfolding count keep
 count-kept T Q rs zero l h = refl

@@ -9,7 +9,7 @@ use borrow.Author.Tests.{lt-ltb, le-ltb, eq-eqb, ne-eqb, not-true}
 use Rattle.meaning.specs.Lists.{some}
 use Rattle.meaning.proofs.ListLaws.{both, and-both}
 use Rattle.trip_order.specs.Lines.{Lines, ahead, beyond}
-use Rattle.trip_order.proofs.Tests.{agree, or-right, untrue, Found, some-found, found-some, Standing, below, level, over, standing}
+use Rattle.meaning.proofs.Tests.{agree, or-right, untrue, Found, some-found, found-some, Standing, below, level, over, standing}
 
 -- ---- over any relation
 

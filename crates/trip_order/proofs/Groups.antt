@@ -9,7 +9,7 @@ use borrow.Author.Tests.{ltb-true, lt-ltb, eqb-true, eq-eqb}
 use Rattle.meaning.proofs.ListLaws.{both, and-both}
 use Rattle.trip_order.specs.Lines.{Lines, Trips}
 use Rattle.trip_order.specs.Cells.{Grouped, linked, repeats, Level}
-use Rattle.trip_order.proofs.Tests.{Standing, below, level, over, standing}
+use Rattle.meaning.proofs.Tests.{Standing, below, level, over, standing}
 
 -- ---- cells that go on
 

@@ -1,5 +1,4 @@
 -- Laws of lines in trip order.
-pub mod Tests
 pub mod Groups
 pub mod Greatest
 pub mod Sequences

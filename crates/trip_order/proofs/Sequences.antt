@@ -10,7 +10,7 @@ use Rattle.meaning.proofs.ListLaws.{and-both}
 use Rattle.ordering.specs.Ids.{Whole}
 use Rattle.trip_order.specs.Lines.{Lines, Trips, rule28, rule29}
 use Rattle.trip_order.specs.Cells.{Grouped, repeats, leaves, Lower, Greatest}
-use Rattle.trip_order.proofs.Tests.{agree, some-found, found-some, Standing, below, level, over, standing}
+use Rattle.meaning.proofs.Tests.{agree, some-found, found-some, Standing, below, level, over, standing}
 use Rattle.trip_order.proofs.Groups.{linked-is, repeats-is, is-repeats, before-links, no-fall}
 
 -- ---- 28

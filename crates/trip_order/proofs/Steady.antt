@@ -11,13 +11,12 @@ use lib.ListN.{length}
 use borrow.Author.Tests.{ltb-true, lt-ltb, eq-eqb, ne-eqb, leb-true, le-leb, not-true}
 use Rattle.meaning.specs.Lists.{some}
 use Rattle.meaning.proofs.ListLaws.{both, and-both}
-use Rattle.meaning.proofs.Readable.{some-none}
+use Rattle.meaning.proofs.Tests.{some-none, agree, either, or-left, or-right, untrue, Found, some-found, found-some}
 use Rattle.marks.specs.Marks.{marked, OneMore, metMark}
 use Rattle.ordering.proofs.Laws.{Alike, yes, no, alike}
 use Rattle.trip_order.specs.Lines.{Lines, Trips}
 use Rattle.trip_order.specs.Cells.{Grouped}
 use Rattle.trip_order.specs.Steady.{goesOn, steady, Met}
-use Rattle.trip_order.proofs.Tests.{agree, either, or-left, or-right, untrue, Found, some-found, found-some}
 use Rattle.trip_order.proofs.Groups.{linked-is, before-links, no-fall}
 
 -- ---- the test and the order

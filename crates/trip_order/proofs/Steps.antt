@@ -7,7 +7,7 @@ use mathlib.Core.Logic.{_⊎_, inl, inr}
 use Rattle.meaning.proofs.ListLaws.{both}
 use Rattle.trip_order.specs.Lines.{Lines, Trips}
 use Rattle.trip_order.specs.Cells.{Grouped, linked, repeats, leaves, larger, Level, Lower, Greatest, Walked, nextLower, nextLevel, nextStart, nextRun}
-use Rattle.trip_order.proofs.Tests.{Standing, below, level, over, standing}
+use Rattle.meaning.proofs.Tests.{Standing, below, level, over, standing}
 use Rattle.trip_order.proofs.Groups.{linked-is, repeats-is, is-repeats, no-fall, Joins, here, split, alone, onward, climbs}
 use Rattle.trip_order.proofs.Greatest.{top-as, top-none, top-one, top-join}
 

@@ -14,7 +14,7 @@ use Rattle.rows.specs.Cells.{natAt}
 use Rattle.ordering.specs.Ids.{tripOf, keyOf}
 use Rattle.trip_order.specs.Cells.{Grouped}
 use Rattle.trip_order.specs.Steady.{goesOn, steady, Met}
-use Rattle.trip_order.proofs.Tests.{untrue}
+use Rattle.meaning.proofs.Tests.{untrue}
 use Rattle.trip_order.proofs.Steady.{met-none, met-more, met-goes, steady-step, steady-less, steady-grouped}
 use Rattle.trip_walk.specs.Table.{linesIn}
 use Rattle.trip_walk.specs.Told.{OnlyMet}

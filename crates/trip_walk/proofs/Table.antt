@@ -19,7 +19,7 @@ use Rattle.ordering.proofs.Laws.{keys-kept, trips-kept, strays-kept}
 use Rattle.ordering.proofs.Trips.{trips-together, sequences-rise}
 use Rattle.trip_order.specs.Lines.{Lines, Trips, rule28, rule29, rule30, rule31}
 use Rattle.trip_order.specs.Steady.{ByTrip}
-use Rattle.trip_order.proofs.Tests.{agree}
+use Rattle.meaning.proofs.Tests.{agree}
 use Rattle.trip_walk.specs.Table.{sameIn, timedIn, linesIn}
 use Rattle.trip_walk.specs.Told.{Told}
 

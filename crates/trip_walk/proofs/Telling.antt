@@ -9,13 +9,12 @@ use lib.ListN.{length}
 use borrow.Author.Tests.{eqb-true, eq-eqb}
 use Rattle.meaning.specs.Lists.{some}
 use Rattle.meaning.proofs.ListLaws.{both}
-use Rattle.meaning.proofs.Readable.{some-none}
+use Rattle.meaning.proofs.Tests.{some-none, Found, some-found}
 use Rattle.marks.specs.Marks.{marked, MarkedIf}
 use Rattle.ordering.specs.Ids.{Whole, Apart}
 use Rattle.ordering.proofs.Laws.{Alike, yes, no, alike}
 use Rattle.trip_order.specs.Lines.{Lines, Trips}
 use Rattle.trip_order.specs.Cells.{Grouped, ends}
-use Rattle.trip_order.proofs.Tests.{Found, some-found, below}
 use Rattle.trip_order.proofs.Ends.{past-end, end-of}
 use Rattle.trip_walk.specs.Told.{ToldTwo}
 

@@ -12,7 +12,7 @@ use Rattle.marks.specs.Marks.{marked, equalMark, fallingMark, pairedMark, openM
 use Rattle.ordering.specs.Ids.{Whole, Apart}
 use Rattle.trip_order.specs.Lines.{Lines, Trips, rule28, rule29, rule30, rule31}
 use Rattle.trip_order.specs.Cells.{Grouped, linked, ends, Walked}
-use Rattle.trip_order.proofs.Tests.{Standing, below, level, over, standing}
+use Rattle.meaning.proofs.Tests.{Standing, below, level, over, standing}
 use Rattle.trip_order.proofs.Sequences.{rule28-cell, rule29-cell}
 use Rattle.trip_order.proofs.Steps.{walk-next}
 use Rattle.trip_order.proofs.Ends.{rule30-end, rule31-end, rule30-none, rule31-none}

@@ -84,7 +84,7 @@ module _ (files : List (List ℕ)) (rooms : List ℕ) (r : Refusal) (e : verdict
       go true h = let z : r .line ≡ 0 = said .line .1 (omega (arith, ltb-true (r .number) 5 h)) in omega arith
       go false h = omega (arith, said .last, lines-all (fileOf files (r .file)), few-lines (ltb-false (r .number) 5 h))
 
-  pub small-refusal : length files ≤ 5 → Small (Refused r)
+  pub small-refusal : length files ≤ 6 → Small (Refused r)
   small-refusal h = (said .highest, (omega (arith, said .file .1), (small-line, omega (arith, said .column))))
 
 kept-fewer : {A : Type 0} (P : A → Bool) (l : List A) → length (keep P l) ≤ length l
@@ -104,7 +104,7 @@ page-within p room ds = omega (arith, length-take room (keep (after p) ds), kept
 pub small-findings :
     (p : Place) (ds : List Finding) (lent list : List ℤ) (k : Sink) (r : Answer)
     → state list k ≡ handedOut p ds lent
-    → k .total ≤ 17 * maxLines
+    → k .total ≤ 18 * maxLines
     → r ≡ cond (eqb (k .total) 0) Accepted (Findings (k .written) (k .total))
     → Small r
 small-findings p ds lent list k r g h e =
@@ -112,6 +112,6 @@ small-findings p ds lent list k r g h e =
     let m : k .total ≡ length ds = ap (λ (z : State). z .total) g in
     rw e (go (eqb (k .total) 0) (omega (arith, page-within p (roomOf lent) ds)))
   where
-    go : (b : Bool) → k .written ≤ 17 * maxLines → Small (cond b Accepted (Findings (k .written) (k .total)))
+    go : (b : Bool) → k .written ≤ 18 * maxLines → Small (cond b Accepted (Findings (k .written) (k .total)))
     go true w = tt
     go false w = (w, h)

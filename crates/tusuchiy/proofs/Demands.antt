@@ -1,4 +1,4 @@
--- The three demands hold of every call of `check`: of each outcome that its contract names.
+-- The three demands, and services by date, hold of every call of `check`: of each outcome that its contract names.
 use Prim.Native.Nat.{ℕ}
 use mathlib.Core.Path.{_≡_, refl}
 use mathlib.Core.List.{List, [], _∷_}
@@ -6,14 +6,16 @@ use lib.IntN.{ℤ}
 use Rattle.meaning.specs.declared.Place.{Place}
 use Rattle.meaning.specs.Outcome.{Outcome, outcome}
 use Rattle.meaning.specs.Demands.{Demand1, Demand2, Demand3}
+use Rattle.meaning.specs.ByDate.{ByDate}
 use Rattle.meaning.proofs.Demands as D
+use Rattle.meaning.proofs.ByDate as E
 
-module _ (s₁ s₂ s₃ s₄ s₅ : List ℕ) (t₁ t₂ t₃ t₄ t₅ list : List ℤ) (p : Place) where
+module _ (s₁ s₂ s₃ s₄ s₅ s₆ : List ℕ) (t₁ t₂ t₃ t₄ t₅ t₆ list : List ℤ) (p : Place) where
   abbrev files : List (List ℕ)
-  files = s₁ ∷ s₂ ∷ s₃ ∷ s₄ ∷ s₅ ∷ []
+  files = s₁ ∷ s₂ ∷ s₃ ∷ s₄ ∷ s₅ ∷ s₆ ∷ []
 
   abbrev tables : List (List ℤ)
-  tables = t₁ ∷ t₂ ∷ t₃ ∷ t₄ ∷ t₅ ∷ []
+  tables = t₁ ∷ t₂ ∷ t₃ ∷ t₄ ∷ t₅ ∷ t₆ ∷ []
 
   module _ (o : Outcome) (checked : outcome files tables list p ≡ o) where
     pub demand-1 : Demand1 files tables list o
@@ -24,3 +26,6 @@ module _ (s₁ s₂ s₃ s₄ s₅ : List ℕ) (t₁ t₂ t₃ t₄ t₅ list : 
 
     pub demand-3 : Demand3 files tables list p o
     demand-3 = rw (← checked) (D.demand-3 files tables list p refl refl)
+
+    pub by-date : ByDate files tables o
+    by-date = rw (← checked) (E.by-date files tables list p refl refl)

@@ -11,7 +11,6 @@ use listing::Sink;
 use meaning::Answer;
 use meaning::Place;
 use meaning::Verdict;
-use reading::Rooms;
 
 // Accepted exactly when there is no finding; else how many are written, and how many there are.
 fn answer_of(k: Sink) -> Answer
@@ -33,21 +32,23 @@ fn checked(
     calendar: &[u8],
     trips: &[u8],
     stop_times: &[u8],
+    calendar_dates: &[u8],
     stops_table: &mut [i32],
     routes_table: &mut [i32],
     calendar_table: &mut [i32],
     trips_table: &mut [i32],
     stop_times_table: &mut [i32],
+    calendar_dates_table: &mut [i32],
     findings: &mut [i32],
     from: Place,
 ) -> Answer
-    requires { ⌜ verdictOf (now stops ∷ now routes ∷ now calendar ∷ now trips ∷ now «stop_times» ∷ [])
-        (length (now «stops_table») ∷ length (now «routes_table») ∷ length (now «calendar_table») ∷ length (now «trips_table») ∷ length (now «stop_times_table») ∷ []) ≡ Verdict.Readable ⌝ }
+    requires { ⌜ verdictOf (now stops ∷ now routes ∷ now calendar ∷ now trips ∷ now «stop_times» ∷ now «calendar_dates» ∷ [])
+        (length (now «stops_table») ∷ length (now «routes_table») ∷ length (now «calendar_table») ∷ length (now «trips_table») ∷ length (now «stop_times_table») ∷ length (now «calendar_dates_table») ∷ []) ≡ Verdict.Readable ⌝ }
     ensures { λ r. ⌜ readOutcome
-        (now (stops .entry) ∷ now (routes .entry) ∷ now (calendar .entry) ∷ now (trips .entry) ∷ now («stop_times» .entry) ∷ [])
-        (now («stops_table» .entry) ∷ now («routes_table» .entry) ∷ now («calendar_table» .entry) ∷ now («trips_table» .entry) ∷ now («stop_times_table» .entry) ∷ [])
+        (now (stops .entry) ∷ now (routes .entry) ∷ now (calendar .entry) ∷ now (trips .entry) ∷ now («stop_times» .entry) ∷ now («calendar_dates» .entry) ∷ [])
+        (now («stops_table» .entry) ∷ now («routes_table» .entry) ∷ now («calendar_table» .entry) ∷ now («trips_table» .entry) ∷ now («stop_times_table» .entry) ∷ now («calendar_dates_table» .entry) ∷ [])
         (now (findings .entry)) from
-        ≡ record { answer = r; tables = now («stops_table» .exit) ∷ now («routes_table» .exit) ∷ now («calendar_table» .exit) ∷ now («trips_table» .exit) ∷ now («stop_times_table» .exit) ∷ []; list = now (findings .exit) } ⌝ }
+        ≡ record { answer = r; tables = now («stops_table» .exit) ∷ now («routes_table» .exit) ∷ now («calendar_table» .exit) ∷ now («trips_table» .exit) ∷ now («stop_times_table» .exit) ∷ now («calendar_dates_table» .exit) ∷ []; list = now (findings .exit) } ⌝ }
     ensures { λ r. ⌜ Small r ⌝ }
 {
     let mut marks = marks::blank();
@@ -57,11 +58,13 @@ fn checked(
         calendar,
         trips,
         stop_times,
+        calendar_dates,
         stops_table,
         routes_table,
         calendar_table,
         trips_table,
         stop_times_table,
+        calendar_dates_table,
         &mut marks,
     );
     let k = rules::list_findings(
@@ -70,11 +73,13 @@ fn checked(
         calendar,
         trips,
         stop_times,
+        calendar_dates,
         stops_table,
         routes_table,
         calendar_table,
         trips_table,
         stop_times_table,
+        calendar_dates_table,
         &marks,
         findings,
         from,
@@ -82,47 +87,60 @@ fn checked(
     answer_of(k)
 }
 
-// The check: from five files, five tables and a list as lent, and a starting place, to the answer and what all six hold.
+// The check: from six files, six tables and a list as lent, and a starting place, to the answer and what all seven hold.
 pub fn check(
     stops: &[u8],
     routes: &[u8],
     calendar: &[u8],
     trips: &[u8],
     stop_times: &[u8],
+    calendar_dates: &[u8],
     stops_table: &mut [i32],
     routes_table: &mut [i32],
     calendar_table: &mut [i32],
     trips_table: &mut [i32],
     stop_times_table: &mut [i32],
+    calendar_dates_table: &mut [i32],
     findings: &mut [i32],
     from: Place,
 ) -> Answer
     ensures { λ r. ⌜ outcome
-        (now (stops .entry) ∷ now (routes .entry) ∷ now (calendar .entry) ∷ now (trips .entry) ∷ now («stop_times» .entry) ∷ [])
-        (now («stops_table» .entry) ∷ now («routes_table» .entry) ∷ now («calendar_table» .entry) ∷ now («trips_table» .entry) ∷ now («stop_times_table» .entry) ∷ [])
+        (now (stops .entry) ∷ now (routes .entry) ∷ now (calendar .entry) ∷ now (trips .entry) ∷ now («stop_times» .entry) ∷ now («calendar_dates» .entry) ∷ [])
+        (now («stops_table» .entry) ∷ now («routes_table» .entry) ∷ now («calendar_table» .entry) ∷ now («trips_table» .entry) ∷ now («stop_times_table» .entry) ∷ now («calendar_dates_table» .entry) ∷ [])
         (now (findings .entry)) from
-        ≡ record { answer = r; tables = now («stops_table» .exit) ∷ now («routes_table» .exit) ∷ now («calendar_table» .exit) ∷ now («trips_table» .exit) ∷ now («stop_times_table» .exit) ∷ []; list = now (findings .exit) } ⌝ }
+        ≡ record { answer = r; tables = now («stops_table» .exit) ∷ now («routes_table» .exit) ∷ now («calendar_table» .exit) ∷ now («trips_table» .exit) ∷ now («stop_times_table» .exit) ∷ now («calendar_dates_table» .exit) ∷ []; list = now (findings .exit) } ⌝ }
     ensures { λ r. ⌜ Small r ⌝ }
 {
-    let rooms = Rooms {
-        stops: stops_table.len(),
-        routes: routes_table.len(),
-        calendar: calendar_table.len(),
-        trips: trips_table.len(),
-        stop_times: stop_times_table.len(),
-    };
-    match reading::verdict(stops, routes, calendar, trips, stop_times, rooms) {
+    let rooms = [
+        stops_table.len(),
+        routes_table.len(),
+        calendar_table.len(),
+        trips_table.len(),
+        stop_times_table.len(),
+        calendar_dates_table.len(),
+    ];
+    match reading::verdict(
+        stops,
+        routes,
+        calendar,
+        trips,
+        stop_times,
+        calendar_dates,
+        rooms,
+    ) {
         Verdict::Readable => checked(
             stops,
             routes,
             calendar,
             trips,
             stop_times,
+            calendar_dates,
             stops_table,
             routes_table,
             calendar_table,
             trips_table,
             stop_times_table,
+            calendar_dates_table,
             findings,
             from,
         ),

@@ -79,7 +79,7 @@ fn place_of(file: i32, line: i32, rule: i32) -> Place
     Place { file, line, rule }
 }
 
-// The check over five files, five lent tables and a lent list, from a starting place.
+// The check over six files, six lent tables and a lent list, from a starting place. An empty slice of file 3 or 6 means: not supplied.
 #[no_mangle]
 pub extern "C" fn tusuchiy_check(
     stops: &[u8],
@@ -87,28 +87,30 @@ pub extern "C" fn tusuchiy_check(
     calendar: &[u8],
     trips: &[u8],
     stop_times: &[u8],
+    calendar_dates: &[u8],
     stops_table: &mut [i32],
     routes_table: &mut [i32],
     calendar_table: &mut [i32],
     trips_table: &mut [i32],
     stop_times_table: &mut [i32],
+    calendar_dates_table: &mut [i32],
     findings: &mut [i32],
     after_file: i32,
     after_line: i32,
     after_rule: i32,
 ) -> TusuchiyAnswer
     ensures { λ r. ⌜ Told (outcome
-        (now (stops .entry) ∷ now (routes .entry) ∷ now (calendar .entry) ∷ now (trips .entry) ∷ now («stop_times» .entry) ∷ [])
-        (now («stops_table» .entry) ∷ now («routes_table» .entry) ∷ now («calendar_table» .entry) ∷ now («trips_table» .entry) ∷ now («stop_times_table» .entry) ∷ [])
+        (now (stops .entry) ∷ now (routes .entry) ∷ now (calendar .entry) ∷ now (trips .entry) ∷ now («stop_times» .entry) ∷ now («calendar_dates» .entry) ∷ [])
+        (now («stops_table» .entry) ∷ now («routes_table» .entry) ∷ now («calendar_table» .entry) ∷ now («trips_table» .entry) ∷ now («stop_times_table» .entry) ∷ now («calendar_dates_table» .entry) ∷ [])
         (now (findings .entry)) (record { file = «after_file»; line = «after_line»; rule = «after_rule» }) .answer) r ⌝ }
     ensures { λ _. ⌜ outcome
-        (now (stops .entry) ∷ now (routes .entry) ∷ now (calendar .entry) ∷ now (trips .entry) ∷ now («stop_times» .entry) ∷ [])
-        (now («stops_table» .entry) ∷ now («routes_table» .entry) ∷ now («calendar_table» .entry) ∷ now («trips_table» .entry) ∷ now («stop_times_table» .entry) ∷ [])
+        (now (stops .entry) ∷ now (routes .entry) ∷ now (calendar .entry) ∷ now (trips .entry) ∷ now («stop_times» .entry) ∷ now («calendar_dates» .entry) ∷ [])
+        (now («stops_table» .entry) ∷ now («routes_table» .entry) ∷ now («calendar_table» .entry) ∷ now («trips_table» .entry) ∷ now («stop_times_table» .entry) ∷ now («calendar_dates_table» .entry) ∷ [])
         (now (findings .entry)) (record { file = «after_file»; line = «after_line»; rule = «after_rule» }) .tables
-        ≡ now («stops_table» .exit) ∷ now («routes_table» .exit) ∷ now («calendar_table» .exit) ∷ now («trips_table» .exit) ∷ now («stop_times_table» .exit) ∷ [] ⌝ }
+        ≡ now («stops_table» .exit) ∷ now («routes_table» .exit) ∷ now («calendar_table» .exit) ∷ now («trips_table» .exit) ∷ now («stop_times_table» .exit) ∷ now («calendar_dates_table» .exit) ∷ [] ⌝ }
     ensures { λ _. ⌜ outcome
-        (now (stops .entry) ∷ now (routes .entry) ∷ now (calendar .entry) ∷ now (trips .entry) ∷ now («stop_times» .entry) ∷ [])
-        (now («stops_table» .entry) ∷ now («routes_table» .entry) ∷ now («calendar_table» .entry) ∷ now («trips_table» .entry) ∷ now («stop_times_table» .entry) ∷ [])
+        (now (stops .entry) ∷ now (routes .entry) ∷ now (calendar .entry) ∷ now (trips .entry) ∷ now («stop_times» .entry) ∷ now («calendar_dates» .entry) ∷ [])
+        (now («stops_table» .entry) ∷ now («routes_table» .entry) ∷ now («calendar_table» .entry) ∷ now («trips_table» .entry) ∷ now («stop_times_table» .entry) ∷ now («calendar_dates_table» .entry) ∷ [])
         (now (findings .entry)) (record { file = «after_file»; line = «after_line»; rule = «after_rule» }) .list
         ≡ now (findings .exit) ⌝ }
 {
@@ -119,11 +121,13 @@ pub extern "C" fn tusuchiy_check(
         calendar,
         trips,
         stop_times,
+        calendar_dates,
         stops_table,
         routes_table,
         calendar_table,
         trips_table,
         stop_times_table,
+        calendar_dates_table,
         findings,
         from,
     ))

@@ -4,6 +4,7 @@ use crate::feeds::Grid;
 use crate::random::Random;
 use model::columns::Column;
 use model::forms::Form;
+use model::Files;
 
 /// Breaks rule 8, 9, 11, 12 or 13 in the values of a file, if it has the line for it.
 pub fn break_values(grid: &mut Grid, known: &[Column], rule: usize, random: &mut Random) {
@@ -58,6 +59,7 @@ fn bad_value(rule: usize, column: &Column, random: &mut Random) -> Vec<u8> {
         }
         (_, Form::Coordinate(_)) => &["180.000000001", "181", "-999", "1.000000000000000000000", " 1", "-", "1.-1"],
         (_, Form::Sequence) => &["1000000000", "-1", "1.0", " 1", "0x1", "a"],
+        (_, Form::Choice(["1", "2"], _)) => &["0", "3", "01", " 2", "2 ", "12", "-1", "a"],
         _ => &["01", " 1", "9", "10", "13", "-1", "1 ", "a", "100"],
     };
     random.pick(from).as_bytes().to_vec()
@@ -72,6 +74,15 @@ pub fn break_bytes(file: &mut Vec<u8>, rule: usize, random: &mut Random) {
         4 if random.once_in(2) => drop(file.pop()),
         4 => file.extend(random.pick(&[&b"x"[..], b"\r", b"\xEF\xBB\xBF"]).iter()),
         _ => break_line(file, rule, random),
+    }
+}
+
+/// calendar and calendar_dates as they may be sent: each as it is, of no bytes, of its header only, or without its end.
+pub fn cut_services(files: &mut Files, random: &mut Random) {
+    for file in [2, 5] {
+        let end = files[file].iter().position(|&byte| byte == b'\n').map_or(0, |place| place + 1);
+        let length = files[file].len();
+        files[file].truncate(*random.pick(&[length, length, 0, end, length.saturating_sub(1)]));
     }
 }
 

@@ -1,11 +1,12 @@
-//! Edge cases, each tried everywhere: every raw field under every known column, every odd file in every place, every small order of lines.
+//! Edge cases, each tried everywhere: every raw field under every known column, every odd file in every place, every small order of lines,
+//! every state of calendar and calendar_dates, every two files that can't be read.
 
-use crate::{orders, Case};
-use model::columns::{COLUMNS, WIDTHS};
-use model::fields::line_ends;
+use crate::{large, orders, services, Case};
+use model::columns::COLUMNS;
+use model::{Files, FILES};
 
 /// A feed without findings that has every known column, in document 01's order; nothing in it is quoted.
-pub const BASE: [&str; 5] = [
+pub const BASE: [&str; FILES] = [
     "stop_id,stop_name,stop_lat,stop_lon,location_type,parent_station\n\
      S,Station,1.5,2,1,\nA,Alder,1.5,2,0,S\nB,Birch,1.6,2,,\n",
     "route_id,route_type,route_short_name,route_long_name\nR,3,7,Seven\n",
@@ -14,6 +15,7 @@ pub const BASE: [&str; 5] = [
     "route_id,service_id,trip_id,direction_id,wheelchair_accessible,bikes_allowed\nR,W,T,0,1,2\n",
     "trip_id,arrival_time,departure_time,stop_id,stop_sequence,pickup_type,drop_off_type,timepoint\n\
      T,08:00:00,08:00:00,A,1,0,0,1\nT,08:05:00,08:06:00,B,2,3,0,\n",
+    "service_id,date,exception_type\nW,20240704,2\nX,20241224,1\n",
 ];
 
 /// Raw fields at the edge of some form or of the quoting rule; good ones and bad ones.
@@ -223,7 +225,7 @@ pub fn cases() -> Vec<Case> {
     let mut cases = Vec::new();
     let mut raw: Vec<Vec<u8>> = RAW.iter().map(|raw| raw.as_bytes().to_vec()).collect();
     raw.extend(long_raw());
-    for file in 0..5 {
+    for file in 0..FILES {
         for odd in odd_files(BASE[file].as_bytes()) {
             cases.extend(with_file(file, odd));
         }
@@ -236,16 +238,56 @@ pub fn cases() -> Vec<Case> {
         }
     }
     cases.extend(orders::stop_times().into_iter().map(|file| with_file(4, file.into_bytes()).swap_remove(0)));
+    cases.extend(of_services());
     cases
+}
+
+/// Files 3 and 6 in every way, and which of two files that can't be read speaks.
+pub fn of_services() -> Vec<Case> {
+    let pairs = [services::pairs_of_states(), services::small_files()].concat();
+    let mut cases: Vec<Case> = pairs.into_iter().map(with_services).collect();
+    for first in 0..FILES {
+        for second in (0..FILES).filter(|&second| second != first) {
+            cases.push(with_two_refused(first, second));
+        }
+    }
+    cases
+}
+
+/// The base feed with a tab in one file and no name in another.
+fn with_two_refused(tab: usize, nameless: usize) -> Case {
+    let mut files = base();
+    files[tab] = b"\t\n".to_vec();
+    files[nameless] = b"\n".to_vec();
+    exact(format!("file {} has a tab, file {} no name", tab + 1, nameless + 1), files)
+}
+
+fn base() -> Files {
+    BASE.map(|file| file.as_bytes().to_vec())
+}
+
+/// A feed with tables of the exact length; where none is asked for, one that must stay as lent.
+fn exact(name: String, files: Files) -> Case {
+    let mut tables = large::tables(&files, -7);
+    tables.iter_mut().filter(|table| table.is_empty()).for_each(|table| table.extend([-7; 5]));
+    Case { name, files, tables, list: vec![-9; 100], start: [0, 0, 0] }
+}
+
+/// The base feed with other files 3 and 6, and trips of services that stand in one of them, in both or in none.
+fn with_services([calendar, dates]: [String; 2]) -> Case {
+    let name = format!("files 3 and 6: {}, {}", calendar.escape_debug(), dates.escape_debug());
+    let mut files = base();
+    files[2] = calendar.into_bytes();
+    files[3] = services::TRIPS.into();
+    files[5] = dates.into_bytes();
+    exact(name, files)
 }
 
 /// The base feed with another file, with tables of the exact length and with one that is short by a number.
 fn with_file(file: usize, bytes: Vec<u8>) -> Vec<Case> {
-    let mut files = BASE.map(|file| file.as_bytes().to_vec());
+    let mut files = base();
     files[file] = bytes;
-    let tables = [0, 1, 2, 3, 4].map(|file: usize| vec![-7; WIDTHS[file] * line_ends(&files[file])]);
-    let name = format!("file {}: {}", file + 1, files[file].escape_ascii());
-    let exact = Case { name, files, tables, list: vec![-9; 100], start: [0, 0, 0] };
+    let exact = exact(format!("file {}: {}", file + 1, files[file].escape_ascii()), files);
     let mut short = exact.clone();
     short.name.push_str(", and a short table");
     short.tables[file].pop();

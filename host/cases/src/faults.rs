@@ -1,22 +1,24 @@
 //! Breaks binding rules in a feed of values; the feed stays readable.
 
-use crate::feeds::{sequence_text, time_text, Feed};
+use crate::feeds::{sequence_text, time_text, Feed, Grid};
 use crate::random::Random;
 
-const IDS: [&str; 4] = ["stop_id", "route_id", "service_id", "trip_id"];
+/// The files that rule 20 looks at, each with its id.
+const IDS: [(usize, &str); 5] = [(0, "stop_id"), (1, "route_id"), (2, "service_id"), (3, "trip_id"), (5, "service_id")];
 
 /// The references of the feed: file and column, and the file and column that it names.
-const REFERENCES: [(usize, &str, usize, &str); 5] = [
+const REFERENCES: [(usize, &str, usize, &str); 6] = [
     (0, "parent_station", 0, "stop_id"),
     (3, "route_id", 1, "route_id"),
     (3, "service_id", 2, "service_id"),
+    (3, "service_id", 5, "service_id"),
     (4, "trip_id", 3, "trip_id"),
     (4, "stop_id", 0, "stop_id"),
 ];
 
 /// Breaks something, usually, at a random place.
 pub fn break_one(feed: &mut Feed, random: &mut Random) {
-    match random.below(19) {
+    match random.below(23) {
         0 | 1 => repeat_id(feed, random),
         2 | 3 => lose_reference(feed, random),
         4 => move_reference(feed, random),
@@ -32,6 +34,8 @@ pub fn break_one(feed: &mut Feed, random: &mut Random) {
         15 => random.shuffle(&mut feed[4].rows),
         16 => lose_trip(feed, random),
         17 => share_lines(feed, random),
+        18 | 19 => repeat_date(feed, random),
+        20 | 21 => lose_services(feed, random),
         _ => move_lines(feed, random),
     }
 }
@@ -52,14 +56,43 @@ fn edit(feed: &mut Feed, random: &mut Random, file: usize, name: &str, value: fn
 
 /// A line whose id another line has: a copy of a line, or only of its id.
 fn repeat_id(feed: &mut Feed, random: &mut Random) {
-    let file = random.below(4);
+    let (file, name) = *random.pick(&IDS);
     let (Some(from), Some(to)) = (row(feed, random, file), row(feed, random, file)) else { return };
     if random.once_in(2) {
         let copy = feed[file].rows[from].clone();
         feed[file].rows.insert(to, copy);
     } else {
-        let id = feed[file].get(from, IDS[file]).to_vec();
-        feed[file].set(to, IDS[file], id);
+        let id = feed[file].get(from, name).to_vec();
+        feed[file].set(to, name, id);
+    }
+}
+
+/// A line of calendar_dates that has another line's date, its service or both; its type may differ.
+fn repeat_date(feed: &mut Feed, random: &mut Random) {
+    let (Some(from), Some(to)) = (row(feed, random, 5), row(feed, random, 5)) else { return };
+    let mut line = feed[5].rows[from].clone();
+    if random.once_in(2) {
+        line[2] = random.pick(&[b"1", b"2"]).to_vec();
+    }
+    match random.below(4) {
+        0 => line[0].clone_from(&feed[5].rows[to][0]),
+        1 => line[1].clone_from(&feed[5].rows[to][1]),
+        _ => {}
+    }
+    feed[5].rows.insert(to, line);
+}
+
+/// calendar or calendar_dates loses a service, all of them, or is no longer supplied.
+fn lose_services(feed: &mut Feed, random: &mut Random) {
+    let file = *random.pick(&[2, 5]);
+    match row(feed, random, file) {
+        Some(row) if random.once_in(2) => {
+            let id = feed[file].get(row, "service_id").to_vec();
+            feed[file].rows.retain(|line| line[0] != id);
+        }
+        _ if random.once_in(2) => feed[file].rows.clear(),
+        _ if !feed[7 - file].header.is_empty() => feed[file] = Grid::default(),
+        _ => {}
     }
 }
 

@@ -1,16 +1,17 @@
 //! Makes well-formed feeds as grids of values: readable, and by construction without a finding.
 
 use crate::random::Random;
+use model::FILES;
 
-/// A file as values: the names of its columns, and its record lines.
+/// A file as values: the names of its columns, and its record lines. One without columns is not supplied.
 #[derive(Clone, Debug, Default)]
 pub struct Grid {
     pub header: Vec<Vec<u8>>,
     pub rows: Vec<Vec<Vec<u8>>>,
 }
 
-/// The five files as values.
-pub type Feed = [Grid; 5];
+/// The six files as values.
+pub type Feed = [Grid; FILES];
 
 impl Grid {
     /// A grid of these columns without rows.
@@ -95,14 +96,14 @@ fn count(random: &mut Random, most: usize) -> usize {
 pub fn clean(random: &mut Random) -> Feed {
     let stops = stops(random);
     let routes = routes(random);
-    let services = services(random);
-    let mut trips = trips(random, &routes, &services);
+    let [calendar, dates] = services(random);
+    let mut trips = trips(random, &routes, [&calendar, &dates]);
     let platforms = platforms(&stops);
     if platforms.is_empty() {
         trips.rows.clear();
     }
     let stop_times = stop_times(random, &trips, &platforms);
-    [stops, routes, services, trips, stop_times]
+    [stops, routes, calendar, trips, stop_times, dates]
 }
 
 fn stops(random: &mut Random) -> Grid {
@@ -152,27 +153,64 @@ fn routes(random: &mut Random) -> Grid {
 const DATES: [&str; 8] =
     ["00010101", "15821010", "19000228", "20000229", "20240101", "20240229", "20241231", "99991231"];
 
-fn services(random: &mut Random) -> Grid {
+/// calendar and calendar_dates: each service stands in one of them or in both, or all stand in the same one.
+fn services(random: &mut Random) -> [Grid; 2] {
     let days = ["monday", "tuesday", "wednesday", "thursday", "friday", "saturday", "sunday"];
     let names = [&["service_id"], &days[..], &["start_date", "end_date"]].concat();
-    let mut grid = Grid::new(&names);
-    let number = count(random, 3);
+    let mut calendar = Grid::new(&names);
+    let mut dates = Grid::new(&["service_id", "date", "exception_type"]);
+    let (one, number) = (random.below(4), count(random, 3));
     for id in ids(random, number) {
-        let first = random.below(DATES.len());
-        let last = random.between(first, DATES.len() - 1);
-        let mut row = vec![id];
-        row.extend((0..7).map(|_| random.pick(&[b"0", b"1"]).to_vec()));
-        row.push(DATES[first].as_bytes().to_vec());
-        row.push(DATES[last].as_bytes().to_vec());
-        grid.push(&row);
+        let which = if one < 2 { one } else { random.below(3) };
+        if which != 1 {
+            calendar.push(&week(random, &id));
+        }
+        if which != 0 {
+            dates.rows.extend(dates_of(random, &id));
+        }
     }
-    grid
+    if random.once_in(2) {
+        random.shuffle(&mut dates.rows);
+    }
+    leave_out(random, [calendar, dates])
 }
 
-fn trips(random: &mut Random, routes: &Grid, services: &Grid) -> Grid {
+/// A line of calendar.
+fn week(random: &mut Random, id: &[u8]) -> Vec<Vec<u8>> {
+    let first = random.below(DATES.len());
+    let last = random.between(first, DATES.len() - 1);
+    let mut row = vec![id.to_vec()];
+    row.extend((0..7).map(|_| random.pick(&[b"0", b"1"]).to_vec()));
+    row.extend([first, last].map(|date| DATES[date].as_bytes().to_vec()));
+    row
+}
+
+/// Lines of calendar_dates for one service, each on a date of its own.
+fn dates_of(random: &mut Random, id: &[u8]) -> Vec<Vec<Vec<u8>>> {
+    let mut dates = DATES;
+    random.shuffle(&mut dates);
+    let number = random.between(1, 4);
+    let mut line = |date: &str| vec![id.to_vec(), date.into(), random.pick(&[b"1", b"2"]).to_vec()];
+    dates[..number].iter().map(|date| line(date)).collect()
+}
+
+/// Of the two files one that has no line may be not supplied.
+fn leave_out(random: &mut Random, mut files: [Grid; 2]) -> [Grid; 2] {
+    let first = random.below(2);
+    for file in [first, 1 - first] {
+        if files[file].rows.is_empty() && random.once_in(2) {
+            files[file] = Grid::default();
+            return files;
+        }
+    }
+    files
+}
+
+fn trips(random: &mut Random, routes: &Grid, services: [&Grid; 2]) -> Grid {
     let names = ["route_id", "service_id", "trip_id", "direction_id", "wheelchair_accessible", "bikes_allowed"];
     let mut grid = Grid::new(&names);
-    let (routes, services) = (routes.values("route_id"), services.values("service_id"));
+    let routes = routes.values("route_id");
+    let services = services.map(|file| file.values("service_id")).concat();
     if routes.is_empty() || services.is_empty() {
         return grid;
     }

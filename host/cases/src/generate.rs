@@ -1,6 +1,6 @@
-//! Makes a whole case from a seed: five files, lent tables, a list and a starting place.
+//! Makes a whole case from a seed: six files, lent tables, a list and a starting place.
 
-use crate::damage::{break_bytes, break_values, mutate, truncate};
+use crate::damage::{break_bytes, break_values, cut_services, mutate, truncate};
 use crate::faults::break_one;
 use crate::feeds::{clean, Feed};
 use crate::random::Random;
@@ -8,6 +8,7 @@ use crate::render::{arrange, write};
 use crate::Case;
 use model::columns::{COLUMNS, WIDTHS};
 use model::fields::line_ends;
+use model::{Files, Tables, FILES};
 
 /// What a seed's case is about.
 #[derive(Clone, Copy, Debug, PartialEq, Eq)]
@@ -66,7 +67,7 @@ pub fn case(seed: u64) -> Case {
         _ => false,
     };
     if short {
-        tables[random.below(5)].pop();
+        tables[random.below(FILES)].pop();
     }
     let list = list(&mut random);
     let start = start(&mut random);
@@ -74,10 +75,10 @@ pub fn case(seed: u64) -> Case {
 }
 
 /// The bytes of the feed, with what its kind asks for done to one file.
-fn files(feed: &Feed, kind: Kind, random: &mut Random) -> [Vec<u8>; 5] {
-    let target = random.below(5);
-    let mut files: [Vec<u8>; 5] = Default::default();
-    for file in 0..5 {
+fn files(feed: &Feed, kind: Kind, random: &mut Random) -> Files {
+    let target = random.below(FILES);
+    let mut files = Files::default();
+    for file in 0..FILES {
         let mut grid = arrange(&feed[file], COLUMNS[file], kind != Kind::Clean, random);
         if let (Kind::Refused(rule @ (8 | 9 | 11 | 12 | 13)), true) = (kind, file == target) {
             break_values(&mut grid, COLUMNS[file], rule, random);
@@ -85,19 +86,26 @@ fn files(feed: &Feed, kind: Kind, random: &mut Random) -> [Vec<u8>; 5] {
         files[file] = write(&grid, random);
     }
     match kind {
+        Kind::Refused(4) if random.once_in(2) => cut_services(&mut files, random),
         Kind::Refused(rule @ (1 | 2 | 4 | 5 | 6 | 7 | 10)) => break_bytes(&mut files[target], rule, random),
         Kind::Mutated => mutate(&mut files[target], random),
+        Kind::Truncated if random.once_in(3) => cut_services(&mut files, random),
         Kind::Truncated => truncate(&mut files[target], random),
         _ => {}
+    }
+    // A second file that can't be read: the first one speaks.
+    if matches!(kind, Kind::Refused(5..)) && random.once_in(3) {
+        let rule = *random.pick(&[5, 6, 7, 10]);
+        break_bytes(&mut files[random.below(FILES)], rule, random);
     }
     files
 }
 
 /// Tables that are long enough, mostly exactly so, with anything in them.
-fn lend(files: &[Vec<u8>; 5], random: &mut Random) -> [Vec<i32>; 5] {
-    let mut tables: [Vec<i32>; 5] = Default::default();
+fn lend(files: &Files, random: &mut Random) -> Tables {
+    let mut tables = Tables::default();
     let short = random.once_in(30);
-    for file in 0..5 {
+    for file in 0..FILES {
         // Rule 2 speaks before rule 3, so more than its lines are never needed.
         let exact = WIDTHS[file] * line_ends(&files[file]).min(65_536);
         let length = match random.below(8) {
@@ -136,8 +144,8 @@ fn start(random: &mut Random) -> [i32; 3] {
     let near = |random: &mut Random, end: usize| random.below(end) as i32 - 1;
     match random.below(6) {
         0..=2 => [0, 0, 0],
-        3 => [random.between(1, 5) as i32, random.between(2, 9) as i32, random.between(20, 31) as i32],
+        3 => [random.between(1, FILES) as i32, random.between(2, 9) as i32, random.between(20, 31) as i32],
         4 => [near(random, 8), near(random, 40), *random.pick(&[i32::MIN, -1, 0, 99, i32::MAX])],
-        _ => [*random.pick(&[i32::MIN, -1, 0, 3, 5, i32::MAX]), random.any_i32(), random.any_i32()],
+        _ => [*random.pick(&[i32::MIN, -1, 0, 3, 5, 6, i32::MAX]), random.any_i32(), random.any_i32()],
     }
 }

@@ -1,13 +1,19 @@
 //! Large feeds: for the limits one without a finding, and for the benchmark many families.
 
+mod dated;
 mod draft;
 pub mod families;
 mod plan;
 
+use model::columns::WIDTHS;
+use model::fields::line_ends;
+use model::{Files, Tables};
+use std::array::from_fn;
+
 /// A readable feed with this many lines of stop_times, twenty to a trip or a few more, and a stop for each trip.
-pub fn feed(calls: usize) -> [Vec<u8>; 5] {
+pub fn feed(calls: usize) -> Files {
     let trips = (calls / 20).max(1);
-    let mut files: [Vec<u8>; 5] = [
+    let mut files: Files = [
         b"stop_id,stop_name,stop_lat,stop_lon\n".to_vec(),
         b"route_id,route_short_name,route_type\nR,7,3\n".to_vec(),
         b"service_id,monday,tuesday,wednesday,thursday,friday,saturday,sunday,start_date,end_date\n\
@@ -15,6 +21,7 @@ pub fn feed(calls: usize) -> [Vec<u8>; 5] {
             .to_vec(),
         b"route_id,service_id,trip_id\n".to_vec(),
         b"trip_id,arrival_time,departure_time,stop_id,stop_sequence\n".to_vec(),
+        b"service_id,date,exception_type\nW,20240704,2\n".to_vec(),
     ];
     for trip in 0..trips {
         files[0].extend(format!("stop-{trip},Stop {trip},{}.5,2\n", trip % 90).bytes());
@@ -31,8 +38,12 @@ pub fn feed(calls: usize) -> [Vec<u8>; 5] {
     files
 }
 
+/// A readable feed without a finding with this many lines of calendar_dates, the header counted.
+pub fn dates(lines: usize) -> Files {
+    dated::dates_mixed(lines)
+}
+
 /// Tables of just the length that rule 3 asks for, all of one number.
-pub fn tables(files: &[Vec<u8>; 5], filled: i32) -> [Vec<i32>; 5] {
-    let length = |file: usize| model::columns::WIDTHS[file] * model::fields::line_ends(&files[file]);
-    [0, 1, 2, 3, 4].map(|file| vec![filled; length(file)])
+pub fn tables(files: &Files, filled: i32) -> Tables {
+    from_fn(|file| vec![filled; WIDTHS[file] * line_ends(&files[file])])
 }

@@ -12,16 +12,17 @@ pub mod lines;
 pub mod orders;
 pub mod random;
 pub mod render;
+pub mod services;
 pub mod vectors;
 
-use model::Answer;
+use model::{Answer, Files, Tables, FILES};
 
 /// Everything that goes into one check.
 #[derive(Clone, Debug, Default, PartialEq, Eq)]
 pub struct Case {
     pub name: String,
-    pub files: [Vec<u8>; 5],
-    pub tables: [Vec<i32>; 5],
+    pub files: Files,
+    pub tables: Tables,
     pub list: Vec<i32>,
     pub start: [i32; 3],
 }
@@ -30,7 +31,7 @@ pub struct Case {
 #[derive(Clone, Debug, PartialEq, Eq)]
 pub struct Outcome {
     pub answer: Answer,
-    pub tables: [Vec<i32>; 5],
+    pub tables: Tables,
     pub list: Vec<i32>,
 }
 
@@ -47,7 +48,7 @@ pub fn difference(wanted: &Outcome, got: &Outcome) -> Option<String> {
     if wanted.answer != got.answer {
         return Some(format!("wanted {:?}, got {:?}", wanted.answer, got.answer));
     }
-    for table in 0..5 {
+    for table in 0..FILES {
         if let Some(place) = first_difference(&wanted.tables[table], &got.tables[table]) {
             return Some(format!("table {} differs {place}", table + 1));
         }

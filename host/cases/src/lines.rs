@@ -1,9 +1,9 @@
 //! The cases of the program crates/check_cases, and what the model makes of them in that program's words.
 
-use model::Answer;
+use model::{Answer, Files, FILES};
 
 /// The feed without a finding whose files = stands for.
-const STANDARD: [&str; 5] = [
+const STANDARD: [&str; FILES] = [
     "stop_id,stop_name,stop_lat,stop_lon\nA,Alder,1.5,2\nB,Birch,1.6,2\n",
     "route_id,route_short_name,route_type\nR,7,3\n",
     "service_id,monday,tuesday,wednesday,thursday,friday,saturday,sunday,start_date,end_date\n\
@@ -11,9 +11,10 @@ const STANDARD: [&str; 5] = [
     "route_id,service_id,trip_id\nR,W,T\n",
     "trip_id,arrival_time,departure_time,stop_id,stop_sequence\n\
      T,08:00:00,08:00:00,A,1\nT,08:05:00,08:05:00,B,2\n",
+    "service_id,date,exception_type\nW,20240704,2\nX,20241224,1\n",
 ];
 
-const TABLES: [&str; 5] = ["stops", "routes", "calendar", "trips", "stop_times"];
+const TABLES: [&str; FILES] = ["stops", "routes", "calendar", "trips", "stop_times", "calendar_dates"];
 
 /// What every number of a table and of the list is as lent.
 const LENT: [i32; 2] = [-777, 99];
@@ -24,13 +25,13 @@ pub fn expected(input: &str) -> String {
     input.lines().map(line).collect()
 }
 
-/// A case is `LL FFFFF LLLLL RRRRR`, a mark, then five files, each after a bar.
+/// A case is `LL FFFFF LLLLL RRRRR`, a mark, then six files, each after a bar; one that isn't there has no bytes.
 fn outcome(case: &str) -> String {
     let (head, files) = case.split_once('|').expect("a case has files");
     let start = [3, 9, 15].map(|place| start_number(&head[place..place + 5]));
-    let mut files =
-        files.split('|').zip(STANDARD).map(|(file, standard)| bytes(if file == "=" { standard } else { file }));
-    let files: [Vec<u8>; 5] = std::array::from_fn(|_| files.next().expect("a case has five files"));
+    let mut given = files.split('|');
+    let mut file = |standard| given.next().map_or(Vec::new(), |file| bytes(if file == "=" { standard } else { file }));
+    let files: Files = STANDARD.map(&mut file);
     let mut tables = std::array::from_fn(|_| vec![LENT[0]; 256]);
     let mut list = vec![LENT[1]; head[..2].parse().expect("a case begins with the list's length")];
     let answer = model::check(&files, &mut tables, &mut list, start);

@@ -12,6 +12,9 @@ const JUNK: [&[u8]; 9] = [b"", b"0", b"A ", b"a, b", b"say \"hi\"", b"\"", b"\x0
 
 /// Takes known columns out, puts unknown ones in, and changes their order.
 pub fn arrange(grid: &Grid, known: &[Column], faulty: bool, random: &mut Random) -> Grid {
+    if grid.header.is_empty() {
+        return Grid::default();
+    }
     let mut places: Vec<Option<usize>> = (0..grid.header.len()).map(Some).collect();
     places.retain(|place| !may_go(grid, known, place.unwrap_or(0), faulty) || random.once_in(2));
     let more = if random.once_in(2) { 0 } else { random.below(5) };
@@ -54,8 +57,11 @@ fn name(grid: &Grid, known: &[Column], place: Option<usize>, random: &mut Random
     }
 }
 
-/// The bytes of a file: a leading mark or none, LF or CR LF, quotes where needed and at random.
+/// The bytes of a file: a leading mark or none, LF or CR LF, quotes where needed and at random. One not supplied has none.
 pub fn write(grid: &Grid, random: &mut Random) -> Vec<u8> {
+    if grid.header.is_empty() {
+        return Vec::new();
+    }
     let quotes = *random.pick(&[1, 3, 1000]);
     let endings = random.below(4);
     let mut bytes = if random.once_in(4) { b"\xEF\xBB\xBF".to_vec() } else { Vec::new() };

@@ -1,14 +1,14 @@
-//! Reads vector files; their form is explained at the top of vectors/e2.txt.
+//! Reads vector files; their form is explained at the top of vectors/e1.txt.
 
 use crate::{Case, Outcome};
-use model::Answer;
+use model::{Answer, Files, Tables};
 
-/// The customer's vectors for document 01 with E2; the first line says so.
-pub const E2: &str = include_str!("../vectors/e2.txt");
+/// The customer's vectors for document 01 with E2 and E1; the first line says so.
+pub const E1: &str = include_str!("../vectors/e1.txt");
 
 /// The customer's cases with what each must give.
 pub fn customers() -> Vec<(Case, Outcome)> {
-    read(E2).expect("vectors/e2.txt is well-formed")
+    read(E1).expect("vectors/e1.txt is well-formed")
 }
 
 /// The cases of a vector file, or what is wrong with it and where.
@@ -61,12 +61,12 @@ fn case(lines: &[Vec<&str>]) -> Result<(Case, Outcome), String> {
 }
 
 /// File K.
-fn file_slot(files: &mut [Vec<u8>; 5], file: usize) -> Result<&mut Vec<u8>, String> {
+fn file_slot(files: &mut Files, file: usize) -> Result<&mut Vec<u8>, String> {
     files.get_mut(file.wrapping_sub(1)).ok_or_else(|| format!("no file {file}"))
 }
 
 /// Table K, or the list for 0.
-fn slot<'a>(tables: &'a mut [Vec<i32>; 5], list: &'a mut Vec<i32>, place: usize) -> Result<&'a mut Vec<i32>, String> {
+fn slot<'a>(tables: &'a mut Tables, list: &'a mut Vec<i32>, place: usize) -> Result<&'a mut Vec<i32>, String> {
     match place {
         0 => Ok(list),
         _ => tables.get_mut(place - 1).ok_or_else(|| format!("no table {place}")),

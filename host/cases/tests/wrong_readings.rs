@@ -121,8 +121,7 @@ fn by(reading: &Reading, feed: &Feed) -> BTreeSet<[i32; 3]> {
 fn told_apart(name: &str, cases: impl Iterator<Item = Case>) {
     let mut missed: BTreeSet<&str> = WRONG.iter().map(|(name, _)| *name).collect();
     for case in cases {
-        let room: Vec<usize> = case.tables.iter().map(Vec::len).collect();
-        let Ok(feed) = read(&case.files, &room) else { continue };
+        let Ok(feed) = read(&case.files, case.tables.each_ref().map(Vec::len)) else { continue };
         let of_order = |finding: &[i32; 3]| [28, 29, 31].contains(&finding[2]);
         let wanted: BTreeSet<[i32; 3]> = findings(&feed).into_iter().filter(of_order).collect();
         assert_eq!(by(&RIGHT, &feed), wanted, "{}", case.name);

@@ -1,6 +1,7 @@
-//! The columns of each file, as data: the table of document 01's section "Columns" with each column's form.
+//! The columns of each file, as data: the table of document 01's section "Columns" and E1's file 6, with each column's form.
 
 use crate::forms::Form;
+use crate::FILES;
 
 /// A known column.
 #[derive(Clone, Copy, Debug)]
@@ -35,6 +36,7 @@ const DAY: Form = Form::Choice(&["0", "1"], 0);
 const UP_TO_2: Form = Form::Choice(&["0", "1", "2"], 0);
 const UP_TO_3: Form = Form::Choice(&["0", "1", "2", "3"], 0);
 const ONE_OR_NONE: Form = Form::Choice(&["0", "1"], -1);
+const ONE_OR_TWO: Form = Form::Choice(&["1", "2"], 0);
 const ROUTE_TYPE: Form = Form::Choice(&["0", "1", "2", "3", "4", "5", "6", "7", "11", "12"], 0);
 
 const STOPS: &[Column] = &[
@@ -86,8 +88,11 @@ const STOP_TIMES: &[Column] = &[
     may("timepoint", ONE_OR_NONE),
 ];
 
-/// The known columns of files 1 to 5.
-pub const COLUMNS: [&[Column]; 5] = [STOPS, ROUTES, CALENDAR, TRIPS, STOP_TIMES];
+const CALENDAR_DATES: &[Column] =
+    &[must("service_id", Form::Text), must("date", Form::Date), must("exception_type", ONE_OR_TWO)];
+
+/// The known columns of files 1 to 6.
+pub const COLUMNS: [&[Column]; FILES] = [STOPS, ROUTES, CALENDAR, TRIPS, STOP_TIMES, CALENDAR_DATES];
 
 /// How many numbers a record of each file has.
-pub const WIDTHS: [usize; 5] = [6, 3, 5, 7, 8];
+pub const WIDTHS: [usize; FILES] = [6, 3, 5, 8, 8, 4];

@@ -4,9 +4,10 @@ use crate::columns::{Column, COLUMNS};
 use crate::fields::{fields, line_ends, lines, Field, Line};
 use crate::forms::number;
 use crate::reading::{Feed, Row};
-use crate::records::IDS;
+use crate::records::{First, KEYS};
 use crate::rules::Finding;
 use crate::trips::{by_trip, first_call, last_call, leaves_after, repeats, Call};
+use crate::{Files, FILES};
 use std::cmp::Reverse;
 
 /// A fact.
@@ -23,7 +24,8 @@ pub enum Fact {
 pub type Facts = Vec<(&'static str, Fact)>;
 
 /// The files, in the order of their numbers.
-const FILES: [&str; 5] = ["stops.txt", "routes.txt", "calendar.txt", "trips.txt", "stop_times.txt"];
+const NAMES: [&str; FILES] =
+    ["stops.txt", "routes.txt", "calendar.txt", "trips.txt", "stop_times.txt", "calendar_dates.txt"];
 
 fn text(text: impl AsRef<[u8]>) -> Fact {
     Fact::Text(text.as_ref().to_vec())
@@ -77,11 +79,7 @@ pub fn of_finding(feed: &Feed, finding: Finding) -> Facts {
     let [file, line, rule] = finding.map(|number| number as usize);
     let own = row(feed, file, line);
     match rule {
-        20 => {
-            let column = IDS[file - 1];
-            let earlier = first_line(feed, file, column, own.value(column)).expect("its own line at least");
-            vec![("column", text(column)), ("value", text(own.value(column))), ("earlier_line", count(earlier))]
-        }
+        20 => repeated(feed, file, own),
         21 => vec![("references", Fact::List(unresolved(feed, file, own)))],
         22 => parent(feed, own),
         23 => {
@@ -102,18 +100,27 @@ pub fn of_finding(feed: &Feed, finding: Finding) -> Facts {
     }
 }
 
-/// Rule 21: the references that name no line.
+/// Rule 20: the id, in calendar_dates the service and then its date, and the first line that has it.
+fn repeated(feed: &Feed, file: usize, own: Row) -> Facts {
+    let (id, more) = KEYS[file - 1].split_first().expect("a file with ids");
+    let mut facts = vec![("column", text(id)), ("value", text(own.value(id)))];
+    facts.extend(more.iter().map(|&column| (column, text(own.value(column)))));
+    facts.push(("earlier_line", count(First::new(&feed[file - 1], KEYS[file - 1]).of_line(own) + 1)));
+    facts
+}
+
+/// Rule 21: the references that name no line, each with the files in which it was looked for.
 fn unresolved(feed: &Feed, file: usize, own: Row) -> Vec<Fact> {
-    let references: &[(&str, usize, &str)] = match file {
-        1 => &[("parent_station", 1, "stop_id")],
-        4 => &[("route_id", 2, "route_id"), ("service_id", 3, "service_id")],
-        _ => &[("trip_id", 4, "trip_id"), ("stop_id", 1, "stop_id")],
+    let references: &[(&str, &[usize], &str)] = match file {
+        1 => &[("parent_station", &[1], "stop_id")],
+        4 => &[("route_id", &[2], "route_id"), ("service_id", &[3, 6], "service_id")],
+        _ => &[("trip_id", &[4], "trip_id"), ("stop_id", &[1], "stop_id")],
     };
     let mut facts = Vec::new();
     for &(column, searched, id) in references {
         let value = own.value(column);
-        if !value.is_empty() && first_line(feed, searched, id, value).is_none() {
-            let searched = ("searched", text(FILES[searched - 1]));
+        if !value.is_empty() && searched.iter().all(|&file| first_line(feed, file, id, value).is_none()) {
+            let searched = ("searched", Fact::List(searched.iter().map(|file| text(NAMES[file - 1])).collect()));
             facts.push(Fact::Members(vec![("column", text(column)), ("value", text(value)), searched]));
         }
     }
@@ -208,7 +215,7 @@ fn ends(feed: &Feed, own: Row) -> Facts {
 }
 
 /// The facts behind a refusal, all but the words for the form that is wanted.
-pub fn of_refusal(files: &[Vec<u8>; 5], number: usize, file: usize, line: usize) -> Facts {
+pub fn of_refusal(files: &Files, number: usize, file: usize, line: usize) -> Facts {
     let bytes = &files[file - 1];
     match number {
         1 => return vec![("limit", count(16_777_216))],

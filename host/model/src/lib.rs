@@ -1,4 +1,4 @@
-//! The whole check of document 01 with request E2, written naively from the documents: files in, tables, list and answer out.
+//! The whole check of document 01 with requests E2 and E1, written naively from the documents: files in, tables, list and answer out.
 #![forbid(unsafe_code)]
 
 pub mod columns;
@@ -11,6 +11,15 @@ pub mod records;
 pub mod rules;
 pub mod trips;
 
+/// How many files there are: 1 stops, 2 routes, 3 calendar, 4 trips, 5 stop_times, 6 calendar_dates.
+pub const FILES: usize = 6;
+
+/// The bytes of each file; none means "not supplied" of calendar and calendar_dates.
+pub type Files = [Vec<u8>; FILES];
+
+/// The table of each file.
+pub type Tables = [Vec<i32>; FILES];
+
 /// What the check answers.
 #[derive(Clone, Copy, Debug, PartialEq, Eq)]
 pub enum Answer {
@@ -18,14 +27,13 @@ pub enum Answer {
     Accepted,
     /// How many findings were written to the list, and how many the whole feed has.
     Findings { written: usize, total: usize },
-    /// The rule broken (1 to 13), the file (1 to 5) and the line (0 for a whole file).
+    /// The rule broken (1 to 13), the file (1 to 6) and the line (0 for a whole file).
     Refused { number: usize, file: usize, line: usize },
 }
 
-/// One check over five files: refused leaves everything as lent, else tables and list are overwritten.
-pub fn check(files: &[Vec<u8>; 5], tables: &mut [Vec<i32>; 5], list: &mut [i32], start: [i32; 3]) -> Answer {
-    let room: Vec<usize> = tables.iter().map(Vec::len).collect();
-    let feed = match reading::read(files, &room) {
+/// One check over six files: refused leaves everything as lent, else list and tables are overwritten.
+pub fn check(files: &Files, tables: &mut Tables, list: &mut [i32], start: [i32; 3]) -> Answer {
+    let feed = match reading::read(files, tables.each_ref().map(Vec::len)) {
         Ok(feed) => feed,
         Err(refusal) => return refusal,
     };

@@ -3,11 +3,12 @@
 use crate::columns::{Column, COLUMNS, WIDTHS};
 use crate::fields::{fields, line_ends, lines, Field, Line};
 use crate::forms::number;
-use crate::Answer;
+use crate::{Answer, Files, FILES};
 
-/// The record lines of a file: line n of the file, n from 2, is row n - 2.
+/// The record lines of a file: line n of the file, n from 2, is row n - 2. A file not supplied has none.
 #[derive(Clone, Debug)]
 pub struct Sheet {
+    pub supplied: bool,
     columns: &'static [Column],
     rows: Vec<Vec<Field>>,
 }
@@ -51,45 +52,59 @@ impl Sheet {
     }
 }
 
-/// The five files, read.
-pub type Feed = [Sheet; 5];
+/// The six files, read.
+pub type Feed = [Sheet; FILES];
 
 /// The feed, or the first refusal.
-pub fn read(files: &[Vec<u8>; 5], room: &[usize]) -> Result<Feed, Answer> {
+pub fn read(files: &Files, room: [usize; FILES]) -> Result<Feed, Answer> {
     for number in 1..=4 {
-        for file in 0..5 {
-            if whole_file_broken(number, &files[file], WIDTHS[file], room[file]) {
-                return Err(Answer::Refused { number, file: file + 1, line: 0 });
+        for file in 1..=FILES {
+            if whole_file_broken(number, files, file, room[file - 1]) {
+                return Err(Answer::Refused { number, file, line: 0 });
             }
         }
     }
     let mut sheets = Vec::new();
-    for file in 0..5 {
+    for file in 0..FILES {
         let refuse = |(number, line)| Answer::Refused { number, file: file + 1, line };
         sheets.push(sheet(&files[file], COLUMNS[file]).map_err(refuse)?);
     }
-    Ok(sheets.try_into().expect("five sheets"))
+    Ok(sheets.try_into().expect("six sheets"))
 }
 
-/// Rules 1 to 4: is this one broken by the file?
-fn whole_file_broken(number: usize, file: &[u8], width: usize, room: usize) -> bool {
+/// Rules 1 to 4: is this one broken by the file of this number?
+fn whole_file_broken(number: usize, files: &Files, file: usize, room: usize) -> bool {
+    let bytes = &files[file - 1];
     match number {
-        1 => file.len() > 16_777_216,
-        2 => line_ends(file) > 65_536,
-        3 => room < width * line_ends(file),
-        _ => file.last() != Some(&b'\n'),
+        1 => bytes.len() > 16_777_216,
+        2 => line_ends(bytes) > 65_536,
+        3 => room < WIDTHS[file - 1] * line_ends(bytes),
+        _ => bytes.last() != Some(&b'\n') && !may_be_absent(files, file),
     }
 }
 
-/// Reads one file, or tells the number and the line of its first refusal.
+/// An empty file that counts as not supplied: calendar_dates, or calendar if calendar_dates isn't empty.
+fn may_be_absent(files: &Files, file: usize) -> bool {
+    let empty = |file: usize| files[file - 1].is_empty();
+    match file {
+        3 => empty(3) && !empty(6),
+        6 => empty(6),
+        _ => false,
+    }
+}
+
+/// Reads one file, or tells the number and the line of its first refusal. One not supplied isn't read.
 fn sheet(file: &[u8], columns: &'static [Column]) -> Result<Sheet, (usize, usize)> {
+    if file.is_empty() {
+        return Ok(Sheet { supplied: false, columns, rows: Vec::new() });
+    }
     let lines = lines(file);
     let header = header(lines[0], columns).map_err(|number| (number, 1))?;
     let mut rows = Vec::new();
     for (place, &line) in lines.iter().enumerate().skip(1) {
         rows.push(row(line, columns, &header).map_err(|number| (number, place + 1))?);
     }
-    Ok(Sheet { columns, rows })
+    Ok(Sheet { supplied: true, columns, rows })
 }
 
 /// Rules 5, 6 and 7, which every line has to hold: its fields.

@@ -1,21 +1,22 @@
 //! The binding rules 20 to 31 over a feed that was read: all findings, in order.
 
 use crate::reading::{Feed, Row};
-use crate::records::{first_records, First, IDS};
+use crate::records::{First, Named, KEYS};
 use crate::trips::{by_trip, first_call, last_call, leaves_after, repeats};
+use crate::FILES;
 
 /// A finding: file, line, rule.
 pub type Finding = [i32; 3];
 
 /// All findings of a feed, ordered by file, line and rule.
 pub fn findings(feed: &Feed) -> Vec<Finding> {
-    let first = first_records(feed);
+    let named = Named::new(feed);
     let mut findings = Vec::new();
-    repeated_ids(feed, &first, &mut findings);
-    stops(feed, &first, &mut findings);
+    repeated_keys(feed, &mut findings);
+    stops(feed, &named, &mut findings);
     routes_and_services(feed, &mut findings);
-    trips(feed, &first, &mut findings);
-    stop_times(feed, &first, &mut findings);
+    trips(feed, &named, &mut findings);
+    stop_times(feed, &named, &mut findings);
     trip_order(feed, &mut findings);
     findings.sort();
     findings
@@ -28,28 +29,28 @@ fn add(findings: &mut Vec<Finding>, file: i32, place: usize, rule: i32, broken: 
     }
 }
 
-/// Rule 20: the id stands on an earlier line of its file.
-fn repeated_ids(feed: &Feed, first: &[First; 4], findings: &mut Vec<Finding>) {
-    for file in 0..4 {
+/// Rule 20: the id, in calendar_dates the service with the date, stands on an earlier line of its file.
+fn repeated_keys(feed: &Feed, findings: &mut Vec<Finding>) {
+    for file in (0..FILES).filter(|&file| !KEYS[file].is_empty()) {
+        let first = First::new(&feed[file], KEYS[file]);
         for (place, row) in feed[file].rows().enumerate() {
-            let earlier = first[file].record(row.value(IDS[file])) < place + 1;
-            add(findings, file as i32 + 1, place, 20, earlier);
+            add(findings, file as i32 + 1, place, 20, first.of_line(row) < place + 1);
         }
     }
 }
 
-/// A non-empty reference that names no line.
-fn unresolved(row: Row, name: &str, first: &First) -> bool {
-    !row.value(name).is_empty() && first.record(row.value(name)) == 0
+/// A non-empty reference that names no line of any of the files it may name.
+fn unresolved(row: Row, name: &str, files: &[&First]) -> bool {
+    !row.value(name).is_empty() && files.iter().all(|first| first.record(row.value(name)) == 0)
 }
 
 /// Rules 21 and 22 on stops.
-fn stops(feed: &Feed, first: &[First; 4], findings: &mut Vec<Finding>) {
+fn stops(feed: &Feed, named: &Named, findings: &mut Vec<Finding>) {
     for (place, row) in feed[0].rows().enumerate() {
-        add(findings, 1, place, 21, unresolved(row, "parent_station", &first[0]));
+        add(findings, 1, place, 21, unresolved(row, "parent_station", &[&named.stops]));
         let kind = row.number("location_type");
         let has_parent = !row.value("parent_station").is_empty();
-        let parent = if has_parent { first[0].record(row.value("parent_station")) } else { 0 };
+        let parent = if has_parent { named.stops.record(row.value("parent_station")) } else { 0 };
         let station_with_parent = kind == 1 && has_parent;
         let entrance_without = kind == 2 && !has_parent;
         let parent_no_station = parent > 0 && feed[0].record(parent).number("location_type") != 1;
@@ -74,12 +75,13 @@ fn timed(row: Row) -> bool {
 }
 
 /// Rules 21, 30 and 31 on trips; 30 and 31 concern only the first line of each trip_id.
-fn trips(feed: &Feed, first: &[First; 4], findings: &mut Vec<Finding>) {
+fn trips(feed: &Feed, named: &Named, findings: &mut Vec<Finding>) {
     let trips = by_trip(feed);
     for (place, row) in feed[3].rows().enumerate() {
-        let unresolved = unresolved(row, "route_id", &first[1]) || unresolved(row, "service_id", &first[2]);
-        add(findings, 4, place, 21, unresolved);
-        if first[3].record(row.value("trip_id")) != place + 1 {
+        let no_route = unresolved(row, "route_id", &[&named.routes]);
+        let no_service = unresolved(row, "service_id", &[&named.services, &named.dated_services]);
+        add(findings, 4, place, 21, no_route || no_service);
+        if named.trips.record(row.value("trip_id")) != place + 1 {
             continue;
         }
         let own = trips.get(row.value("trip_id")).map_or(&[][..], |calls| calls);
@@ -90,11 +92,12 @@ fn trips(feed: &Feed, first: &[First; 4], findings: &mut Vec<Finding>) {
 }
 
 /// Rules 21, 23, 26 and 27 on stop_times: what one line shows.
-fn stop_times(feed: &Feed, first: &[First; 4], findings: &mut Vec<Finding>) {
+fn stop_times(feed: &Feed, named: &Named, findings: &mut Vec<Finding>) {
     for (place, row) in feed[4].rows().enumerate() {
-        let unresolved = unresolved(row, "trip_id", &first[3]) || unresolved(row, "stop_id", &first[0]);
-        add(findings, 5, place, 21, unresolved);
-        let stop = first[0].record(row.value("stop_id"));
+        let no_trip = unresolved(row, "trip_id", &[&named.trips]);
+        let no_stop = unresolved(row, "stop_id", &[&named.stops]);
+        add(findings, 5, place, 21, no_trip || no_stop);
+        let stop = named.stops.record(row.value("stop_id"));
         add(findings, 5, place, 23, stop > 0 && feed[0].record(stop).number("location_type") != 0);
         let no_arrival = row.value("arrival_time").is_empty();
         let no_departure = row.value("departure_time").is_empty();

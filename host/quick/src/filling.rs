@@ -1,26 +1,34 @@
-//! The five tables and the findings, file by file.
+//! The six tables and the findings, file by file.
 
 use crate::findings::Findings;
 use crate::ids::Ids;
 use crate::reading::{Feed, WIDTHS};
-use crate::records::{Call, Route, Service, Stop, Trip};
+use crate::records::{Call, Route, Service, ServiceDate, Stop, Trip};
 use crate::trips::Trips;
+use model::FILES;
+use std::collections::HashSet;
 
-/// Fills the tables and finds what rules 20 to 31 find.
-pub fn fill(feed: &Feed, tables: [&mut [i32]; 5]) -> Findings {
-    let [stops_table, routes_table, services_table, trips_table, calls_table] = tables;
+/// Fills the tables of the files supplied and finds what rules 20 to 31 find.
+pub fn fill(feed: &Feed, tables: [&mut [i32]; FILES]) -> Findings {
+    let [stops_table, routes_table, services_table, trips_table, calls_table, dates_table] = tables;
     let mut found = Findings::default();
     let stop_ids = Ids::new(feed.stops.iter().map(|stop| stop.id.value));
     let route_ids = Ids::new(feed.routes.iter().map(|route| route.id.value));
     let service_ids = Ids::new(feed.services.iter().map(|service| service.id.value));
+    let dated_ids = Ids::new(feed.dates.iter().map(|date| date.id.value));
     let mut trip_ids = Ids::new(feed.trips.iter().map(|trip| trip.id.value));
     stops(&feed.stops, &stop_ids, stops_table, &mut found);
     routes(&feed.routes, &route_ids, routes_table, &mut found);
-    services(&feed.services, &service_ids, services_table, &mut found);
+    if feed.supplied[2] {
+        services(&feed.services, &service_ids, services_table, &mut found);
+    }
     // Rules 30 and 31 stand on lines of trips.txt, and only the lines of stop_times tell them.
     let seen = Trips::new(&mut trip_ids, &feed.calls);
-    trips(&feed.trips, [&route_ids, &service_ids], (&trip_ids, &seen), trips_table, &mut found);
+    trips(&feed.trips, [&route_ids, &service_ids, &dated_ids], (&trip_ids, &seen), trips_table, &mut found);
     calls(feed, &seen, &stop_ids, calls_table, &mut found);
+    if feed.supplied[5] {
+        dates(&feed.dates, &dated_ids, dates_table, &mut found);
+    }
     found
 }
 
@@ -68,19 +76,21 @@ fn services(services: &[Service], ids: &Ids, table: &mut [i32], found: &mut Find
 
 fn trips(
     trips: &[Trip],
-    [routes, services]: [&Ids; 2],
+    [routes, services, dated]: [&Ids; 3],
     (ids, seen): (&Ids, &Trips),
     table: &mut [i32],
     found: &mut Findings,
 ) {
     for (record, trip, room) in records(trips, table, 4) {
-        let (route, service) = (routes.record(trip.route), services.record(trip.service));
+        let [route, service, date] =
+            [routes.record(trip.route), services.record(trip.service), dated.record(trip.service)];
         let [direction, wheelchair, bikes] = trip.choices;
         let (start, end) = (trip.id.start, trip.id.end);
-        room.copy_from_slice(&[start, end, route as i32, service as i32, direction, wheelchair, bikes]);
+        let numbers = [start, end, route as i32, service as i32, direction, wheelchair, bikes, date as i32];
+        room.copy_from_slice(&numbers);
         let repeated = ids.repeated[record - 1];
         found.add(4, record, 20, repeated);
-        found.add(4, record, 21, route == 0 || service == 0);
+        found.add(4, record, 21, route == 0 || service == 0 && date == 0);
         found.add(4, record, 30, !repeated && seen.too_few(record));
         found.add(4, record, 31, !repeated && seen.untimed_end(record));
     }
@@ -100,6 +110,15 @@ fn calls(feed: &Feed, trips: &Trips, stops: &Ids, table: &mut [i32], found: &mut
         found.add(5, record, 27, call.timed() && departure < arrival);
         found.add(5, record, 28, repeated);
         found.add(5, record, 29, early);
+    }
+}
+
+fn dates(dates: &[ServiceDate], ids: &Ids, table: &mut [i32], found: &mut Findings) {
+    let mut seen = HashSet::with_capacity(dates.len());
+    for (record, date, room) in records(dates, table, 6) {
+        room.copy_from_slice(&[date.id.start, date.id.end, date.date, date.kind]);
+        // The service is told by its first record.
+        found.add(6, record, 20, !seen.insert((ids.record(date.id.value), date.date)));
     }
 }
 

@@ -92,6 +92,11 @@ pub fn up_to<const HIGHEST: i32>(value: &[u8]) -> Option<i32> {
     }
 }
 
+/// 1 or 2.
+pub fn exception(value: &[u8]) -> Option<i32> {
+    up_to::<2>(value).filter(|&number| number > 0)
+}
+
 /// 0 to 7, 11 or 12.
 pub fn route_type(value: &[u8]) -> Option<i32> {
     match value {

@@ -1,4 +1,4 @@
-//! The whole check of document 01 with E2 by hash maps, written for speed: lines are sorted only where they have to be.
+//! The whole check of document 01 with E2 and E1 by hash maps, written for speed: lines are sorted only where they have to be.
 #![forbid(unsafe_code)]
 
 mod filling;
@@ -12,10 +12,10 @@ mod records;
 mod row;
 mod trips;
 
-use model::Answer;
+use model::{Answer, Files, Tables};
 
-/// One check over five files: refused leaves everything as lent, else tables and list are overwritten.
-pub fn check(files: &[Vec<u8>; 5], tables: &mut [Vec<i32>; 5], list: &mut [i32], start: [i32; 3]) -> Answer {
+/// One check over six files: refused leaves everything as lent, else list and tables are overwritten.
+pub fn check(files: &Files, tables: &mut Tables, list: &mut [i32], start: [i32; 3]) -> Answer {
     let rooms = tables.each_ref().map(Vec::len);
     let feed = match reading::read(files, rooms) {
         Ok(feed) => feed,

@@ -2,39 +2,43 @@
 
 use crate::header::Header;
 use crate::lines::Cut;
-use crate::records::{Call, Record, Route, Service, Stop, Trip};
+use crate::records::{Call, Record, Route, Service, ServiceDate, Stop, Trip};
 use crate::row::Row;
-use model::Answer;
+use model::{Answer, Files, FILES};
 
 /// How many numbers a record of each table has.
-pub const WIDTHS: [usize; 5] = [6, 3, 5, 7, 8];
+pub const WIDTHS: [usize; FILES] = [6, 3, 5, 8, 8, 4];
 
 const MOST_BYTES: usize = 16_777_216;
 const MOST_LINES: usize = 65_536;
 
-/// The five files, read.
+/// The six files, read; one not supplied has no records.
 pub struct Feed<'a> {
+    pub supplied: [bool; FILES],
     pub stops: Vec<Stop<'a>>,
     pub routes: Vec<Route<'a>>,
     pub services: Vec<Service<'a>>,
     pub trips: Vec<Trip<'a>>,
     pub calls: Vec<Call<'a>>,
+    pub dates: Vec<ServiceDate<'a>>,
 }
 
 /// The feed, or its first refusal.
-pub fn read(files: &[Vec<u8>; 5], rooms: [usize; 5]) -> Result<Feed<'_>, Answer> {
+pub fn read(files: &Files, rooms: [usize; FILES]) -> Result<Feed<'_>, Answer> {
     let lines = whole_files(files, rooms)?;
     Ok(Feed {
+        supplied: files.each_ref().map(|file| !file.is_empty()),
         stops: file(files, lines, 1)?,
         routes: file(files, lines, 2)?,
         services: file(files, lines, 3)?,
         trips: file(files, lines, 4)?,
         calls: file(files, lines, 5)?,
+        dates: file(files, lines, 6)?,
     })
 }
 
 /// Rules 1 to 4, each over all files: how many lines each file has.
-fn whole_files(files: &[Vec<u8>; 5], rooms: [usize; 5]) -> Result<[usize; 5], Answer> {
+fn whole_files(files: &Files, rooms: [usize; FILES]) -> Result<[usize; FILES], Answer> {
     let refuse = |number, broken: Option<usize>| match broken {
         Some(file) => Err(Answer::Refused { number, file: file + 1, line: 0 }),
         None => Ok(()),
@@ -42,9 +46,14 @@ fn whole_files(files: &[Vec<u8>; 5], rooms: [usize; 5]) -> Result<[usize; 5], An
     refuse(1, files.iter().position(|file| file.len() > MOST_BYTES))?;
     let lines = files.each_ref().map(|file| line_ends(file));
     refuse(2, lines.iter().position(|&lines| lines > MOST_LINES))?;
-    refuse(3, (0..5).find(|&file| rooms[file] < WIDTHS[file] * lines[file]))?;
-    refuse(4, files.iter().position(|file| file.last() != Some(&b'\n')))?;
+    refuse(3, (0..FILES).find(|&file| rooms[file] < WIDTHS[file] * lines[file]))?;
+    refuse(4, (0..FILES).find(|&file| files[file].last() != Some(&b'\n') && !may_lack(files, file)))?;
     Ok(lines)
+}
+
+/// Is this an empty file that the feed may lack: calendar_dates, or calendar beside one that isn't empty?
+fn may_lack(files: &Files, file: usize) -> bool {
+    files[file].is_empty() && (file == 5 || file == 2 && !files[5].is_empty())
 }
 
 /// How many LF bytes a file has. A sum of up to 255 of them fits in a byte, which lets many be added at once.
@@ -54,7 +63,10 @@ fn line_ends(file: &[u8]) -> usize {
 }
 
 /// The records of one of the files, or its first refusal.
-fn file<'a, R: Record<'a>>(files: &'a [Vec<u8>; 5], lines: [usize; 5], number: usize) -> Result<Vec<R>, Answer> {
+fn file<'a, R: Record<'a>>(files: &'a Files, lines: [usize; FILES], number: usize) -> Result<Vec<R>, Answer> {
+    if files[number - 1].is_empty() {
+        return Ok(Vec::new());
+    }
     let mut records = Vec::with_capacity(lines[number - 1]);
     match fill(&files[number - 1], &mut records) {
         Ok(()) => Ok(records),

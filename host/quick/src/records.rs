@@ -1,6 +1,6 @@
-//! The records of the five files as they are read: numbers as stored, ids and references by value.
+//! The records of the six files as they are read: numbers as stored, ids and references by value.
 
-use crate::forms::{date, latitude, longitude, route_type, sequence, time, up_to};
+use crate::forms::{date, exception, latitude, longitude, route_type, sequence, time, up_to};
 use crate::header::Columns;
 use crate::row::{Id, Row};
 
@@ -126,6 +126,21 @@ impl<'a> Record<'a> for Call<'a> {
         let sequence = row.needed(4, sequence);
         let choices = [row.number(5, 0, up_to::<3>), row.number(6, 0, up_to::<3>), row.number(7, -1, up_to::<1>)];
         Call { trip, stop, sequence, arrival, departure, choices }
+    }
+}
+
+/// A line of calendar_dates.
+pub struct ServiceDate<'a> {
+    pub id: Id<'a>,
+    pub date: i32,
+    pub kind: i32,
+}
+
+impl<'a> Record<'a> for ServiceDate<'a> {
+    const COLUMNS: Columns = Columns { must: &["service_id", "date", "exception_type"], may: &[] };
+
+    fn read(row: &mut Row<'_, 'a>) -> Self {
+        ServiceDate { id: row.needed_id(0), date: row.needed(1, date), kind: row.needed(2, exception) }
     }
 }
 

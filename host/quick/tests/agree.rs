@@ -3,7 +3,7 @@
 use cases::large::{self, families::FAMILIES};
 use cases::{agree, Case, Outcome};
 use model::fields::line_ends;
-use model::Answer;
+use model::{Answer, Files};
 
 /// How many seeds it is compared with the model on.
 const SEEDS: usize = 4000;
@@ -48,7 +48,7 @@ fn the_benchmarks_largest_feeds_can_be_read() {
 }
 
 /// A feed with tables of just the length that rule 3 asks for, compared with the model.
-fn compare_files(name: &str, files: [Vec<u8>; 5]) {
+fn compare_files(name: &str, files: Files) {
     let tables = large::tables(&files, -1);
     let case = Case { name: name.to_string(), files, tables, list: vec![-1; 10], start: [0, 0, 0] };
     agree::with_model(by_quick, &case);
@@ -59,6 +59,7 @@ fn compare_files(name: &str, files: [Vec<u8>; 5]) {
 fn at_the_limits() {
     for over in [0, 1] {
         compare_files("65,536 lines", large::feed(65_535 + over));
+        compare_files("65,536 lines of calendar_dates", large::dates(65_536 + over));
         let mut files = large::feed(2);
         // The name of the last stop fills the file up.
         let more = 16_777_216 + over - files[0].len();

@@ -1,6 +1,6 @@
 //! A feed's files with the memory lent for them, and what the check hands out, page by page.
 
-use crate::kinds::{Fault, File, Finding, Refusal, Rule};
+use crate::kinds::{Fault, File, Finding, Refusal, Rule, FILES};
 use crate::{try_check, Answer, Verdict, MOST_LINES, WIDTHS};
 use std::collections::TryReserveError;
 use std::fmt::{self, Display, Formatter};
@@ -11,7 +11,7 @@ const PAGE: usize = 65_536;
 
 /// How many numbers the table of each file needs: its width times the file's lines.
 #[must_use]
-pub fn table_sizes(files: [&[u8]; 5]) -> [usize; 5] {
+pub fn table_sizes(files: [&[u8]; FILES]) -> [usize; FILES] {
     let mut sizes = WIDTHS;
     for (size, file) in sizes.iter_mut().zip(files) {
         // A file with more lines is refused before its table is measured.
@@ -72,22 +72,23 @@ pub struct Page {
     pub findings: Vec<Finding>,
 }
 
-/// A feed to be checked: its five files, and tables that are long enough for them.
+/// A feed to be checked: its six files, and tables that are long enough for them.
 #[derive(Debug)]
 #[must_use]
 pub struct Check<'a> {
-    files: [&'a [u8]; 5],
-    tables: [Vec<i32>; 5],
+    files: [&'a [u8]; FILES],
+    tables: [Vec<i32>; FILES],
 }
 
 impl<'a> Check<'a> {
-    /// Lends tables for these files: stops, routes, calendar, trips and stop_times; one that isn't there is empty.
+    /// Lends tables for these files: stops, routes, calendar, trips, stop_times and calendar_dates; one that isn't
+    /// there is empty, and so is its table.
     ///
     /// # Errors
     ///
     /// Where there is no memory for them.
-    pub fn new(files: [&'a [u8]; 5]) -> Result<Self, Error> {
-        let mut tables: [Vec<i32>; 5] = Default::default();
+    pub fn new(files: [&'a [u8]; FILES]) -> Result<Self, Error> {
+        let mut tables: [Vec<i32>; FILES] = Default::default();
         for (table, size) in tables.iter_mut().zip(table_sizes(files)) {
             *table = zeros(size)?;
         }
@@ -135,13 +136,13 @@ impl<'a> Check<'a> {
 
     /// The tables, filled by the last call unless the feed was refused; include/tusuchiy.h says what stands in them.
     #[must_use]
-    pub fn tables(&self) -> &[Vec<i32>; 5] {
+    pub fn tables(&self) -> &[Vec<i32>; FILES] {
         &self.tables
     }
 
     /// The same, to be kept.
     #[must_use]
-    pub fn into_tables(self) -> [Vec<i32>; 5] {
+    pub fn into_tables(self) -> [Vec<i32>; FILES] {
         self.tables
     }
 }

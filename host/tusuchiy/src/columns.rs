@@ -1,5 +1,7 @@
 //! The known columns of each file: which must be there, the form that their values have, and a good value.
 
+use tusuchiy::FILES;
+
 /// A known column.
 pub struct Column {
     pub name: &'static str,
@@ -28,6 +30,7 @@ const ROUTE_TYPE: &str = "0 to 7, 11 or 12";
 const TO_1: &str = "0 or 1";
 const TO_2: &str = "0, 1 or 2";
 const TO_3: &str = "0, 1, 2 or 3";
+const ADDED_OR_REMOVED: &str = "1 (added) or 2 (removed)";
 
 const STOPS: &[Column] = &[
     must("stop_id", "", "A"),
@@ -78,8 +81,11 @@ const STOP_TIMES: &[Column] = &[
     may("timepoint", TO_1),
 ];
 
-/// The known columns of files 1 to 5.
-pub const COLUMNS: [&[Column]; 5] = [STOPS, ROUTES, CALENDAR, TRIPS, STOP_TIMES];
+const CALENDAR_DATES: &[Column] =
+    &[must("service_id", "", "A"), must("date", DATE, "20240101"), must("exception_type", ADDED_OR_REMOVED, "1")];
 
-/// The id column of files 1 to 4.
-pub const IDS: [&str; 4] = ["stop_id", "route_id", "service_id", "trip_id"];
+/// The known columns of files 1 to 6.
+pub const COLUMNS: [&[Column]; FILES] = [STOPS, ROUTES, CALENDAR, TRIPS, STOP_TIMES, CALENDAR_DATES];
+
+/// The id column of each file by which rule 20 goes; stop_times.txt has none, calendar_dates.txt adds the date to it.
+pub const IDS: [&str; FILES] = ["stop_id", "route_id", "service_id", "trip_id", "", "service_id"];

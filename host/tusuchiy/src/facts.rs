@@ -1,7 +1,7 @@
 //! What a finding is about, from the tables that the check filled and from the files.
 
 use crate::columns::IDS;
-use crate::feed::Feed;
+use crate::feed::{Feed, FILES};
 use crate::fields::{split, value};
 use crate::memory;
 use crate::paging::Finding;
@@ -10,7 +10,7 @@ use crate::value::{Members, Value};
 use std::borrow::Cow;
 use std::cell::OnceCell;
 use std::collections::HashMap;
-use tusuchiy::WIDTHS;
+use tusuchiy::{File, WIDTHS};
 
 /// What a finding or a refusal is about: in words, and the same as members.
 #[derive(Debug, Default, PartialEq)]
@@ -28,12 +28,14 @@ const START_DATE: Cell = (3, 3);
 const END_DATE: Cell = (3, 4);
 const ROUTE: Cell = (4, 2);
 const SERVICE: Cell = (4, 3);
+const SERVICE_DATE: Cell = (4, 7);
 const TRIP: Cell = (5, 0);
 const STOP: Cell = (5, 1);
 const SEQUENCE: Cell = (5, 2);
 const ARRIVAL: Cell = (5, 3);
 const DEPARTURE: Cell = (5, 4);
 const TIMEPOINT: Cell = (5, 7);
+const DATE: Cell = (6, 2);
 
 /// The lines of stop_times.txt that a trip has: how many, the first and the last by stop_sequence.
 #[derive(Clone, Copy, Default)]
@@ -47,19 +49,22 @@ struct Calls {
 /// smaller one the line that departs latest, of several the first by stop_sequence and line; 0 is none.
 type Beside = [u32; 2];
 
+/// What rule 20 compares: the id, and in calendar_dates.txt the date.
+type Key<'a> = (Cow<'a, [u8]>, Option<i32>);
+
 /// A feed that was read, with what was looked up in it.
 pub struct Facts<'a> {
     feed: &'a Feed,
-    tables: &'a [Vec<i32>; 5],
-    headers: [OnceCell<Vec<Vec<u8>>>; 5],
-    firsts: [OnceCell<HashMap<Cow<'a, [u8]>, u32>>; 4],
+    tables: &'a [Vec<i32>; FILES],
+    headers: [OnceCell<Vec<Vec<u8>>>; FILES],
+    firsts: [OnceCell<HashMap<Key<'a>, u32>>; FILES],
     calls: OnceCell<Vec<Calls>>,
     beside: OnceCell<Vec<Beside>>,
 }
 
 impl<'a> Facts<'a> {
     /// Nothing is looked up before it is asked for.
-    pub fn new(feed: &'a Feed, tables: &'a [Vec<i32>; 5]) -> Self {
+    pub fn new(feed: &'a Feed, tables: &'a [Vec<i32>; FILES]) -> Self {
         let (headers, firsts) = Default::default();
         Facts { feed, tables, headers, firsts, calls: OnceCell::new(), beside: OnceCell::new() }
     }
@@ -104,43 +109,50 @@ impl<'a> Facts<'a> {
         field.map_or(Cow::Borrowed(&[]), |field| value(&text[field]))
     }
 
-    /// The first line with an id.
-    fn first(&self, file: usize, id: &[u8]) -> usize {
+    /// The key of a line of files 1 to 4 or 6: where its id stands is in numbers 0 and 1 of its record.
+    fn key(&self, file: usize, line: usize) -> Key<'a> {
+        let [start, end] = [0, 1].map(|place| self.number((file, place), line) as usize);
+        let id = value(&self.feed.slices()[file - 1][start..end]);
+        (id, (file == DATE.0).then(|| self.number(DATE, line)))
+    }
+
+    /// The first line with a key.
+    fn first(&self, file: usize, key: &Key<'a>) -> usize {
         let firsts = self.firsts[file - 1].get_or_init(|| {
             let mut firsts = HashMap::new();
             let lines = self.feed.line_count(file);
             firsts.try_reserve(lines).unwrap_or_else(|_| memory::none());
             for line in 2..=lines {
-                let [start, end] = [0, 1].map(|place| self.number((file, place), line) as usize);
-                firsts.entry(value(&self.feed.slices()[file - 1][start..end])).or_insert(line as u32);
+                firsts.entry(self.key(file, line)).or_insert(line as u32);
             }
             firsts
         });
-        firsts.get(id).map_or(0, |&line| line as usize)
+        firsts.get(key).map_or(0, |&line| line as usize)
     }
 
     fn repeated_id(&self, file: usize, line: usize) -> About {
         let column = IDS[file - 1];
-        let id = self.value(file, line, column);
-        let earlier = self.first(file, &id);
-        About {
-            words: format!("{column} {} stands on line {earlier} already", shown(&id)),
-            members: vec![("column", Value::text(column)), shown_value(&id), ("earlier_line", Value::size(earlier))],
-        }
+        let key = self.key(file, line);
+        let earlier = self.first(file, &key);
+        let (id, date) = (&key.0, key.1.map(written_date));
+        let with_date = date.as_ref().map_or(String::new(), |date| format!(" with date {date}"));
+        let mut members = vec![("column", Value::text(column)), shown_value(id)];
+        members.extend(date.map(|date| ("date", Value::text(date))));
+        members.push(("earlier_line", Value::size(earlier)));
+        About { words: format!("{column} {}{with_date} stands on line {earlier} already", shown(id)), members }
     }
 
     /// Every reference of the line that leads nowhere.
     fn references(&self, file: usize, line: usize) -> About {
-        let referring: &[(&str, Cell, &str)] = match file {
-            1 => &[("parent_station", PARENT, "stops.txt")],
-            4 => &[("route_id", ROUTE, "routes.txt"), ("service_id", SERVICE, "calendar.txt")],
-            _ => &[("trip_id", TRIP, "trips.txt"), ("stop_id", STOP, "stops.txt")],
-        };
         let (mut words, mut list) = (Vec::new(), Vec::new());
-        for &(column, _, searched) in referring.iter().filter(|(_, cell, _)| self.number(*cell, line) == 0) {
+        for (column, searched) in referring(file) {
+            if searched.iter().any(|(_, cell)| self.number(*cell, line) != 0) {
+                continue;
+            }
             let id = self.value(file, line, column);
-            words.push(format!("{column} {} stands on no line of {searched}", shown(&id)));
-            let searched = ("searched", Value::text(searched));
+            let names: Vec<&str> = searched.iter().map(|(searched, _)| searched.name()).collect();
+            words.push(format!("{column} {} {}", shown(&id), stands_nowhere(&names)));
+            let searched = ("searched", Value::texts(names));
             list.push(Value::Members(vec![("column", Value::text(column)), shown_value(&id), searched]));
         }
         About { words: words.join("; "), members: vec![("references", Value::List(list))] }
@@ -188,7 +200,7 @@ impl<'a> Facts<'a> {
     }
 
     fn dates(&self, line: usize) -> About {
-        let [start, end] = [START_DATE, END_DATE].map(|cell| format!("{:08}", self.number(cell, line)));
+        let [start, end] = [START_DATE, END_DATE].map(|cell| written_date(self.number(cell, line)));
         About {
             words: format!("end_date {end} is before start_date {start}"),
             members: vec![("start_date", Value::text(start)), ("end_date", Value::text(end))],
@@ -369,6 +381,30 @@ impl<'a> Facts<'a> {
             ],
         }
     }
+}
+
+/// Each reference that a line of a file has: its column, and the files that it is sought in, with the cell for what was found.
+fn referring(file: usize) -> &'static [(&'static str, &'static [(File, Cell)])] {
+    match file {
+        1 => &[("parent_station", &[(File::Stops, PARENT)])],
+        4 => &[
+            ("route_id", &[(File::Routes, ROUTE)]),
+            ("service_id", &[(File::Calendar, SERVICE), (File::CalendarDates, SERVICE_DATE)]),
+        ],
+        _ => &[("trip_id", &[(File::Trips, TRIP)]), ("stop_id", &[(File::Stops, STOP)])],
+    }
+}
+
+fn stands_nowhere(searched: &[&str]) -> String {
+    match searched {
+        [one] => format!("stands on no line of {one}"),
+        several => format!("stands in neither {}", several.join(" nor ")),
+    }
+}
+
+/// A date as it stands in a feed.
+fn written_date(date: i32) -> String {
+    format!("{date:08}")
 }
 
 /// Rule 25 says it all; an absent column is empty.

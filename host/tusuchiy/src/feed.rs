@@ -1,15 +1,23 @@
-//! A feed as it was read: the bytes of its five files, and where their lines are.
+//! A feed as it was read: the bytes of its six files, and where their lines are.
 
 use crate::memory;
 use crate::safe;
 use std::collections::BTreeSet;
 use std::os::unix::ffi::OsStrExt;
 use std::path::{Path, PathBuf};
+use tusuchiy::File;
 
-/// The files, in the order of their numbers 1 to 5.
-pub const NAMES: [&str; 5] = ["stops.txt", "routes.txt", "calendar.txt", "trips.txt", "stop_times.txt"];
+pub use tusuchiy::{FILES, MOST_BYTES, MOST_LINES};
 
-pub use tusuchiy::{MOST_BYTES, MOST_LINES};
+/// The names of the files, in the order of their numbers.
+pub const NAMES: [&str; FILES] = {
+    let (mut names, mut place) = ([""; FILES], 0);
+    while place < FILES {
+        names[place] = File::ALL[place].name();
+        place += 1;
+    }
+    names
+};
 
 /// How many names of files that aren't read are kept.
 const KEPT_NAMES: usize = 20;
@@ -22,7 +30,7 @@ pub struct Unread {
 }
 
 impl Unread {
-    /// Takes note of a file, unless it is one of the five.
+    /// Takes note of a file, unless it is one of the six.
     pub fn add(&mut self, name: &[u8]) {
         if NAMES.iter().any(|known| known.as_bytes() == name) {
             return;
@@ -55,21 +63,21 @@ impl Place {
     }
 }
 
-/// The five files of a feed; one that isn't there is none.
+/// The six files of a feed; one that isn't there is none.
 pub struct Feed {
     pub place: Place,
     pub unread: Unread,
-    files: [Option<Vec<u8>>; 5],
-    ends: [Vec<u32>; 5],
-    counts: [usize; 5],
+    files: [Option<Vec<u8>>; FILES],
+    ends: [Vec<u32>; FILES],
+    counts: [usize; FILES],
 }
 
 impl Feed {
     /// A feed of these bytes.
-    pub fn new(place: Place, files: [Option<Vec<u8>>; 5], unread: Unread) -> Self {
+    pub fn new(place: Place, files: [Option<Vec<u8>>; FILES], unread: Unread) -> Self {
         let bytes = files.each_ref().map(|file| file.as_deref().unwrap_or(&[]));
         let counts = bytes.map(|file| line_ends(file).count());
-        let ends = [0, 1, 2, 3, 4].map(|file: usize| {
+        let ends = std::array::from_fn(|file| {
             // A file with more lines is refused, and no line of it is named.
             let kept = counts[file].min(MOST_LINES);
             memory::list(line_ends(bytes[file]).take(kept).map(|place| place as u32), kept)
@@ -77,14 +85,35 @@ impl Feed {
         Feed { place, unread, files, ends, counts }
     }
 
-    /// The five files as the check takes them: one that isn't there has no bytes.
-    pub fn slices(&self) -> [&[u8]; 5] {
+    /// The six files as the check takes them: one that isn't there has no bytes.
+    pub fn slices(&self) -> [&[u8]; FILES] {
         self.files.each_ref().map(|file| file.as_deref().unwrap_or(&[]))
     }
 
-    /// The files that aren't there.
-    pub fn missing(&self) -> Vec<&'static str> {
-        NAMES.iter().zip(&self.files).filter(|(_, file)| file.is_none()).map(|(name, _)| *name).collect()
+    /// Is it without any bytes, as the check lets it be?
+    pub fn left_out(&self, file: File) -> bool {
+        file.may_be_missing() && self.bytes(file).is_empty() && self.has_services()
+    }
+
+    /// Has one of the files bytes of which a feed needs one?
+    pub fn has_services(&self) -> bool {
+        File::ALL.into_iter().any(|file| file.may_be_missing() && !self.bytes(file).is_empty())
+    }
+
+    /// The files that aren't there and that the check doesn't let be left out.
+    pub fn missing(&self) -> Vec<File> {
+        let there = |file: &File| self.files[file.number() - 1].is_some();
+        File::ALL.into_iter().filter(|file| !there(file) && !self.left_out(*file)).collect()
+    }
+
+    /// The bytes of a file; none where it isn't there.
+    pub fn bytes(&self, file: File) -> &[u8] {
+        self.slices()[file.number() - 1]
+    }
+
+    /// How many records each file of a feed has that could be read; none where it is left out.
+    pub fn records(&self) -> [(File, Option<usize>); FILES] {
+        File::ALL.map(|file| (file, self.counts[file.number() - 1].checked_sub(1)))
     }
 
     /// How many LF bytes a file has; files count from 1.
@@ -118,16 +147,38 @@ fn line_ends(file: &[u8]) -> impl Iterator<Item = usize> + '_ {
 mod tests {
     use super::*;
 
+    /// Of calendar.txt and calendar_dates.txt one is left out where the other has bytes; with neither, what isn't there is missing.
+    #[test]
+    fn one_file_of_services_may_be_left_out() {
+        let (calendar, dates) = (File::Calendar, File::CalendarDates);
+        let cases: [([Option<&str>; 2], &[File], &[File]); 6] = [
+            ([Some("x"), Some("x")], &[], &[]),
+            ([Some("x"), None], &[], &[dates]),
+            ([None, Some("x")], &[], &[calendar]),
+            ([Some(""), Some("x")], &[], &[calendar]),
+            ([Some(""), None], &[dates], &[]),
+            ([None, None], &[calendar, dates], &[]),
+        ];
+        for (services, missing, left_out) in cases {
+            let mut files: [Option<Vec<u8>>; FILES] = std::array::from_fn(|_| Some(b"x".to_vec()));
+            [files[2], files[5]] = services.map(|file| file.map(|text| text.as_bytes().to_vec()));
+            let feed = Feed::new(Place::default(), files, Unread::default());
+            assert_eq!(feed.missing(), missing, "{services:?}");
+            let told: Vec<File> = File::ALL.into_iter().filter(|file| feed.left_out(*file)).collect();
+            assert_eq!(told, left_out, "{services:?}");
+        }
+    }
+
     #[test]
     fn lines_are_cut_as_the_check_cuts_them() {
-        let mut files: [Option<Vec<u8>>; 5] = Default::default();
+        let mut files: [Option<Vec<u8>>; FILES] = Default::default();
         files[1] = Some(b"\xEF\xBB\xBFa,b\r\n\nlast\nrest".to_vec());
         let feed = Feed::new(Place::default(), files, Unread::default());
         assert_eq!(feed.line_count(2), 3);
         assert_eq!(feed.line(2, 1), Some(&b"a,b"[..]));
         assert_eq!(feed.line(2, 2), Some(&b""[..]));
         assert_eq!(feed.line(2, 3), Some(&b"last"[..]));
-        for (file, line) in [(2, 0), (2, 4), (1, 1), (0, 1), (6, 1)] {
+        for (file, line) in [(2, 0), (2, 4), (1, 1), (0, 1), (7, 1)] {
             assert_eq!(feed.line(file, line), None);
         }
     }

@@ -12,7 +12,7 @@ use std::path::Path;
 const O_NONBLOCK: i32 = 0o4000;
 const O_NOFOLLOW: i32 = 0o400_000;
 
-/// Reads the five files, or says of each that can't be read what is in the way, a line each.
+/// Reads the six files, or says of each that can't be read what is in the way, a line each.
 pub fn read(folder: &Path, follow_links: bool) -> Result<Feed, String> {
     let read = NAMES.map(|name| {
         let path = folder.join(name);

@@ -12,7 +12,7 @@ use std::io::{self, Write};
 use std::os::unix::ffi::OsStrExt;
 
 /// The version of the document's form.
-const VERSION: usize = 2;
+const VERSION: usize = 3;
 
 /// Writes the document; every member stands in every document, in this order.
 pub fn write(out: &mut dyn Write, feed: &Feed, report: &Report) -> io::Result<()> {
@@ -78,11 +78,11 @@ fn counts(list: &[Finding]) -> Value {
     Value::List(totals(list).into_iter().map(counted).collect())
 }
 
-/// How many records each file has; null for a feed that was refused.
+/// How many records each file has, null where it is left out; null for a feed that was refused.
 fn records(feed: &Feed, report: &Report) -> Value {
     match report.outcome {
         Outcome::Refused { .. } => Value::Null,
-        _ => Value::List((1..=5).map(|file| Value::size(feed.line_count(file) - 1)).collect()),
+        _ => Value::List(feed.records().map(|(_, count)| Value::maybe(count)).to_vec()),
     }
 }
 

@@ -3,7 +3,10 @@
 use crate::explain;
 use std::fmt::{self, Display, Formatter};
 
-/// One of the five files.
+/// How many files there are.
+pub const FILES: usize = 6;
+
+/// One of the six files.
 #[derive(Clone, Copy, Debug, PartialEq, Eq, PartialOrd, Ord, Hash)]
 pub enum File {
     Stops = 1,
@@ -11,34 +14,61 @@ pub enum File {
     Calendar,
     Trips,
     StopTimes,
+    CalendarDates,
 }
+
+/// A file with its name, the width of its table, and whether a feed may lack it.
+type Known = (File, &'static str, usize, bool);
+
+/// All that differs from file to file, in the order of their numbers.
+const KNOWN: [Known; FILES] = [
+    (File::Stops, "stops.txt", 6, false),
+    (File::Routes, "routes.txt", 3, false),
+    (File::Calendar, "calendar.txt", 5, true),
+    (File::Trips, "trips.txt", 8, false),
+    (File::StopTimes, "stop_times.txt", 8, false),
+    (File::CalendarDates, "calendar_dates.txt", 4, true),
+];
 
 impl File {
     /// In the order of their numbers.
-    pub const ALL: [File; 5] = [File::Stops, File::Routes, File::Calendar, File::Trips, File::StopTimes];
+    pub const ALL: [File; FILES] = {
+        let (mut all, mut place) = ([File::Stops; FILES], 0);
+        while place < FILES {
+            all[place] = KNOWN[place].0;
+            place += 1;
+        }
+        all
+    };
 
-    /// The file with this number, 1 to 5.
+    /// The file with this number, 1 to 6.
     #[must_use]
     pub fn new(number: usize) -> Option<Self> {
         File::ALL.get(number.checked_sub(1)?).copied()
     }
 
-    /// Its number, 1 to 5.
+    /// Its number, 1 to 6.
     #[must_use]
-    pub fn number(self) -> usize {
+    pub const fn number(self) -> usize {
         self as usize
     }
 
     /// Its name in a feed.
     #[must_use]
-    pub fn name(self) -> &'static str {
-        ["stops.txt", "routes.txt", "calendar.txt", "trips.txt", "stop_times.txt"][self.number() - 1]
+    pub const fn name(self) -> &'static str {
+        KNOWN[self.number() - 1].1
     }
 
     /// How many numbers one of its records has in its table.
     #[must_use]
-    pub fn width(self) -> usize {
-        crate::WIDTHS[self.number() - 1]
+    pub const fn width(self) -> usize {
+        KNOWN[self.number() - 1].2
+    }
+
+    /// A feed may lack it, which is to lend it as no bytes; but of the files of which this is true it needs one.
+    #[must_use]
+    pub const fn may_be_missing(self) -> bool {
+        KNOWN[self.number() - 1].3
     }
 }
 
@@ -140,7 +170,7 @@ mod tests {
         for file in File::ALL {
             assert_eq!(File::new(file.number()), Some(file));
         }
-        assert!([0, 6].iter().all(|&number| File::new(number).is_none()));
+        assert!([0, 7].iter().all(|&number| File::new(number).is_none()));
         assert!(Rule::all().map(Rule::number).eq(20..=31));
         assert!(Refusal::all().map(Refusal::number).eq(1..=13));
         assert!([19, 32, 276].iter().all(|&number| Rule::new(number).is_none()));

@@ -1,17 +1,18 @@
 //! The proved check of GTFS feeds, for programs in Rust.
 //!
-//! [`Check`] takes the bytes of a feed's five files, lends the memory that the check asks for, and gives its verdict and
+//! [`Check`] takes the bytes of a feed's six files, lends the memory that the check asks for, and gives its verdict and
 //! its findings. What they mean is told by [`Rule`] and [`Refusal`].
 //!
 //! ```
 //! use tusuchiy::{Check, File, Verdict};
 //!
-//! let files: [&[u8]; 5] = [
+//! let files: [&[u8]; 6] = [
 //!     b"stop_id,stop_name,stop_lat,stop_lon\nA,Alder,1.5,2\n",
 //!     b"route_id,route_short_name,route_type\nR,1,3\n",
 //!     b"service_id,monday,tuesday,wednesday,thursday,friday,saturday,sunday,start_date,end_date\n",
 //!     b"route_id,service_id,trip_id\nR,W,T\n",
 //!     b"trip_id,arrival_time,departure_time,stop_id,stop_sequence\n",
+//!     b"", // no calendar_dates.txt
 //! ];
 //! let mut check = Check::new(files)?;
 //! match check.verdict()? {
@@ -37,7 +38,7 @@ pub mod explain;
 mod kinds;
 
 pub use check::{table_sizes, Check, Error, Findings, Page, Place};
-pub use kinds::{Fault, File, Finding, Refusal, Rule};
+pub use kinds::{Fault, File, Finding, Refusal, Rule, FILES};
 
 use std::io;
 use std::thread;
@@ -49,7 +50,14 @@ pub const STACK: usize = 4 << 20;
 const THREAD_STACK: usize = 4 * STACK;
 
 /// How many numbers a record of each file has, stops first: a table needs its width times its file's LF count.
-pub const WIDTHS: [usize; 5] = [6, 3, 5, 7, 8];
+pub const WIDTHS: [usize; FILES] = {
+    let (mut widths, mut place) = ([0; FILES], 0);
+    while place < FILES {
+        widths[place] = File::ALL[place].width();
+        place += 1;
+    }
+    widths
+};
 
 /// The most bytes that rule 1 allows a file, and the most lines that rule 2 does.
 pub const MOST_BYTES: usize = 16_777_216;
@@ -97,32 +105,34 @@ impl Answer {
 #[allow(unsafe_code)]
 #[rustfmt::skip]
 mod archive {
-    use super::Answer;
+    use super::{Answer, FILES};
 
     extern "C" {
         fn tusuchiy_check(
             stops: *const u8, stops_len: usize, routes: *const u8, routes_len: usize,
             calendar: *const u8, calendar_len: usize, trips: *const u8, trips_len: usize,
-            stop_times: *const u8, stop_times_len: usize,
+            stop_times: *const u8, stop_times_len: usize, calendar_dates: *const u8, calendar_dates_len: usize,
             stops_table: *mut i32, stops_table_len: usize, routes_table: *mut i32, routes_table_len: usize,
             calendar_table: *mut i32, calendar_table_len: usize, trips_table: *mut i32, trips_table_len: usize,
             stop_times_table: *mut i32, stop_times_table_len: usize,
+            calendar_dates_table: *mut i32, calendar_dates_table_len: usize,
             findings: *mut i32, findings_len: usize,
             after_file: i32, after_line: i32, after_rule: i32,
         ) -> Answer;
     }
 
     /// One call on the stack that the caller has.
-    pub fn check(files: [&[u8]; 5], tables: [&mut [i32]; 5], list: &mut [i32], after: [i32; 3]) -> Answer {
-        let [f1, f2, f3, f4, f5] = files;
-        let [t1, t2, t3, t4, t5] = tables;
+    pub fn check(files: [&[u8]; FILES], tables: [&mut [i32]; FILES], list: &mut [i32], after: [i32; 3]) -> Answer {
+        let [f1, f2, f3, f4, f5, f6] = files;
+        let [t1, t2, t3, t4, t5, t6] = tables;
         // SAFETY: the check asks for nothing but valid slices, and slices are what is lent: each pointer comes
         // with its own length, and the borrows keep what is written apart from everything else.
         unsafe {
             tusuchiy_check(
                 f1.as_ptr(), f1.len(), f2.as_ptr(), f2.len(), f3.as_ptr(), f3.len(), f4.as_ptr(), f4.len(),
-                f5.as_ptr(), f5.len(), t1.as_mut_ptr(), t1.len(), t2.as_mut_ptr(), t2.len(),
-                t3.as_mut_ptr(), t3.len(), t4.as_mut_ptr(), t4.len(), t5.as_mut_ptr(), t5.len(),
+                f5.as_ptr(), f5.len(), f6.as_ptr(), f6.len(),
+                t1.as_mut_ptr(), t1.len(), t2.as_mut_ptr(), t2.len(), t3.as_mut_ptr(), t3.len(),
+                t4.as_mut_ptr(), t4.len(), t5.as_mut_ptr(), t5.len(), t6.as_mut_ptr(), t6.len(),
                 list.as_mut_ptr(), list.len(), after[0], after[1], after[2],
             )
         }
@@ -131,7 +141,12 @@ mod archive {
 
 /// One check: files, tables, the list of findings and the place after which findings are handed out.
 /// It runs in a thread with a stack of its own size, whatever the caller's; an error says that there is no such thread.
-pub fn try_check(files: [&[u8]; 5], tables: [&mut [i32]; 5], list: &mut [i32], after: [i32; 3]) -> io::Result<Answer> {
+pub fn try_check(
+    files: [&[u8]; FILES],
+    tables: [&mut [i32]; FILES],
+    list: &mut [i32],
+    after: [i32; 3],
+) -> io::Result<Answer> {
     on_stack(THREAD_STACK, move || archive::check(files, tables, list, after))
 }
 
@@ -148,7 +163,7 @@ fn on_stack(size: usize, call: impl FnOnce() -> Answer + Send) -> io::Result<Ans
 /// # Panics
 ///
 /// Where the system gives no thread.
-pub fn check(files: [&[u8]; 5], tables: [&mut [i32]; 5], list: &mut [i32], after: [i32; 3]) -> Answer {
+pub fn check(files: [&[u8]; FILES], tables: [&mut [i32]; FILES], list: &mut [i32], after: [i32; 3]) -> Answer {
     try_check(files, tables, list, after).expect("a thread for the check")
 }
 
@@ -159,12 +174,13 @@ mod tests {
     /// The feed of document 01 on no more stack than the header asks for.
     #[test]
     fn the_stack_that_is_promised_is_enough() {
-        let files: [&[u8]; 5] = [
+        let files: [&[u8]; FILES] = [
             include_bytes!("../../../examples/findings/stops.txt"),
             include_bytes!("../../../examples/findings/routes.txt"),
             include_bytes!("../../../examples/findings/calendar.txt"),
             include_bytes!("../../../examples/findings/trips.txt"),
             include_bytes!("../../../examples/findings/stop_times.txt"),
+            b"",
         ];
         let mut tables = WIDTHS.map(|width| vec![0; width * 10]);
         let tables = tables.each_mut().map(|table| &mut table[..]);

@@ -36,13 +36,13 @@ pub const VERBS: &[Verb] = &[
     Verb {
         name: "check",
         operand: "FEED...",
-        help: "checks feeds; FEED is a folder or a zip file with stops.txt, routes.txt, calendar.txt, trips.txt, stop_times.txt",
+        help: "checks feeds; FEED is a folder or a zip file with stops.txt, routes.txt, trips.txt, stop_times.txt and calendar.txt, calendar_dates.txt or both",
         flags: &[
             flag("json", None, "one JSON document a line for each feed (docs/JSON.md)"),
             flag("all", Some('a'), "every finding, not just the first five of each rule"),
             flag("quiet", Some('q'), "the verdict alone"),
             valued("after", "FILE,LINE,RULE", "the findings after this place only (0,0,0 is the beginning)"),
-            valued("room", "N", "one page: at most N findings, 0 to 983040"),
+            valued("room", "N", "one page: at most N findings, 0 to 1048576"),
             FOLLOW_LINKS,
             valued("jobs", "N", "check at most N feeds at a time, 1 to 256; as many as there are processors if not given"),
             Flag {
@@ -99,7 +99,7 @@ const EXAMPLES: [(&str, &str); 5] = [
     ("tusuchiy explain 21", "what rule 21 means"),
 ];
 
-const TITLE: &str = "checks the five files of GTFS feeds";
+const TITLE: &str = "checks the six files of GTFS feeds";
 const MANY: &str = "With several feeds there is one verdict a line, and the exit status is the highest of theirs.";
 
 impl Flag {

@@ -2,10 +2,10 @@
 
 use crate::columns::{Column, COLUMNS};
 use crate::facts::{names, shown, shown_value, About};
-use crate::feed::{Feed, MOST_BYTES, MOST_LINES, NAMES};
+use crate::feed::{Feed, FILES, MOST_BYTES, MOST_LINES};
 use crate::fields::{split, value, Wrong};
 use crate::value::{Members, Value};
-use tusuchiy::{Check, Verdict};
+use tusuchiy::{Check, File, Verdict};
 
 /// The most fields that rule 7 allows a line, and the most bytes that rule 11 allows an id.
 const MOST_FIELDS: usize = 32;
@@ -17,7 +17,7 @@ pub fn about(feed: &Feed, number: usize, file: usize, line: usize) -> About {
     match number {
         1 => one_number(format!("it has more than {MOST_BYTES} bytes"), "limit", MOST_BYTES),
         2 => counted(format!("it has {} lines", feed.line_count(file)), "lines", feed.line_count(file), MOST_LINES),
-        4 => no_end(feed, file),
+        4 => File::new(file).map_or_else(About::default, |file| no_end(feed, file)),
         5 => stray(text),
         6 => marks(text),
         7 => counted(format!("it has {} fields", field_count(text)), "fields", field_count(text), MOST_FIELDS),
@@ -37,15 +37,29 @@ fn counted(words: String, name: &'static str, count: usize, limit: usize) -> Abo
     About { words, members: vec![(name, Value::size(count)), ("limit", Value::size(limit))] }
 }
 
-fn no_end(feed: &Feed, file: usize) -> About {
+fn no_end(feed: &Feed, file: File) -> About {
     let missing = feed.missing();
-    let name = NAMES[file - 1];
-    let (clause, words) = match (missing.contains(&name), feed.slices()[file - 1].is_empty()) {
-        (true, _) => ("missing", format!("the file is missing; the feed lacks {}", missing.join(", "))),
-        (_, true) => ("empty", "the file is empty".to_string()),
-        _ => ("no_line_end", "the last line has no line ending".to_string()),
+    let (clause, words) = match (missing.contains(&file), feed.bytes(file).is_empty()) {
+        (true, _) => ("missing", "the file is missing"),
+        (_, true) => ("empty", "the file is empty"),
+        _ => ("no_line_end", "the last line has no line ending"),
     };
-    About { words, members: vec![("clause", Value::text(clause)), ("missing", Value::texts(missing))] }
+    let mut words = vec![words.to_string()];
+    if clause == "missing" || clause == "empty" && file.may_be_missing() {
+        words.extend(lacking(feed, &missing));
+    }
+    let missing = Value::texts(missing.iter().map(|file| file.name()));
+    About { words: words.join("; "), members: vec![("clause", Value::text(clause)), ("missing", missing)] }
+}
+
+/// What a feed lacks: the files that it needs, and where it has none of those of which one is enough, one of them.
+fn lacking(feed: &Feed, missing: &[File]) -> Vec<String> {
+    let either: Vec<File> = File::ALL.into_iter().filter(|file| file.may_be_missing()).collect();
+    let joined = |files: &[File], word| files.iter().map(|file| file.name()).collect::<Vec<_>>().join(word);
+    let needed: Vec<File> = missing.iter().copied().filter(|file| !either.contains(file)).collect();
+    let lacks = (!needed.is_empty()).then(|| format!("the feed lacks {}", joined(&needed, ", ")));
+    let neither = || format!("the feed has neither {}: supply one of them", joined(&either, " nor "));
+    lacks.into_iter().chain((!feed.has_services()).then(neither)).collect()
 }
 
 /// A tab, or a CR outside an ending.
@@ -139,8 +153,8 @@ fn about_value(number: usize, column: &Column, field: usize, value: &[u8]) -> Ab
 
 /// What the check says of a value alone: it stands in a feed of one good line a file, in the place of a good one.
 fn refused(file: usize, column: &Column, raw: &[u8]) -> Option<usize> {
-    let files =
-        [1, 2, 3, 4, 5].map(|other| one_line(other, |name| (other == file && name == column.name).then_some(raw)));
+    let good = |other: usize| one_line(other, |name| (other == file && name == column.name).then_some(raw));
+    let files: [Vec<u8>; FILES] = std::array::from_fn(|place| good(place + 1));
     match Check::new(files.each_ref().map(|file| &file[..])).ok()?.verdict().ok()? {
         Verdict::Refused(fault) if (fault.file.number(), fault.line) == (file, 2) => Some(fault.refusal.number()),
         _ => None,
@@ -163,7 +177,7 @@ mod tests {
     /// The good values are good: with one of them in its place, no value is refused.
     #[test]
     fn good_values_are_good() {
-        for file in 1..=5 {
+        for file in 1..=FILES {
             for column in COLUMNS[file - 1] {
                 assert_eq!(refused(file, column, column.good.as_bytes()), None, "{}", column.name);
                 let needed = column.must && !column.name.ends_with("_time");

@@ -76,9 +76,13 @@ pub fn verdict_line(feed: &Feed, report: &Report, style: Style) -> String {
 
 /// What was read of an accepted feed, what wasn't, and the time that it took.
 fn write_read(out: &mut dyn Write, feed: &Feed, layout: &Layout) -> io::Result<()> {
-    let records = |file: usize| feed.line_count(file) - 1;
-    let read: Vec<String> = (1..=5).map(|file| format!("{} {}", NAMES[file - 1], records(file))).collect();
-    writeln!(out, "records read: {}", read.join(", "))?;
+    let read = feed.records().into_iter().filter_map(|(file, count)| count.map(|count| format!("{file} {count}")));
+    writeln!(out, "records read: {}", read.collect::<Vec<_>>().join(", "))?;
+    let left_out = feed.records().into_iter().filter(|(_, count)| count.is_none()).map(|(file, _)| file.name());
+    let left_out: Vec<&str> = left_out.collect();
+    if !left_out.is_empty() {
+        writeln!(out, "not supplied: {}", left_out.join(", "))?;
+    }
     if feed.unread.count > 0 {
         let names: Vec<String> = feed.unread.names.iter().map(|name| safe::text(name)).collect();
         let more = feed.unread.count - names.len();

@@ -1,6 +1,6 @@
 //! Reads a feed from a zip file, in memory: the directory is walked here, the data is unpacked by flate2.
 
-use crate::feed::{Feed, Place, Unread, MOST_BYTES, NAMES};
+use crate::feed::{Feed, Place, Unread, FILES, MOST_BYTES, NAMES};
 use crate::folder::{cannot, limited, open};
 use crate::safe;
 use flate2::bufread::DeflateDecoder;
@@ -39,7 +39,7 @@ struct Member {
 }
 
 /// The members of one folder that are files of a feed.
-type Found = [Option<Member>; 5];
+type Found = [Option<Member>; FILES];
 
 /// The folders that have any; the top is the empty name.
 type Folders = BTreeMap<Vec<u8>, Found>;
@@ -51,7 +51,7 @@ struct Directory {
     count: u64,
 }
 
-/// Reads the five files from a zip file, or says in a line for each what is in the way.
+/// Reads the six files from a zip file, or says in a line for each what is in the way.
 pub fn read(path: &Path) -> Result<Feed, String> {
     let found = open(path, true).and_then(|(mut file, length)| {
         let (folders, names) = walk(&mut file, length)?;
@@ -60,7 +60,7 @@ pub fn read(path: &Path) -> Result<Feed, String> {
     });
     let (mut file, names, folder, members) = found.map_err(|error| cannot(path, &error.to_string()))?;
     let place = Place { path: path.to_path_buf(), folder };
-    let (mut files, mut wrong): ([Option<Vec<u8>>; 5], Vec<String>) = Default::default();
+    let (mut files, mut wrong): ([Option<Vec<u8>>; FILES], Vec<String>) = Default::default();
     for (number, member) in members.iter().enumerate() {
         match member.as_ref().map(|member| unpack(&mut file, member)).transpose() {
             Ok(bytes) => files[number] = bytes,
@@ -219,7 +219,7 @@ fn large_numbers(extra: &[u8]) -> impl Iterator<Item = u64> + '_ {
     large.chunks_exact(8).map(|bytes| number(bytes, 0, 8))
 }
 
-/// The folder that has the feed: the top, or the only one with any of the five files.
+/// The folder that has the feed: the top, or the only one with any of the six files.
 fn choose(mut folders: Folders) -> io::Result<(Vec<u8>, Found)> {
     if let Some(top) = folders.remove(&b""[..]) {
         return Ok((Vec::new(), top));

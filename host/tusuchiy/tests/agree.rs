@@ -1,6 +1,7 @@
 //! The archive against the model and the customer's cases: the answer, all tables and the list, whole.
 
 use cases::{agree, by_model, generate, Case, Outcome};
+use model::Files;
 use tusuchiy::{Answer, Verdict};
 
 /// How many seeds the archive and the model are compared on.
@@ -126,24 +127,35 @@ fn joined(case: &Case, room: usize, total: usize) -> Vec<i32> {
 
 /// A large feed for the limits: stop_times has this many LF bytes.
 fn case_of_lines(lines: usize) -> Case {
-    let files = cases::large::feed(lines - 1);
+    case_of(format!("{lines} lines"), cases::large::feed(lines - 1))
+}
+
+/// A large feed whose calendar_dates has this many LF bytes.
+fn case_of_dates(lines: usize) -> Case {
+    case_of(format!("{lines} lines of calendar_dates"), cases::large::dates(lines))
+}
+
+/// A feed with tables of the exact length.
+fn case_of(name: String, files: Files) -> Case {
     let tables = cases::large::tables(&files, 5);
-    Case { name: format!("{lines} lines"), files, tables, list: vec![3; 10], start: [0, 0, 0] }
+    Case { name, files, tables, list: vec![3; 10], start: [0, 0, 0] }
 }
 
 #[test]
 fn rule_2_at_its_edge_and_over_it() {
-    let at = case_of_lines(65_536);
-    let wanted = by_model(&at);
-    assert_eq!(wanted.answer, model::Answer::Accepted);
-    compare(&at, &wanted);
-    let over = case_of_lines(65_537);
-    let wanted = Outcome {
-        answer: model::Answer::Refused { number: 2, file: 5, line: 0 },
-        tables: over.tables.clone(),
-        list: over.list.clone(),
-    };
-    compare(&over, &wanted);
+    for (file, of) in [(5, case_of_lines as fn(usize) -> Case), (6, case_of_dates)] {
+        let at = of(65_536);
+        let wanted = by_model(&at);
+        assert_eq!(wanted.answer, model::Answer::Accepted);
+        compare(&at, &wanted);
+        let over = of(65_537);
+        let wanted = Outcome {
+            answer: model::Answer::Refused { number: 2, file, line: 0 },
+            tables: over.tables.clone(),
+            list: over.list.clone(),
+        };
+        compare(&over, &wanted);
+    }
 }
 
 /// A small feed whose file is filled up to this many bytes by an unread column of its last line.
@@ -164,13 +176,12 @@ fn case_of_bytes(file: usize, bytes: usize) -> Case {
         filled.push(byte);
     }
     files[file] = filled;
-    let tables = cases::large::tables(&files, -5);
-    Case { name: format!("file {} of {bytes} bytes", file + 1), files, tables, list: vec![3; 10], start: [0, 0, 0] }
+    case_of(format!("file {} of {bytes} bytes", file + 1), files)
 }
 
 #[test]
 fn rule_1_at_its_edge_and_over_it() {
-    for file in [0, 4] {
+    for file in [0, 4, 5] {
         let at = case_of_bytes(file, 16_777_216);
         assert_eq!(at.files[file].len(), 16_777_216);
         let wanted = by_model(&at);

@@ -17,11 +17,38 @@ fn the_accepted_example() {
     assert_eq!((status(&output), said(&output)), (0, ""));
     let lines: Vec<&str> = out(&output).lines().collect();
     let records = "records read: stops.txt 5, routes.txt 1, calendar.txt 2, trips.txt 2, stop_times.txt 6";
-    assert_eq!(lines[..2], ["accepted", records]);
-    let time = lines[2].strip_prefix("time: ").and_then(|rest| rest.strip_suffix(" s")).expect("the time");
+    assert_eq!(lines[..3], ["accepted", records, "not supplied: calendar_dates.txt"]);
+    let time = lines[3].strip_prefix("time: ").and_then(|rest| rest.strip_suffix(" s")).expect("the time");
     assert!(time.parse::<f64>().is_ok_and(|time| time >= 0.0), "{time}");
-    assert_eq!(lines.len(), 3);
+    assert_eq!(lines.len(), 4);
 }
+
+/// A feed whose services stand in calendar_dates.txt alone, and the same with a calendar.txt.
+#[test]
+fn the_example_by_date() {
+    let folder = Folder::of("by-date", "by-date");
+    let read = |words: &str| {
+        let output = run(&["check", folder.path()]);
+        assert_eq!((status(&output), said(&output)), (0, ""));
+        let lines: Vec<&str> = out(&output).lines().collect();
+        assert_eq!(lines[..lines.len() - 1].join("\n"), format!("accepted\n{words}"));
+        let records = document(&[folder.path()]);
+        let records = records.get("records").list();
+        records.iter().map(|count| if count == &Json::Null { -1 } else { count.number() }).collect::<Vec<_>>()
+    };
+    let of_dates =
+        "records read: stops.txt 2, routes.txt 1, trips.txt 2, stop_times.txt 4, calendar_dates.txt 3\nnot supplied: calendar.txt";
+    assert_eq!(read(of_dates), [2, 1, -1, 2, 4, 3]);
+    folder.put("calendar.txt", b"");
+    assert_eq!(read(of_dates), [2, 1, -1, 2, 4, 3], "an empty file is the same as none");
+    folder.put("calendar.txt", CALENDAR);
+    let of_both =
+        "records read: stops.txt 2, routes.txt 1, calendar.txt 0, trips.txt 2, stop_times.txt 4, calendar_dates.txt 3";
+    assert_eq!(read(of_both), [2, 1, 0, 2, 4, 3]);
+}
+
+/// The header of calendar.txt.
+const CALENDAR: &[u8] = b"service_id,monday,tuesday,wednesday,thursday,friday,saturday,sunday,start_date,end_date\n";
 
 #[test]
 fn files_that_are_not_read_are_named() {
@@ -29,7 +56,7 @@ fn files_that_are_not_read_are_named() {
     folder.put("shapes.txt", b"");
     folder.put("agency\n.txt", b"");
     let output = run(&["check", folder.path()]);
-    assert_eq!(out(&output).lines().nth(2), Some("files not read: agency\\x0A.txt, shapes.txt"));
+    assert_eq!(out(&output).lines().nth(3), Some("files not read: agency\\x0A.txt, shapes.txt"));
     (0..30).for_each(|number| folder.put(&format!("{number:02}"), b""));
     let output = run(&["check", folder.path()]);
     assert!(out(&output).contains("files not read: 00, 01, 02,"), "{}", out(&output));
@@ -49,7 +76,7 @@ fn the_example_with_findings() {
 findings: 5
 
 rule 21: a reference names no line (2)
-FEED/trips.txt:3: service_id \"X\" stands on no line of calendar.txt
+FEED/trips.txt:3: service_id \"X\" stands in neither calendar.txt nor calendar_dates.txt
     R,X,U
 FEED/stop_times.txt:4: stop_id \"C\" stands on no line of stops.txt
     T,,,C,2
@@ -115,7 +142,7 @@ fn json_of_findings() {
         "unread",
     ];
     assert_eq!(report.names(), members);
-    assert_eq!(report.get("version").number(), 2);
+    assert_eq!(report.get("version").number(), 3);
     assert_eq!(report.get("verdict").text(), "findings");
     assert_eq!((report.get("total").number(), report.get("written").number()), (5, 5));
     assert_eq!((report.get("refusal"), report.get("page")), (&Json::Null, &Json::Null));
@@ -128,8 +155,9 @@ fn json_of_findings() {
         report.get("totals").list().iter().map(|sum| ["rule", "count"].map(|name| sum.get(name).number())).collect();
     assert_eq!(totals, [[21, 2], [28, 1], [29, 1], [30, 1]]);
     assert_eq!((report.get("feed").text(), report.get("folder")), (&feed[..], &Json::Null));
-    let records: Vec<i64> = report.get("records").list().iter().map(Json::number).collect();
-    assert_eq!(records, [2, 1, 1, 2, 3]);
+    let (dates, others) = report.get("records").list().split_last().expect("six files");
+    assert_eq!(others.iter().map(Json::number).collect::<Vec<_>>(), [2, 1, 1, 2, 3]);
+    assert_eq!(dates, &Json::Null, "calendar_dates.txt isn't supplied");
 }
 
 #[test]
@@ -170,7 +198,7 @@ fn one_page() {
     assert_eq!(report.get("page").get("room"), &Json::Null);
     assert!(places(&page(&["--after", "5,4,28"])).is_empty());
     assert!(places(&page(&["--room", "0"])).is_empty());
-    assert_eq!(places(&page(&["--after", "-1,99,99", "--room", "983040"])).len(), 5);
+    assert_eq!(places(&page(&["--after", "-1,99,99", "--room", "1048576"])).len(), 5);
     let output = run(&["check", &feed, "--after", "4,3,30", "--room", "1"]);
     let wanted = format!("findings: 5\n{feed}/stop_times.txt:3: rule 29: arrival_time 07:59:59 is before ");
     assert!(out(&output).starts_with(&wanted), "{}", out(&output));
@@ -336,8 +364,8 @@ fn bad_words_on_the_command_line() {
     assert_cannot(&["check", &feed, "--fast"], &["unknown option '--fast'"]);
     assert_cannot(&["check", &feed, "-x"], &["unknown option '-x'"]);
     assert_cannot(&["check", &feed, "--room"], &["--room needs a value"]);
-    assert_cannot(&["check", &feed, "--room", "-1"], &["--room takes a number from 0 to 983040, and not '-1'"]);
-    assert_cannot(&["check", &feed, "--room", "983041"], &["--room takes a number from 0 to 983040"]);
+    assert_cannot(&["check", &feed, "--room", "-1"], &["--room takes a number from 0 to 1048576, and not '-1'"]);
+    assert_cannot(&["check", &feed, "--room", "1048577"], &["--room takes a number from 0 to 1048576"]);
     assert_cannot(&["check", &feed, "--json=yes"], &["--json takes no value"]);
     assert_cannot(&["check", &feed, "--after", "1,2"], &["--after takes three numbers"]);
     assert_cannot(&["check", &feed, "--after", "1,2,99999999999"], &["--after takes three numbers"]);
@@ -362,7 +390,7 @@ fn help_and_version_are_there() {
     }
     for words in [&["--version"][..], &["-V"], &["check", "--version"]] {
         let output = run(words);
-        assert_eq!((status(&output), out(&output)), (0, "tusuchiy 0.2.0\n"), "{words:?}");
+        assert_eq!((status(&output), out(&output)), (0, "tusuchiy 0.3.0\n"), "{words:?}");
     }
 }
 

@@ -5,12 +5,12 @@ mod common;
 use common::example_files;
 use tusuchiy::{table_sizes, Check, Fault, File, Finding, Place, Refusal, Rule, Verdict};
 
-fn slices(files: &[Vec<u8>; 5]) -> [&[u8]; 5] {
+fn slices(files: &[Vec<u8>; 6]) -> [&[u8]; 6] {
     files.each_ref().map(|file| &file[..])
 }
 
 /// What the model finds.
-fn wanted(files: &[Vec<u8>; 5]) -> Vec<Finding> {
+fn wanted(files: &[Vec<u8>; 6]) -> Vec<Finding> {
     let mut tables = table_sizes(slices(files)).map(|size| vec![0; size]);
     let mut list = vec![0; 300];
     let model::Answer::Findings { written, total } = model::check(files, &mut tables, &mut list, [0, 0, 0]) else {
@@ -59,11 +59,56 @@ fn a_feed_that_is_refused_has_a_fault_and_no_findings() {
 #[test]
 fn tables_are_long_enough_and_filled() {
     let files = example_files("feed");
-    assert_eq!(table_sizes(slices(&files)), [6 * 6, 2 * 3, 3 * 5, 3 * 7, 7 * 8]);
+    assert_eq!(table_sizes(slices(&files)), [6 * 6, 2 * 3, 3 * 5, 3 * 8, 7 * 8, 0]);
     let mut check = Check::new(slices(&files)).expect("memory");
     assert_eq!(check.verdict().expect("an answer"), Verdict::Accepted);
     assert_eq!(check.tables()[0][File::Stops.width() + 2..][..2], [525_251_000, 133_694_000]);
     assert_eq!(check.into_tables().map(|table| table.len()), table_sizes(slices(&files)));
     let long = vec![b'\n'; 70_000];
-    assert_eq!(table_sizes([&long, b"", b"x", b"\n", b""]), [6 * 65_536, 0, 0, 7, 0]);
+    assert_eq!(table_sizes([&long, b"", b"x", b"\n", b"", b"\n\n"]), [6 * 65_536, 0, 0, 8, 0, 8]);
+}
+
+/// The feed by date: what its trips and its dates have in their tables, by hand.
+#[test]
+fn services_by_date_are_in_the_tables() {
+    let files = example_files("by-date");
+    let mut check = Check::new(slices(&files)).expect("memory");
+    assert_eq!(check.verdict().expect("an answer"), Verdict::Accepted);
+    let tables = check.into_tables();
+    assert_eq!(tables[2], [], "calendar.txt isn't supplied");
+    let of = |file: File, record: usize| &tables[file.number() - 1][file.width() * record..][..file.width()];
+    // `service_id,date,exception_type` and its LF are 31 bytes, `HOLIDAYS,20241225,1` and its LF are 20.
+    assert_eq!(of(File::CalendarDates, 0), [0, 0, 0, 0]);
+    assert_eq!(of(File::CalendarDates, 1), [31, 39, 20_241_225, 1]);
+    assert_eq!(of(File::CalendarDates, 3), [71, 75, 20_241_226, 1]);
+    // `route_id,service_id,trip_id` and its LF are 28 bytes, `F1,HOLIDAYS,F1-10` and its LF are 18.
+    assert_eq!(of(File::Trips, 1), [40, 45, 1, 0, -1, 0, 0, 1]);
+    assert_eq!(of(File::Trips, 2), [54, 59, 1, 0, -1, 0, 0, 3]);
+}
+
+/// A file that isn't supplied leaves its table as lent, record 0 too.
+#[test]
+fn a_file_that_is_not_supplied_leaves_its_table() {
+    for (name, file) in [("feed", File::CalendarDates), ("by-date", File::Calendar)] {
+        let files = example_files(name);
+        let mut tables = File::ALL.map(|file| vec![77; file.width() * 10]);
+        let answer = tusuchiy::check(slices(&files), tables.each_mut().map(|table| &mut table[..]), &mut [], [0, 0, 0]);
+        assert_eq!(answer.verdict(), Some(Verdict::Accepted), "{name}");
+        for other in File::ALL {
+            let table = &tables[other.number() - 1];
+            assert_eq!(table.iter().all(|&number| number == 77), other == file, "{name}: {other}");
+        }
+    }
+}
+
+/// Without calendar.txt and calendar_dates.txt the first of them is refused.
+#[test]
+fn one_file_of_services_is_needed() {
+    assert!(File::ALL.into_iter().filter(|file| file.may_be_missing()).eq([File::Calendar, File::CalendarDates]));
+    let mut files = example_files("feed");
+    files[2].clear();
+    let refusal = Refusal::new(4).expect("a refusal");
+    let fault = Fault { file: File::Calendar, line: 0, refusal };
+    let mut check = Check::new(slices(&files)).expect("memory");
+    assert_eq!(check.verdict().expect("an answer"), Verdict::Refused(fault));
 }

@@ -39,6 +39,18 @@ fn one_verdict_a_line_and_the_worst_status() {
     }
 }
 
+/// One file of services is enough, and without any the line says what to supply.
+#[test]
+fn services_in_a_line() {
+    let folder = Folder::of("by-date", "services-in-a-line");
+    folder.take("calendar_dates.txt");
+    let output = run(&["check", &example("by-date"), folder.path(), &example("feed")]);
+    let neither = "the feed has neither calendar.txt nor calendar_dates.txt: supply one of them";
+    let refused = format!("{}: refused: calendar.txt: refusal 4: the file is missing; {neither}\n", folder.path());
+    let wanted = format!("{}: accepted\n{refused}{}: accepted\n", example("by-date"), example("feed"));
+    assert_eq!((status(&output), out(&output), said(&output)), (2, &wanted[..], ""));
+}
+
 #[test]
 fn json_is_one_document_a_line() {
     let [findings, nowhere, refused, accepted] = four();

@@ -2,9 +2,10 @@
 
 mod common;
 
+use common::json::Json;
 use common::zip::{feed, member, write, Member};
 use common::{
-    assert_cannot, command_after, document, example_files, out, program, run, said, status, Folder, NAMES, RUNNER,
+    assert_cannot, command_after, document, example_files, json, out, program, run, said, status, Folder, NAMES, RUNNER,
 };
 use std::fs::{self, File};
 use std::os::unix::fs::symlink;
@@ -29,6 +30,103 @@ fn missing_files_are_refused() {
     let missing: Vec<&str> = refusal.get("about").get("missing").list().iter().map(|name| name.text()).collect();
     assert_eq!(missing, ["trips.txt", "stop_times.txt"]);
     assert_eq!(out(&run(&["check", "--quiet", folder.path()])), "refused\n");
+}
+
+/// Files of services: not there, empty, a header, a header without its ending, a header and the services of the trips.
+const CALENDARS: [Option<&str>; 5] = [
+    None,
+    Some(""),
+    Some("service_id,monday,tuesday,wednesday,thursday,friday,saturday,sunday,start_date,end_date\n"),
+    Some("service_id,monday,tuesday,wednesday,thursday,friday,saturday,sunday,start_date,end_date"),
+    Some(
+        "service_id,monday,tuesday,wednesday,thursday,friday,saturday,sunday,start_date,end_date\n\
+         WEEKDAYS,1,1,1,1,1,0,0,20240101,20241231\nSUNDAYS,0,0,0,0,0,0,1,20240101,20241231\n",
+    ),
+];
+const DATES: [Option<&str>; 5] = [
+    None,
+    Some(""),
+    Some("service_id,date,exception_type\n"),
+    Some("service_id,date,exception_type"),
+    Some("service_id,date,exception_type\nWEEKDAYS,20241224,1\nSUNDAYS,20241225,2\n"),
+];
+
+/// The verdict for each of the first with each of the second, by hand: accepted, the refused file, or the two trips without a service.
+const VERDICTS: [[&str; 5]; 5] = [
+    ["calendar.txt", "calendar.txt", "findings", "calendar_dates.txt", "accepted"],
+    ["calendar.txt", "calendar.txt", "findings", "calendar_dates.txt", "accepted"],
+    ["findings", "findings", "findings", "calendar_dates.txt", "accepted"],
+    ["calendar.txt"; 5],
+    ["accepted", "accepted", "accepted", "calendar_dates.txt", "accepted"],
+];
+
+/// What a document says, as the table above has it; a refusal is number 4 on the whole file.
+fn verdict_on_services(report: &Json) -> String {
+    let (refusal, verdict) = (report.get("refusal"), report.get("verdict").text());
+    if verdict == "refused" {
+        assert_eq!(["number", "line"].map(|name| refusal.get(name).number()), [4, 0]);
+        return refusal.get("name").text().to_string();
+    }
+    let place = |found: &Json| ["file", "line", "rule"].map(|name| found.get(name).number());
+    let places: Vec<[i64; 3]> = report.get("findings").list().iter().map(place).collect();
+    assert_eq!(places, if verdict == "findings" { &[[4, 2, 21], [4, 3, 21]][..] } else { &[] });
+    verdict.to_string()
+}
+
+/// Each shape of calendar.txt with each of calendar_dates.txt, in a folder and in a zip file.
+#[test]
+fn services_by_week_and_by_date() {
+    let folder = Folder::empty("services");
+    let (mut feeds, mut wanted) = (Vec::new(), Vec::new());
+    for (row, calendar) in CALENDARS.iter().enumerate() {
+        for (column, dates) in DATES.iter().enumerate() {
+            let name = format!("{row}{column}");
+            let mut members = feed("", &example_files("feed"));
+            members.retain(|member| !member.name.starts_with(b"calendar"));
+            let services = [("calendar.txt", calendar), ("calendar_dates.txt", dates)];
+            members.extend(services.iter().filter_map(|(name, text)| Some(member(name, text.as_ref()?.as_bytes()))));
+            fs::create_dir(folder.at(&name)).expect("a folder");
+            members.iter().for_each(|member| {
+                folder.put(&format!("{name}/{}", String::from_utf8_lossy(&member.name)), &member.bytes)
+            });
+            folder.put(&format!("{name}.zip"), &write(&members));
+            feeds.extend([folder.at(&name), folder.at(&format!("{name}.zip"))]);
+            wanted.extend([VERDICTS[row][column]; 2]);
+        }
+    }
+    let words: Vec<&str> = ["check", "--json"].into_iter().chain(feeds.iter().map(|feed| &feed[..])).collect();
+    let output = run(&words);
+    assert_eq!((status(&output), said(&output)), (2, ""));
+    let told: Vec<String> = out(&output).lines().map(|line| verdict_on_services(&json::read(line))).collect();
+    assert_eq!(told, wanted, "{feeds:?}");
+}
+
+/// With no services at all the words name the cure, and the document what isn't there.
+#[test]
+fn a_feed_without_services() {
+    let folder = Folder::new("no-services");
+    let neither = "the feed has neither calendar.txt nor calendar_dates.txt: supply one of them";
+    let check = |clause: &str, missing: &[&str], words: &str| {
+        let report = document(&[folder.path()]);
+        let refusal = report.get("refusal");
+        assert_eq!(["number", "file", "line"].map(|name| refusal.get(name).number()), [4, 3, 0]);
+        assert_eq!(refusal.get("about").get("clause").text(), clause);
+        let named: Vec<&str> = refusal.get("about").get("missing").list().iter().map(|name| name.text()).collect();
+        assert_eq!(named, missing);
+        assert_eq!(refusal.get("words").text(), words);
+    };
+    folder.take("calendar.txt");
+    check("missing", &["calendar.txt", "calendar_dates.txt"], &format!("the file is missing; {neither}"));
+    folder.put("calendar_dates.txt", b"");
+    check("missing", &["calendar.txt"], &format!("the file is missing; {neither}"));
+    folder.put("calendar.txt", b"");
+    check("empty", &[], &format!("the file is empty; {neither}"));
+    folder.take("calendar_dates.txt");
+    check("empty", &["calendar_dates.txt"], &format!("the file is empty; {neither}"));
+    folder.take("trips.txt");
+    let lacks = format!("the file is empty; the feed lacks trips.txt; {neither}");
+    check("empty", &["trips.txt", "calendar_dates.txt"], &lacks);
+    assert!(out(&run(&["check", folder.path()])).contains(&lacks));
 }
 
 /// Another refusal that speaks first isn't hidden by a file that is missing.
@@ -139,9 +237,9 @@ fn own() -> usize {
 }
 
 /// A feed's memory, as the README has it, in MiB.
-const FEED: usize = 160;
+const FEED: usize = 192;
 
-/// Five files of 2 GiB, which are holes.
+/// Six files of 2 GiB, which are holes.
 fn huge(name: &str) -> Folder {
     let folder = Folder::empty(name);
     for name in NAMES {
@@ -151,7 +249,7 @@ fn huge(name: &str) -> Folder {
     folder
 }
 
-/// Five files much longer than rule 1 allows, of nothing or of line ends, take no more memory than those that it allows.
+/// Six files much longer than rule 1 allows, of nothing or of line ends, take no more memory than those that it allows.
 #[test]
 fn memory_has_a_bound() {
     assert!(include_str!("../../../README.md").contains(&format!("at most {FEED} MiB for each feed")));
@@ -221,7 +319,7 @@ fn assert_same(zip: &str, folder: &str) {
 
 #[test]
 fn a_zip_file_is_checked_like_its_folder() {
-    for name in ["feed", "findings", "refused"] {
+    for name in ["feed", "findings", "refused", "by-date"] {
         for packed in [true, false] {
             for large in [true, false] {
                 let mut members = feed("", &example_files(name));
@@ -268,7 +366,7 @@ fn missing_members_are_refused() {
     let report = document(&[&zip]);
     assert_eq!(["number", "file"].map(|name| report.get("refusal").get(name).number()), [4, 4]);
     let (_folder, zip) = zipped("no-members", &[]);
-    assert_eq!(document(&[&zip]).get("refusal").get("about").get("missing").list().len(), 5);
+    assert_eq!(document(&[&zip]).get("refusal").get("about").get("missing").list().len(), 6);
 }
 
 /// A megabyte that unpacks to a thousand: refusal 1, with the memory of any other feed, and nothing on disk.

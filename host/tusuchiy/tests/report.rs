@@ -9,8 +9,13 @@ use std::fs;
 fn the_status_is_the_verdict_and_the_page_is_the_file() {
     let folder = Folder::empty("report");
     let path = folder.at("report.html");
-    for (name, wanted, verdict) in [("feed", 0, "accepted"), ("findings", 1, "findings: 5"), ("refused", 2, "refused")]
-    {
+    let examples = [
+        ("feed", 0, "accepted"),
+        ("findings", 1, "findings: 5"),
+        ("refused", 2, "refused"),
+        ("by-date", 0, "accepted"),
+    ];
+    for (name, wanted, verdict) in examples {
         let output = run(&["report", &example(name), "-o", &path]);
         assert_eq!((status(&output), out(&output), said(&output)), (wanted, &format!("{verdict}\n")[..], ""));
         let page = fs::read_to_string(&path).expect("a page");
@@ -19,6 +24,44 @@ fn the_status_is_the_verdict_and_the_page_is_the_file() {
         assert!(page.starts_with("<!DOCTYPE html>") && page.ends_with("</html>\n"), "{name}");
         assert!(!page.contains("{{"), "{name}");
     }
+}
+
+/// A file that is left out is said to be, and isn't called missing; where one of two is needed, both are.
+#[test]
+fn files_that_are_left_out() {
+    let row = |name: &str, class: &str, words: &str| {
+        format!("<tr><th scope=\"row\">{name}</th><td colspan=\"3\" class=\"{class}\">{words}</td></tr>\n")
+    };
+    let page = |feed: &str| out(&run(&["report", feed])).to_string();
+    let by_date = page(&example("by-date"));
+    assert!(by_date.contains(&row("calendar.txt", "left-out", "not supplied")), "{by_date}");
+    let records =
+        "stops.txt 2, routes.txt 1, calendar.txt not supplied, trips.txt 2, stop_times.txt 4, calendar_dates.txt 3";
+    assert!(by_date.contains(&format!("Records read: {records}.")), "{by_date}");
+    assert_eq!(by_date.matches("class=\"missing\"").count(), 0);
+    let folder = Folder::of("by-date", "report-left-out");
+    folder.take("calendar_dates.txt");
+    let neither = page(folder.path());
+    for name in ["calendar.txt", "calendar_dates.txt"] {
+        assert!(neither.contains(&row(name, "missing", "missing")), "{neither}");
+    }
+    folder.put("calendar.txt", b"x\n");
+    folder.take("trips.txt");
+    let trips = page(folder.path());
+    assert!(trips.contains(&row("trips.txt", "missing", "missing")), "{trips}");
+    assert!(trips.contains(&row("calendar_dates.txt", "left-out", "not supplied")), "{trips}");
+}
+
+/// Of a service and date that stand twice both are marked, and the earlier line is shown.
+#[test]
+fn a_repeated_date_is_marked() {
+    let folder = Folder::new("report-date");
+    folder.put("calendar_dates.txt", b"date,service_id,exception_type\n20241225,W,1\n20241226,W,1\n20241225,W,2\n");
+    let output = run(&["report", folder.path()]);
+    assert_eq!(status(&output), 1);
+    let marked = "[6, 4, [[\"20241225\", \"date\"], \",\", [\"W\", \"service_id\"], \",2\"]]";
+    let earlier = "[6, 2, [\"20241225,W,1\"]]";
+    assert!(out(&output).contains(&format!("[{marked}, {earlier}]")), "{}", out(&output));
 }
 
 #[test]

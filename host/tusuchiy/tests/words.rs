@@ -27,6 +27,7 @@ fn wanted(form: Form) -> &'static str {
         Form::Choice(["0", "1"], _) => "0 or 1",
         Form::Choice(["0", "1", "2"], _) => "0, 1 or 2",
         Form::Choice(["0", "1", "2", "3"], _) => "0, 1, 2 or 3",
+        Form::Choice(["1", "2"], _) => "1 (added) or 2 (removed)",
         Form::Choice(..) => "0 to 7, 11 or 12",
     }
 }
@@ -54,7 +55,7 @@ type Names = BTreeSet<String>;
 
 /// Fails where the document of a feed differs from the model's answer and facts; gives the rules that were seen, each
 /// with the names of what it is about.
-fn compare(name: &str, files: &[Vec<u8>; 5], report: &Json) -> Vec<(i64, Names)> {
+fn compare(name: &str, files: &model::Files, report: &Json) -> Vec<(i64, Names)> {
     let mut tables = cases::large::tables(files, 0);
     let mut list = vec![0; 30_000];
     match model::check(files, &mut tables, &mut list, [0, 0, 0]) {
@@ -77,8 +78,7 @@ fn compare(name: &str, files: &[Vec<u8>; 5], report: &Json) -> Vec<(i64, Names)>
             vec![(number as i64, names(refusal.get("about")))]
         }
         Answer::Findings { written, .. } => {
-            let room: Vec<usize> = tables.iter().map(Vec::len).collect();
-            let feed = model::reading::read(files, &room).expect("a feed that is read");
+            let feed = model::reading::read(files, tables.each_ref().map(Vec::len)).expect("a feed that is read");
             let found = report.get("findings").list();
             assert_eq!(found.len(), written, "{name}");
             for (place, found) in found.iter().enumerate() {
@@ -271,6 +271,59 @@ fn the_clerks_examples_are_true() {
         found.retain(|words| !words.starts_with("21: "));
         assert_eq!(found, [wanted], "{lines}");
     }
+}
+
+/// The clerk's example of a service and date that stand twice breaks rule 20 where the page says.
+#[test]
+fn the_clerks_example_of_dates_is_true() {
+    let page = run(&["explain", "20"]);
+    let lines = out(&page).split("```\n").nth(3).expect("a second example of lines");
+    assert_eq!(words_of("calendar_dates.txt", &format!("{DATES}{lines}")), [repeated("W", "20241225", 3, 2)]);
+}
+
+const DATES: &str = "service_id,date,exception_type\n";
+
+/// What is said of a service and date on a line that stand on an earlier line.
+fn repeated(service: &str, date: &str, line: usize, earlier: usize) -> String {
+    format!("{line}:20: service_id \"{service}\" with date {date} stands on line {earlier} already")
+}
+
+/// The words about calendar_dates.txt, found by hand: the type doesn't count, the service and the date do, by value.
+#[test]
+fn words_about_dates() {
+    let words = |lines: &str| words_of("calendar_dates.txt", &format!("{DATES}{lines}"));
+    let lines = "W,20241225,1\nX,20241225,1\nW,20241226,1\n\"W\",20241225,2\nX,\"20241225\",1\nW,20241225,1\n";
+    let wanted = [repeated("W", "20241225", 5, 2), repeated("X", "20241225", 6, 3), repeated("W", "20241225", 7, 2)];
+    assert_eq!(words(lines), wanted);
+    assert_eq!(words("W,09991231,1\nW,09991231,1\n"), [repeated("W", "09991231", 3, 2)]);
+    assert_eq!(words(""), [""; 0]);
+    let type_wanted = "wanted: 1 (added) or 2 (removed)";
+    let date_wanted = "wanted: a day that exists, in eight digits as 20240229";
+    for value in ["0", "3", "12", "01"] {
+        assert_eq!(
+            words(&format!("W,20241225,{value}\n")),
+            [format!("2:13: exception_type is \"{value}\", {type_wanted}")]
+        );
+    }
+    assert_eq!(words("W,20230229,1\n"), [format!("2:13: date is \"20230229\", {date_wanted}")]);
+    assert_eq!(words("W,20240229,1\nW,,1\n"), ["3:12: date is empty"]);
+    assert_eq!(words("W,20240229,\n"), ["2:12: exception_type is empty"]);
+    assert_eq!(words("W,20240229,1"), ["0:4: the last line has no line ending"]);
+    let header = words_of("calendar_dates.txt", "service_id,dates\n");
+    assert_eq!(header, ["1:9: the header lacks date, exception_type"]);
+}
+
+/// A trip's service is sought in both files.
+#[test]
+fn words_about_a_trips_service() {
+    let trips = "route_id,service_id,trip_id\nB7,SUNDAYS,B7-out-1\nQ,X,B7-back-1\n";
+    let nowhere = "service_id \"X\" stands in neither calendar.txt nor calendar_dates.txt";
+    let wanted = [format!("3:21: route_id \"Q\" stands on no line of routes.txt; {nowhere}")];
+    assert_eq!(words_of("trips.txt", trips), wanted);
+    let folder = Folder::new("sought");
+    folder.put("trips.txt", trips.replace("Q,", "B7,").as_bytes());
+    folder.put("calendar_dates.txt", format!("{DATES}Y,20240101,1\n\"X\",20240101,2\n").as_bytes());
+    assert_eq!(document(&[folder.path()]).get("verdict").text(), "accepted", "a line that removes it counts too");
 }
 
 /// The words about stops, routes and services, found by hand.

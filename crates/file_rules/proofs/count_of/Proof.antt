@@ -30,5 +30,10 @@ unfolding ruleCount
 returns-5 c =
     let e : c .before .args .f ≡ 5 = omega arith in (ap ruleCount (sym e), omega arith)
 
+returns-6 : tie.Need-returns-6
+unfolding ruleCount
+returns-6 c =
+    let e : c .before .args .f ≡ 6 = omega arith in (ap ruleCount (sym e), omega arith)
+
 pub count-of-spec : {M : Type 1} → statement M
-count-of-spec = tie.close (tie.spec returns returns-2 returns-3 returns-4 returns-5)
+count-of-spec = tie.close (tie.spec returns returns-2 returns-3 returns-4 returns-5 returns-6)

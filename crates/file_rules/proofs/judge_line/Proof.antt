@@ -21,6 +21,9 @@ trip-line-requires c κs = search needs
 time-line-requires : tie.Need-time-line-requires
 time-line-requires c κs = search needs
 
+date-line-requires : tie.Need-date-line-requires
+date-line-requires c κs = search needs
+
 returns : tie.Need-returns
 returns c =
     λ w n h inside.
@@ -51,6 +54,12 @@ returns-5 c =
     let e : c .before .before .before .args .f ≡ 5 = omega arith in
     in-file _ 5 e w _ _ (λ g. c .time-line .ensures w n g inside) h
 
+returns-6 : tie.Need-returns-6
+returns-6 c =
+    λ w n h inside.
+    let e : c .before .before .before .args .f ≡ 6 = omega arith in
+    in-file _ 6 e w _ _ (λ g. c .date-line .ensures w n _ _ g inside) h
+
 pub judge-line-spec : {M : Type 1} → statement M
 judge-line-spec =
     tie.close
@@ -60,8 +69,10 @@ judge-line-spec =
     service-line-requires
     trip-line-requires
     time-line-requires
+    date-line-requires
     returns
     returns-2
     returns-3
     returns-4
-    returns-5)
+    returns-5
+    returns-6)

@@ -30,5 +30,10 @@ unfolding ruleNumbers
 returns-5 c =
     let e : c .before .args .f ≡ 5 = omega arith in ap ruleNumbers (sym e)
 
+returns-6 : tie.Need-returns-6
+unfolding ruleNumbers
+returns-6 c =
+    let e : c .before .args .f ≡ 6 = omega arith in ap ruleNumbers (sym e)
+
 pub numbers-of-spec : {M : Type 1} → statement M
-numbers-of-spec = tie.close (tie.spec returns returns-2 returns-3 returns-4 returns-5)
+numbers-of-spec = tie.close (tie.spec returns returns-2 returns-3 returns-4 returns-5 returns-6)

@@ -16,6 +16,9 @@ route-at-requires c κs = search needs
 service-at-requires : tie.Need-service-at-requires
 service-at-requires c κs = search needs
 
+dated-at-requires : tie.Need-dated-at-requires
+dated-at-requires c κs = search needs
+
 is-marked-requires-2 : tie.Need-is-marked-requires-2
 is-marked-requires-2 c κs = search needs
 
@@ -27,7 +30,7 @@ judge-trip-requires c κs = search needs
 
 returns : tie.Need-returns
 returns c =
-    λ w n stops h inside. trip-line-is h inside (c .before .before .before .before .before .is-marked .ensures) (c .before .before .before .before .route-at .ensures) (c .before .before .before .service-at .ensures) (c .before .before .is-marked2 .ensures) (c .before .is-marked3 .ensures) (c .judge-trip .ensures)
+    λ w n stops h inside. trip-line-is h inside (c .before .before .before .before .before .before .is-marked .ensures) (c .before .before .before .before .before .route-at .ensures) (c .before .before .before .before .service-at .ensures) (c .before .before .before .dated-at .ensures) (c .before .before .is-marked2 .ensures) (c .before .is-marked3 .ensures) (c .judge-trip .ensures)
 
 pub trip-line-spec : {M : Type 1} → statement M
 trip-line-spec =
@@ -37,6 +40,7 @@ trip-line-spec =
     is-marked-requires
     route-at-requires
     service-at-requires
+    dated-at-requires
     is-marked-requires-2
     is-marked-requires-3
     judge-trip-requires

@@ -10,6 +10,9 @@ is-loose-requires c κs = search needs
 is-loose-requires-2 : tie.Need-is-loose-requires-2
 is-loose-requires-2 c κs = search needs
 
+is-loose-requires-3 : tie.Need-is-loose-requires-3
+is-loose-requires-3 c κs = search needs
+
 returns : tie.Need-returns
 unfolding tripJudged
 returns c = cc
@@ -20,4 +23,5 @@ judge-trip-spec =
     (tie.spec
     is-loose-requires
     is-loose-requires-2
+    is-loose-requires-3
     returns)

@@ -4,7 +4,6 @@ use Rattle.meaning.specs.Refusals.{textTests, headTests}
 use Rattle.columns.specs.Columns.{lacking}
 use Rattle.columns.proofs.Laws.{lacking-is}
 use mathlib.Core.Path.{sym, ap, _∙_}
-use Prim.Native.Nat.{_-_}
 use borrow.Author.Needs.{needs}
 use Rattle.reading.proofs.header_rule.Statement.{statement}
 use Rattle.reading.proofs.header_rule.Tie as tie

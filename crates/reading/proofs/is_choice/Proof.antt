@@ -1,5 +1,4 @@
 -- `reading::is_choice` meets its contract.
-use Prim.Native.Nat.{_-_}
 use borrow.Author.Needs.{needs}
 use Rattle.reading.proofs.is_choice.Statement.{statement}
 use Rattle.reading.proofs.is_choice.Tie as tie

@@ -1,5 +1,4 @@
 -- `reading::is_date` meets its contract.
-use Prim.Native.Nat.{_-_}
 use borrow.Author.Needs.{needs}
 use Rattle.reading.proofs.is_date.Statement.{statement}
 use Rattle.reading.proofs.is_date.Tie as tie

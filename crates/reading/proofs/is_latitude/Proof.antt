@@ -1,5 +1,4 @@
 -- `reading::is_latitude` meets its contract.
-use Prim.Native.Nat.{_-_}
 use borrow.Author.Needs.{needs}
 use Rattle.reading.proofs.is_latitude.Statement.{statement}
 use Rattle.reading.proofs.is_latitude.Tie as tie

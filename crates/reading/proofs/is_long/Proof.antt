@@ -1,5 +1,4 @@
 -- `reading::is_long` meets its contract.
-use Prim.Native.Nat.{_-_}
 use borrow.Author.Needs.{needs}
 use Rattle.reading.proofs.is_long.Statement.{statement}
 use Rattle.reading.proofs.is_long.Tie as tie

@@ -1,5 +1,4 @@
 -- `reading::is_longitude` meets its contract.
-use Prim.Native.Nat.{_-_}
 use borrow.Author.Needs.{needs}
 use Rattle.reading.proofs.is_longitude.Statement.{statement}
 use Rattle.reading.proofs.is_longitude.Tie as tie

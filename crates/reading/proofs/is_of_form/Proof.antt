@@ -1,7 +1,7 @@
 -- `reading::is_of_form` meets its contract.
 use Rattle.reading.proofs.Values.{past}
 use Rattle.meaning.specs.Forms.{shape, shapes}
-use Prim.Native.Nat.{zero-le, _-_}
+use Prim.Native.Nat.{zero-le}
 use borrow.Author.Needs.{needs}
 use Rattle.reading.proofs.is_of_form.Statement.{statement}
 use Rattle.reading.proofs.is_of_form.Tie as tie

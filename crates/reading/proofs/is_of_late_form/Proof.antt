@@ -1,7 +1,6 @@
 -- `reading::is_of_late_form` meets its contract.
 use Rattle.reading.proofs.Values.{past, no-form}
 use Rattle.meaning.specs.Forms.{shape, shapes}
-use Prim.Native.Nat.{_-_}
 use borrow.Author.Needs.{needs}
 use Rattle.reading.proofs.is_of_late_form.Statement.{statement}
 use Rattle.reading.proofs.is_of_late_form.Tie as tie
@@ -20,6 +19,9 @@ is-choice-requires-3 c κs = search needs
 
 is-route-type-requires : tie.Need-is-route-type-requires
 is-route-type-requires c κs = search needs
+
+is-exception-requires : tie.Need-is-exception-requires
+is-exception-requires c κs = search needs
 
 returns : tie.Need-returns
 unfolding shape shapes
@@ -42,11 +44,15 @@ unfolding shape shapes
 returns-5 c = rw (c .before .match .keys5) (c .is-route-type .ensures)
 
 returns-6 : tie.Need-returns-6
-returns-6 c =
+unfolding shape shapes
+returns-6 c = rw (c .before .match .keys6) (c .is-exception .ensures)
+
+returns-7 : tie.Need-returns-7
+returns-7 c =
     let r = c .match .rest in
     let n = c .before .before .args .form in
-    let h = past n 7 (past n 6 (past n 5 (c .before .before .pre) (r .0 .0 .0 .0 .1)) (r .0 .0 .0 .1)) (r .0 .0 .1) in
-    no-form _ _ (past n 9 (past n 8 h (r .0 .1)) (r .1))
+    let h = past n 7 (past n 6 (past n 5 (c .before .before .pre) (r .0 .0 .0 .0 .0 .1)) (r .0 .0 .0 .0 .1)) (r .0 .0 .0 .1) in
+    no-form _ _ (past n 10 (past n 9 (past n 8 h (r .0 .0 .1)) (r .0 .1)) (r .1))
 
 pub is-of-late-form-spec : {M : Type 1} → statement M
 is-of-late-form-spec =
@@ -57,9 +63,11 @@ is-of-late-form-spec =
     is-choice-requires-2
     is-choice-requires-3
     is-route-type-requires
+    is-exception-requires
     returns
     returns-2
     returns-3
     returns-4
     returns-5
-    returns-6)
+    returns-6
+    returns-7)

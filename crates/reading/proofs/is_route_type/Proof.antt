@@ -1,5 +1,4 @@
 -- `reading::is_route_type` meets its contract.
-use Prim.Native.Nat.{_-_}
 use borrow.Author.Needs.{needs}
 use Rattle.reading.proofs.is_route_type.Statement.{statement}
 use Rattle.reading.proofs.is_route_type.Tie as tie

@@ -1,5 +1,4 @@
 -- `reading::is_sequence` meets its contract.
-use Prim.Native.Nat.{_-_}
 use borrow.Author.Needs.{needs}
 use Rattle.reading.proofs.is_sequence.Statement.{statement}
 use Rattle.reading.proofs.is_sequence.Tie as tie

@@ -1,5 +1,4 @@
 -- `reading::is_time` meets its contract.
-use Prim.Native.Nat.{_-_}
 use borrow.Author.Needs.{needs}
 use Rattle.reading.proofs.is_time.Statement.{statement}
 use Rattle.reading.proofs.is_time.Tie as tie

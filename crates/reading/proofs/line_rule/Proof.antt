@@ -2,7 +2,6 @@
 use Rattle.reading.proofs.First.{first-yes, first-no, first-stop, first-then}
 use Rattle.reading.proofs.Values.{other-yes, other-no}
 use Rattle.meaning.specs.Refusals.{textTests, lineTests}
-use Prim.Native.Nat.{_-_}
 use borrow.Author.Needs.{needs}
 use Rattle.reading.proofs.line_rule.Statement.{statement}
 use Rattle.reading.proofs.line_rule.Tie as tie

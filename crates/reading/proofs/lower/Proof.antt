@@ -1,7 +1,6 @@
 -- `reading::lower` meets its contract.
 use Rattle.reading.specs.Tests.{lowerOf}
 use borrow.Author.Tests.{eq-eqb, ne-eqb, lt-ltb, le-ltb}
-use Prim.Native.Nat.{_-_}
 use Rattle.reading.proofs.lower.Statement.{statement}
 use Rattle.reading.proofs.lower.Tie as tie
 

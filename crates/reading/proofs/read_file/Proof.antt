@@ -3,7 +3,6 @@ use Rattle.reading.proofs.Files.{file-none, file-stop, file-next}
 use Rattle.text.proofs.Lines.{line-found, line-none}
 use Rattle.meaning.specs.Bytes.{part}
 use mathlib.Core.Path.{sym, _∙_}
-use Prim.Native.Nat.{_-_}
 use native.Mathlib.Omega.{arith}
 use borrow.Author.Needs.{needs}
 use Rattle.reading.proofs.read_file.Statement.{statement}

@@ -1,43 +1,91 @@
 -- `reading::read_wholes` meets its contract.
-use Prim.Native.Nat.{_-_}
+use Rattle.reading.proofs.Wholes.{wholes-are}
+use Rattle.meaning.specs.Lists.{empty}
+use Rattle.meaning.specs.Tables.{fileOf}
+use mathlib.Core.Path.{refl}
+use mathlib.Core.List.{[], _∷_}
+use native.Mathlib.Omega.{arith}
 use borrow.Author.Needs.{needs}
 use Rattle.reading.proofs.read_wholes.Statement.{statement}
 use Rattle.reading.proofs.read_wholes.Tie as tie
 
+array-read-whole-of : tie.Need-array-read-whole-of
+array-read-whole-of c = search needs
+
 whole-of-requires : tie.Need-whole-of-requires
 whole-of-requires c κs = search needs
+
+array-read-whole-of-2 : tie.Need-array-read-whole-of-2
+array-read-whole-of-2 c = search needs
 
 whole-of-requires-2 : tie.Need-whole-of-requires-2
 whole-of-requires-2 c κs = search needs
 
+array-read-whole-of-3 : tie.Need-array-read-whole-of-3
+array-read-whole-of-3 c = search needs
+
 whole-of-requires-3 : tie.Need-whole-of-requires-3
 whole-of-requires-3 c κs = search needs
+
+array-read-whole-of-4 : tie.Need-array-read-whole-of-4
+array-read-whole-of-4 c = search needs
 
 whole-of-requires-4 : tie.Need-whole-of-requires-4
 whole-of-requires-4 c κs = search needs
 
+array-read-whole-of-5 : tie.Need-array-read-whole-of-5
+array-read-whole-of-5 c = search needs
+
 whole-of-requires-5 : tie.Need-whole-of-requires-5
 whole-of-requires-5 c κs = search needs
+
+array-read-whole-of-6 : tie.Need-array-read-whole-of-6
+array-read-whole-of-6 c = search needs
+
+whole-of-requires-6 : tie.Need-whole-of-requires-6
+whole-of-requires-6 c κs = search needs
 
 order-requires : tie.Need-order-requires
 order-requires c κs = search needs
 
 returns : tie.Need-returns
+unfolding fileOf empty
 returns c =
-    let b5 = c .before in
-    let b4 = b5 .before in
-    let b3 = b4 .before in
-    rw (← b5 .whole-of5 .ensures, ← b4 .whole-of4 .ensures, ← b3 .whole-of3 .ensures, ← b3 .before .whole-of2 .ensures, ← b3 .before .before .whole-of .ensures)
+    let w6 = c .before in
+    let w5 = w6 .before in
+    let w4 = w5 .before in
+    let w3 = w4 .before in
+    let w2 = w3 .before in
+    let w1 = w2 .before in
+    let start = w1 .before .before .before .before .before .before .before in
+    let a = start .args in
+    let files = a .s1 .now ∷ a .s2 .now ∷ a .s3 .now ∷ a .s4 .now ∷ a .s5 .now ∷ a .s6 .now ∷ [] in
+    rw (
+      ← wholes-are (a .s1 .now) (a .s2 .now) (a .s3 .now) (a .s4 .now) (a .s5 .now) (a .s6 .now) (a .t7) (omega (arith, start .good)),
+      ← w1 .whole-of .ensures files refl,
+      ← w2 .whole-of2 .ensures files refl,
+      ← w3 .whole-of3 .ensures files refl,
+      ← w4 .whole-of4 .ensures files refl,
+      ← w5 .whole-of5 .ensures files refl,
+      ← w6 .whole-of6 .ensures files refl,
+    )
     (c .order .ensures)
 
 pub read-wholes-spec : {M : Type 1} → statement M
 read-wholes-spec =
     tie.close
     (tie.spec
+    array-read-whole-of
     whole-of-requires
+    array-read-whole-of-2
     whole-of-requires-2
+    array-read-whole-of-3
     whole-of-requires-3
+    array-read-whole-of-4
     whole-of-requires-4
+    array-read-whole-of-5
     whole-of-requires-5
+    array-read-whole-of-6
+    whole-of-requires-6
     order-requires
     returns)

@@ -4,7 +4,6 @@ use Rattle.reading.proofs.Values.{bad-is, many-yes, many-no}
 use Rattle.meaning.specs.Refusals.{textTests}
 use mathlib.Core.Path.{sym, _∙_}
 use mathlib.Core.Bool.{true, false}
-use Prim.Native.Nat.{_-_}
 use borrow.Author.Needs.{needs}
 use Rattle.reading.proofs.text_rule.Statement.{statement}
 use Rattle.reading.proofs.text_rule.Tie as tie

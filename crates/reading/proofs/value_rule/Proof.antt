@@ -3,7 +3,6 @@ use Rattle.reading.proofs.First.{first-yes, first-no, first-none}
 use Rattle.reading.proofs.Values.{long-is, blank-empty, blank-full, formless-empty, formless-full}
 use Rattle.reading.specs.Tests.{valueTests}
 use mathlib.Core.Bool.{true, false}
-use Prim.Native.Nat.{_-_}
 use borrow.Author.Needs.{needs}
 use Rattle.reading.proofs.value_rule.Statement.{statement}
 use Rattle.reading.proofs.value_rule.Tie as tie

@@ -1,8 +1,6 @@
 -- `reading::whole_of` meets its contract.
-use Rattle.reading.proofs.Files.{unended-is}
 use Rattle.reading.specs.Wholes.{wholeOf}
 use Rattle.meaning.specs.Refusals.{rule1, rule2, rule3}
-use Prim.Native.Nat.{_-_}
 use borrow.Author.Needs.{needs}
 use Rattle.reading.proofs.whole_of.Statement.{statement}
 use Rattle.reading.proofs.whole_of.Tie as tie
@@ -13,13 +11,13 @@ count-lf-requires c κs = search needs
 is-short-requires : tie.Need-is-short-requires
 is-short-requires c κs = search needs
 
-ends-with-lf-requires : tie.Need-ends-with-lf-requires
-ends-with-lf-requires c κs = search needs
+is-unended-requires : tie.Need-is-unended-requires
+is-unended-requires c κs = search needs
 
 returns : tie.Need-returns
 unfolding wholeOf rule1 rule2 rule3
-returns c = rw (← unended-is _ _ _ _ (c .ends-with-lf .ensures), ← c .before .before .count-lf .ensures .0, ← c .before .is-short .ensures)
+returns c files e = rw (← c .is-unended .ensures files _ e, ← c .before .before .count-lf .ensures .0, ← c .before .is-short .ensures)
 
 pub whole-of-spec : {M : Type 1} → statement M
 whole-of-spec =
-    tie.close (tie.spec count-lf-requires is-short-requires ends-with-lf-requires returns)
+    tie.close (tie.spec count-lf-requires is-short-requires is-unended-requires returns)

@@ -1,7 +1,9 @@
 -- `rules::list_findings` meets its contract.
 use native.Mathlib.Omega.{arith}
+use Rattle.meaning.specs.Tables.{fileOf}
 use Rattle.file_rules.specs.Lines.{ruleCount}
-use Rattle.rules.proofs.Laws.{stops-ready, routes-ready, calendar-ready, trips-ready, times-ready, all-noted}
+use Rattle.rules.specs.Tabled.{tableOf}
+use Rattle.rules.proofs.Laws.{ready, step, done, all-noted}
 use borrow.Author.Needs.{needs}
 use Rattle.rules.proofs.list_findings.Statement.{statement}
 use Rattle.rules.proofs.list_findings.Tie as tie
@@ -12,43 +14,51 @@ list-counted-requires c κs = search needs
 list-counted-requires-2 : tie.Need-list-counted-requires-2
 unfolding ruleCount
 list-counted-requires-2 c κs =
-    (omega arith, (omega arith, (c .before .before .before .before .before .before .before .before .before .before .pre .1 .0, omega (arith, c .before .before .list-counted .ensures .1))))
+    (omega arith, (omega arith, (c .before .before .before .before .before .before .before .before .before .before .before .pre .1 .0, omega (arith, c .before .before .list-counted .ensures .1))))
 
 list-counted-requires-3 : tie.Need-list-counted-requires-3
 unfolding ruleCount
 list-counted-requires-3 c κs =
-    (omega arith, (omega arith, (c .before .before .before .before .before .before .before .before .before .before .before .before .before .pre .1 .1 .0, omega (arith, c .before .before .before .before .before .list-counted .ensures .1, c .before .before .list-counted2 .ensures .1))))
+    (omega arith, (omega arith, (c .before .before .before .before .before .before .before .before .before .before .before .before .before .before .pre .1 .1 .0, omega (arith, c .before .before .before .before .before .list-counted .ensures .1, c .before .before .list-counted2 .ensures .1))))
 
 list-counted-requires-4 : tie.Need-list-counted-requires-4
 unfolding ruleCount
 list-counted-requires-4 c κs =
-    (omega arith, (omega arith, (c .before .before .before .before .before .before .before .before .before .before .before .before .before .before .before .before .pre .1 .1 .1 .0, omega (arith, c .before .before .before .before .before .before .before .before .list-counted .ensures .1, c .before .before .before .before .before .list-counted2 .ensures .1, c .before .before .list-counted3 .ensures .1))))
+    (omega arith, (omega arith, (c .before .before .before .before .before .before .before .before .before .before .before .before .before .before .before .before .before .pre .1 .1 .1 .0, omega (arith, c .before .before .before .before .before .before .before .before .list-counted .ensures .1, c .before .before .before .before .before .list-counted2 .ensures .1, c .before .before .list-counted3 .ensures .1))))
 
 list-counted-requires-5 : tie.Need-list-counted-requires-5
 unfolding ruleCount
 list-counted-requires-5 c κs =
-    (omega arith, (omega arith, (c .before .before .before .before .before .before .before .before .before .before .before .before .before .before .before .before .before .before .before .pre .1 .1 .1 .1, omega (arith, c .before .before .before .before .before .before .before .before .before .before .before .list-counted .ensures .1, c .before .before .before .before .before .before .before .before .list-counted2 .ensures .1, c .before .before .before .before .before .list-counted3 .ensures .1, c .before .before .list-counted4 .ensures .1))))
+    (omega arith, (omega arith, (c .before .before .before .before .before .before .before .before .before .before .before .before .before .before .before .before .before .before .before .before .pre .1 .1 .1 .1 .0, omega (arith, c .before .before .before .before .before .before .before .before .before .before .before .list-counted .ensures .1, c .before .before .before .before .before .before .before .before .list-counted2 .ensures .1, c .before .before .before .before .before .list-counted3 .ensures .1, c .before .before .list-counted4 .ensures .1))))
+
+list-counted-requires-6 : tie.Need-list-counted-requires-6
+unfolding ruleCount
+list-counted-requires-6 c κs =
+    (omega arith, (omega arith, (c .before .before .before .before .before .before .before .before .before .before .before .before .before .before .before .before .before .before .before .before .before .before .before .pre .1 .1 .1 .1 .1, omega (arith, c .before .before .before .before .before .before .before .before .before .before .before .before .before .before .list-counted .ensures .1, c .before .before .before .before .before .before .before .before .before .before .before .list-counted2 .ensures .1, c .before .before .before .before .before .before .before .before .list-counted3 .ensures .1, c .before .before .before .before .before .list-counted4 .ensures .1, c .before .before .list-counted5 .ensures .1))))
 
 same-length : tie.Need-same-length
-same-length c = search needs
+same-length c =
+    omega (arith, c .before .before .before .before .before .before .before .before .before .before .before .before .before .before .before .before .list-counted .kept .1 .1 .1 .1 .1 .0, c .before .before .before .before .before .before .before .before .before .before .before .before .before .list-counted2 .kept .1 .1 .1 .1 .1 .0, c .before .before .before .before .before .before .before .before .before .before .list-counted3 .kept .1 .1 .1 .1 .1 .0, c .before .before .before .before .before .before .before .list-counted4 .kept .1 .1 .1 .1 .1 .0, c .before .before .before .before .list-counted5 .kept .1 .1 .1 .1 .1 .0, c .before .list-counted6 .kept .1 .1 .1 .1 .1 .0)
 
 returns : tie.Need-returns
-unfolding ruleCount
+unfolding ruleCount fileOf tableOf
 returns c =
-    let z = c .before .before .before .before .before .before .before .before .before .before .before .before .before .before .before .before .before .before .before .before .before in
-    let l₁ = c .before .before .before .before .before .before .before .before .before .before .before .before .before .list-counted .ensures in
-    let l₂ = c .before .before .before .before .before .before .before .before .before .before .list-counted2 .ensures in
-    let l₃ = c .before .before .before .before .before .before .before .list-counted3 .ensures in
-    let l₄ = c .before .before .before .before .list-counted4 .ensures in
-    let l₅ = c .before .list-counted5 .ensures in (
+    let z = c .before .before .before .before .before .before .before .before .before .before .before .before .before .before .before .before .before .before .before .before .before .before .before .before .before in
+    let l₁ = c .before .before .before .before .before .before .before .before .before .before .before .before .before .before .before .before .list-counted .ensures in
+    let l₂ = c .before .before .before .before .before .before .before .before .before .before .before .before .before .list-counted2 .ensures in
+    let l₃ = c .before .before .before .before .before .before .before .before .before .before .list-counted3 .ensures in
+    let l₄ = c .before .before .before .before .before .before .before .list-counted4 .ensures in
+    let l₅ = c .before .before .before .before .list-counted5 .ensures in
+    let l₆ = c .before .list-counted6 .ensures in (
       λ w h.
-          all-noted w (z .args .p) _ _ _ _ _ _
-          (l₁ .0 w (stops-ready w _ _ _ _ _ _ _ _ _ _ _ h))
-          (l₂ .0 w (routes-ready w _ _ _ _ _ _ _ _ _ _ _ h))
-          (l₃ .0 w (calendar-ready w _ _ _ _ _ _ _ _ _ _ _ h))
-          (l₄ .0 w (trips-ready w _ _ _ _ _ _ _ _ _ _ _ h))
-          (l₅ .0 w (times-ready w _ _ _ _ _ _ _ _ _ _ _ h)),
-      omega (arith, l₁ .1, l₂ .1, l₃ .1, l₄ .1, l₅ .1),
+          all-noted w (z .args .p) _ _
+          (step (l₁ .0 w (ready 1 (omega arith) (omega arith) w _ _ _ h))
+          (step (l₂ .0 w (ready 2 (omega arith) (omega arith) w _ _ _ h))
+          (step (l₃ .0 w (ready 3 (omega arith) (omega arith) w _ _ _ h))
+          (step (l₄ .0 w (ready 4 (omega arith) (omega arith) w _ _ _ h))
+          (step (l₅ .0 w (ready 5 (omega arith) (omega arith) w _ _ _ h))
+          (step (l₆ .0 w (ready 6 (omega arith) (omega arith) w _ _ _ h)) done)))))),
+      omega (arith, l₁ .1, l₂ .1, l₃ .1, l₄ .1, l₅ .1, l₆ .1),
     )
 
 pub list-findings-spec : {M : Type 1} → statement M
@@ -60,5 +70,6 @@ list-findings-spec =
     list-counted-requires-3
     list-counted-requires-4
     list-counted-requires-5
+    list-counted-requires-6
     same-length
     returns)

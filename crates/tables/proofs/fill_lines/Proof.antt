@@ -6,9 +6,8 @@ use Rattle.meaning.specs.Tables.{Feed, widthOf}
 use Rattle.text.proofs.Lines.{line-found, line-none}
 use Rattle.text.proofs.Walk.{line-next}
 use Rattle.records.specs.Refers.{Refers, Sought}
-use Rattle.tables.specs.Walk.{Settled}
+use Rattle.tables.specs.Walk.{Settled, writtenAll, written}
 use Rattle.records.specs.Waiting.{writtenOf}
-use Rattle.tables.specs.Walk.{writtenAll, written}
 use Rattle.records.proofs.Waiting.{written-wide}
 use Rattle.tables.proofs.Turns.{three-wide, walk-inside, walk-room, walk-count, walk-size, walk-turn, walk-past, walk-end}
 use Rattle.tables.proofs.Ids.{row-here}

@@ -1,9 +1,13 @@
 -- `tusuchiy::checked` meets its contract.
-use Prim.Native.Nat.{_*_, _≤_}
-use Rattle.meaning.specs.Refusals.{maxLines}
+use mathlib.Core.Path.{_≡_, refl}
+use mathlib.Core.List.{[], _∷_}
+use Rattle.meaning.specs.Tables.{fileOf, feedOf}
+use Rattle.meaning.specs.Refusals.{mayLack}
+use Rattle.meaning.specs.Outcome.{filledFrom}
+use Rattle.rules.specs.Tabled.{tableOf}
 use native.Mathlib.Omega.{arith}
 use Rattle.tusuchiy.proofs.Bounds.{small-findings}
-use Rattle.tusuchiy.proofs.Laws.{rooms-kept, few-kept, tabled, outcome-read}
+use Rattle.tusuchiy.proofs.Laws.{fits, roomy, few-lines, tabled, outcome-read}
 use borrow.Author.Needs.{needs}
 use Rattle.tusuchiy.proofs.checked.Statement.{statement}
 use Rattle.tusuchiy.proofs.checked.Tie as tie
@@ -15,18 +19,54 @@ slice-aggregate-fill-all : tie.Need-slice-aggregate-fill-all
 slice-aggregate-fill-all c = search needs
 
 fill-all-requires : tie.Need-fill-all-requires
+unfolding fileOf tableOf mayLack
 fill-all-requires c κs =
-    let z = c .before .before .before .before .before .before .before .before .before .before .before .before in
-    let r = rooms-kept (z .args .stops .now) (z .args .routes .now) (z .args .calendar .now) (z .args .trips .now) (z .args .stop-times .now) (z .args .stops-table .now) (z .args .routes-table .now) (z .args .calendar-table .now) (z .args .trips-table .now) (z .args .stop-times-table .now) (z .pre) in
-    (r .0, (r .1 .0, (r .1 .1 .0, (r .1 .1 .1 .0, (r .1 .1 .1 .1, (c .before .before .before .before .before .before .blank .ensures, search needs))))))
+    let z = c .before .before .before .before .before .before .before .before .before .before .before .before .before in
+    let files = z .args .stops .now ∷ z .args .routes .now ∷ z .args .calendar .now ∷ z .args .trips .now ∷ z .args .stop-times .now ∷ z .args .calendar-dates .now ∷ [] in
+    let tables = z .args .stops-table .now ∷ z .args .routes-table .now ∷ z .args .calendar-table .now ∷ z .args .trips-table .now ∷ z .args .stop-times-table .now ∷ z .args .calendar-dates-table .now ∷ [] in (
+      roomy files tables refl refl (z .pre) 1 (omega arith) (omega arith) refl,
+      (
+        roomy files tables refl refl (z .pre) 2 (omega arith) (omega arith) refl,
+        (
+          fits files tables refl refl (z .pre) 3 (omega arith) (omega arith),
+          (
+            roomy files tables refl refl (z .pre) 4 (omega arith) (omega arith) refl,
+            (
+              roomy files tables refl refl (z .pre) 5 (omega arith) (omega arith) refl,
+              (
+                fits files tables refl refl (z .pre) 6 (omega arith) (omega arith),
+                (c .before .before .before .before .before .before .before .blank .ensures, search needs),
+              ),
+            ),
+          ),
+        ),
+      ),
+    )
 
 slice-aggregate-list-findings : tie.Need-slice-aggregate-list-findings
 slice-aggregate-list-findings c = search needs
 
 list-findings-requires : tie.Need-list-findings-requires
+unfolding fileOf
 list-findings-requires c κs =
-    let z = c .before .before .before .before .before .before .before .before .before .before .before .before .before .before .before .before .before .before .before .before .before .before .before .before .before .before in
-    few-kept (z .args .stops .now) (z .args .routes .now) (z .args .calendar .now) (z .args .trips .now) (z .args .stop-times .now) (z .args .stops-table .now) (z .args .routes-table .now) (z .args .calendar-table .now) (z .args .trips-table .now) (z .args .stop-times-table .now) (z .pre)
+    let z = c .before .before .before .before .before .before .before .before .before .before .before .before .before .before .before .before .before .before .before .before .before .before .before .before .before .before .before .before .before in
+    let files = z .args .stops .now ∷ z .args .routes .now ∷ z .args .calendar .now ∷ z .args .trips .now ∷ z .args .stop-times .now ∷ z .args .calendar-dates .now ∷ [] in
+    let tables = z .args .stops-table .now ∷ z .args .routes-table .now ∷ z .args .calendar-table .now ∷ z .args .trips-table .now ∷ z .args .stop-times-table .now ∷ z .args .calendar-dates-table .now ∷ [] in (
+      few-lines files tables refl refl (z .pre) 1 (omega arith) (omega arith),
+      (
+        few-lines files tables refl refl (z .pre) 2 (omega arith) (omega arith),
+        (
+          few-lines files tables refl refl (z .pre) 3 (omega arith) (omega arith),
+          (
+            few-lines files tables refl refl (z .pre) 4 (omega arith) (omega arith),
+            (
+              few-lines files tables refl refl (z .pre) 5 (omega arith) (omega arith),
+              few-lines files tables refl refl (z .pre) 6 (omega arith) (omega arith),
+            ),
+          ),
+        ),
+      ),
+    )
 
 answer-of-requires : tie.Need-answer-of-requires
 answer-of-requires c κs = search needs
@@ -49,18 +89,21 @@ same-length-5 c = search needs
 same-length-6 : tie.Need-same-length-6
 same-length-6 c = search needs
 
+same-length-7 : tie.Need-same-length-7
+same-length-7 c = search needs
+
 returns : tie.Need-returns
+unfolding filledFrom
 returns c =
-    let z = c .before .before .before .before .before .before .before .before .before .before .before .before .before .before .before .before .before .before .before .before .before .before .before .before .before .before .before .before .before in
-    let f = c .before .before .before .before .before .before .before .before .before .before .before .before .before .before .before .before .fill-all .ensures in
+    let z = c .before .before .before .before .before .before .before .before .before .before .before .before .before .before .before .before .before .before .before .before .before .before .before .before .before .before .before .before .before .before .before .before in
+    let files = z .args .stops .now ∷ z .args .routes .now ∷ z .args .calendar .now ∷ z .args .trips .now ∷ z .args .stop-times .now ∷ z .args .calendar-dates .now ∷ [] in
+    let tables = z .args .stops-table .now ∷ z .args .routes-table .now ∷ z .args .calendar-table .now ∷ z .args .trips-table .now ∷ z .args .stop-times-table .now ∷ z .args .calendar-dates-table .now ∷ [] in
+    let f = c .before .before .before .before .before .before .before .before .before .before .before .before .before .before .before .before .before .before .fill-all .ensures in
+    let all : _ ≡ filledFrom 1 (feedOf files) files tables = rw (f .0, f .1 .0, f .1 .1 .0, f .1 .1 .1 .0, f .1 .1 .1 .1 .0, f .1 .1 .1 .1 .1 .0) refl in
     let k = c .before .before .list-findings .ensures in
-    let total : c .before .before .list-findings .result .total ≤ 17 * maxLines = omega (arith, k .1) in
-    let h = k .0 _ (tabled (z .args .stops .now) (z .args .routes .now) (z .args .calendar .now) (z .args .trips .now) (z .args .stop-times .now) (z .args .stops-table .now) (z .args .routes-table .now) (z .args .calendar-table .now) (z .args .trips-table .now) (z .args .stop-times-table .now) (z .pre) _ _ _ _ _ _ (f .0) (f .1 .0) (f .1 .1 .0) (f .1 .1 .1 .0) (f .1 .1 .1 .1 .0) (f .1 .1 .1 .1 .1 .0) (f .1 .1 .1 .1 .1 .1)) in (
-      outcome-read (z .args .stops .now) (z .args .routes .now) (z .args .calendar .now) (z .args .trips .now) (z .args .stop-times .now) (z .args .stops-table .now) (z .args .routes-table .now) (z .args .calendar-table .now) (z .args .trips-table .now) (z .args .stop-times-table .now) (z .pre) _ _ _ _ _ (z .args .findings .now) _ (z .args .from) (c .before .before .list-findings .result) _
-          (f .0) (f .1 .0) (f .1 .1 .0) (f .1 .1 .1 .0) (f .1 .1 .1 .1 .0)
-          h
-          (c .answer-of .ensures),
-      small-findings (z .args .from) _ (z .args .findings .now) _ (c .before .before .list-findings .result) _ h total (c .answer-of .ensures),
+    let h = k .0 _ (tabled files tables refl refl (z .pre) _ all _ (f .1 .1 .1 .1 .1 .1 .0) (f .1 .1 .1 .1 .1 .1 .1)) in (
+      outcome-read files tables refl refl (z .pre) _ all (z .args .findings .now) _ (z .args .from) (c .before .before .list-findings .result) _ h (c .answer-of .ensures),
+      small-findings (z .args .from) _ (z .args .findings .now) _ (c .before .before .list-findings .result) _ h (k .1) (c .answer-of .ensures),
     )
 
 pub checked-spec : {M : Type 1} → statement M
@@ -79,4 +122,5 @@ checked-spec =
     same-length-4
     same-length-5
     same-length-6
+    same-length-7
     returns)

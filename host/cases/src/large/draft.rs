@@ -1,17 +1,21 @@
 //! A large feed while it is written, line by line; every line is good, and times never fall along a trip.
 
 use crate::random::Random;
+use model::{Files, FILES};
 
-/// The five files so far.
-pub struct Draft(pub [Vec<u8>; 5]);
+/// The six files so far; calendar_dates is supplied once it has a line.
+pub struct Draft(pub Files);
 
-const HEADERS: [&str; 5] = [
+const HEADERS: [&str; FILES] = [
     "stop_id,stop_name,stop_lat,stop_lon,location_type,parent_station\n",
     "route_id,route_short_name,route_type\n",
     "service_id,monday,tuesday,wednesday,thursday,friday,saturday,sunday,start_date,end_date\n",
     "route_id,service_id,trip_id\n",
     "trip_id,arrival_time,departure_time,stop_id,stop_sequence\n",
+    "",
 ];
+
+const DATES_HEADER: &[u8] = b"service_id,date,exception_type\n";
 
 impl Draft {
     pub fn new() -> Self {
@@ -34,6 +38,14 @@ impl Draft {
 
     pub fn service(&mut self, id: &str) {
         self.line(3, format!("{id},1,1,1,1,1,0,0,20240101,20241231\n"));
+    }
+
+    /// A line of calendar_dates that adds a date.
+    pub fn date(&mut self, service: &str, date: usize) {
+        if self.0[5].is_empty() {
+            self.0[5].extend(DATES_HEADER);
+        }
+        self.line(6, format!("{service},{date:08},1\n"));
     }
 
     pub fn trip(&mut self, route: &str, service: &str, id: &str) {

@@ -1,8 +1,10 @@
 //! The feeds of the benchmark, each within rules 1 and 2: their longest file has just as many lines as asked for.
 
+use super::dated;
 use super::draft::Draft;
 use super::plan::{prefixed, short, stop_of, with_long_trips, Plan};
 use crate::random::Random;
+use model::Files;
 
 /// What a feed is to the benchmark's aims.
 #[derive(Clone, Copy, Debug, PartialEq, Eq)]
@@ -19,15 +21,15 @@ pub struct Family {
     pub about: &'static str,
     pub kind: Kind,
     /// The feed whose longest file has so many lines, its header counted; 64 at least.
-    pub feed: fn(usize) -> [Vec<u8>; 5],
+    pub feed: fn(usize) -> Files,
 }
 
-const fn family(name: &'static str, kind: Kind, feed: fn(usize) -> [Vec<u8>; 5], about: &'static str) -> Family {
+const fn family(name: &'static str, kind: Kind, feed: fn(usize) -> Files, about: &'static str) -> Family {
     Family { name, about, kind, feed }
 }
 
 /// All families, in the benchmark's order.
-pub const FAMILIES: [Family; 21] = [
+pub const FAMILIES: [Family; 32] = [
     family("plain", Kind::Plain, plain, "trips one after the other, ten lines a trip"),
     family("long-ids", Kind::Hard, long_ids, "trip ids of 64 bytes, two lines a trip"),
     family("last-parent", Kind::Hard, last_parent, "all stops have the same parent, on the last line of stops"),
@@ -54,76 +56,97 @@ pub const FAMILIES: [Family; 21] = [
     family("one-nowhere", Kind::Hard, one_nowhere, "as one-backward, but the trip stands nowhere"),
     family("one-sequence", Kind::Hard, one_sequence, "as one-trip, but all its sequences are equal"),
     family("quoted", Kind::Plain, quoted, "as plain, and every field is quoted"),
+    family(
+        "dates-only",
+        Kind::Plain,
+        dated::dates_only,
+        "no calendar.txt; in calendar_dates each service has a year of dates",
+    ),
+    family("dates-rise", Kind::Hard, dated::dates_rise, "one service on every line of calendar_dates, dates rise"),
+    family("dates-mixed", Kind::Hard, dated::dates_mixed, "as dates-rise, but shuffled"),
+    family("dates-twice", Kind::Hard, dated::dates_twice, "as dates-rise, but half the dates, and these again"),
+    family("dates-tangle", Kind::Hard, dated::dates_tangle, "as dates-twice, but shuffled"),
+    family(
+        "day-rise",
+        Kind::Hard,
+        dated::day_rise,
+        "one date on every line of calendar_dates, each of its own service",
+    ),
+    family("day-mixed", Kind::Hard, dated::day_mixed, "as day-rise, but shuffled"),
+    family("day-twice", Kind::Hard, dated::day_twice, "as day-rise, but half the services, and these again"),
+    family("day-tangle", Kind::Hard, dated::day_tangle, "as day-twice, but shuffled"),
+    family("day-prefix", Kind::Hard, dated::day_prefix, "as day-mixed, and all services begin with the same 60 bytes"),
+    family("day-trips", Kind::Hard, dated::day_trips, "as day-mixed, and each service has a trip"),
 ];
 
-fn plain(lines: usize) -> [Vec<u8>; 5] {
+fn plain(lines: usize) -> Files {
     Plan::new(lines, short).write().0
 }
 
-fn long_ids(lines: usize) -> [Vec<u8>; 5] {
+fn long_ids(lines: usize) -> Files {
     Plan::new(lines, with_long_trips).with_trips((lines - 1) / 2).write().0
 }
 
-fn few_ids(lines: usize) -> [Vec<u8>; 5] {
+fn few_ids(lines: usize) -> Files {
     Plan { stops: 4, ..Plan::new(lines, short).with_trips(4) }.write().0
 }
 
-fn two_lines(lines: usize) -> [Vec<u8>; 5] {
+fn two_lines(lines: usize) -> Files {
     Plan::new(lines, short).with_trips((lines - 1) / 2).write().0
 }
 
-fn own_trip(lines: usize) -> [Vec<u8>; 5] {
+fn own_trip(lines: usize) -> Files {
     Plan::new(lines, short).with_trips(lines - 1).write().0
 }
 
-fn one_trip(lines: usize) -> [Vec<u8>; 5] {
+fn one_trip(lines: usize) -> Files {
     Plan::new(lines, short).with_trips(1).write().0
 }
 
-fn one_backward(lines: usize) -> [Vec<u8>; 5] {
+fn one_backward(lines: usize) -> Files {
     Plan::new(lines, short).with_trips(1).reversed().write().0
 }
 
-fn one_shuffled(lines: usize) -> [Vec<u8>; 5] {
+fn one_shuffled(lines: usize) -> Files {
     let mut draft = Plan::new(lines, short).with_trips(1).write();
     draft.shuffle(5, &mut Random::new(0));
     draft.0
 }
 
-fn one_nowhere(lines: usize) -> [Vec<u8>; 5] {
+fn one_nowhere(lines: usize) -> Files {
     let mut draft = Plan::new(lines, short).write_records();
     (0..lines - 1).rev().for_each(|place| draft.call("X", place, "S1"));
     draft.0
 }
 
-fn one_sequence(lines: usize) -> [Vec<u8>; 5] {
+fn one_sequence(lines: usize) -> Files {
     let mut draft = Plan::new(lines, short).with_trips(1).write_records();
     (0..lines - 1).for_each(|place| draft.timed_call("T0", place * 5, 1, "S1"));
     draft.0
 }
 
-fn prefix(lines: usize) -> [Vec<u8>; 5] {
+fn prefix(lines: usize) -> Files {
     Plan::new(lines, prefixed).write().0
 }
 
-fn interleaved(lines: usize) -> [Vec<u8>; 5] {
+fn interleaved(lines: usize) -> Files {
     let mut plan = Plan::new(lines, short);
     plan.calls.sort_by_key(|&(_, place)| place);
     plan.write().0
 }
 
-fn by_stop(lines: usize) -> [Vec<u8>; 5] {
+fn by_stop(lines: usize) -> Files {
     let mut plan = Plan::new(lines, short);
     let stops = plan.stops;
     plan.calls.sort_by_key(|&(trip, place)| stop_of(trip, place, stops));
     plan.write().0
 }
 
-fn backward(lines: usize) -> [Vec<u8>; 5] {
+fn backward(lines: usize) -> Files {
     Plan::new(lines, short).reversed().write().0
 }
 
-fn shuffled(lines: usize) -> [Vec<u8>; 5] {
+fn shuffled(lines: usize) -> Files {
     let mut draft = Plan::new(lines, short).write();
     let mut random = Random::new(0);
     for file in [1, 4, 5] {
@@ -132,7 +155,7 @@ fn shuffled(lines: usize) -> [Vec<u8>; 5] {
     draft.0
 }
 
-fn quoted(lines: usize) -> [Vec<u8>; 5] {
+fn quoted(lines: usize) -> Files {
     let mut draft = Plan::new(lines, short).write();
     draft.quote();
     draft.0
@@ -148,7 +171,7 @@ fn stops_of_one_station(draft: &mut Draft, lines: usize) -> String {
     station
 }
 
-fn last_parent(lines: usize) -> [Vec<u8>; 5] {
+fn last_parent(lines: usize) -> Files {
     let mut draft = Draft::new();
     stops_of_one_station(&mut draft, lines);
     draft.route("R");
@@ -159,7 +182,7 @@ fn last_parent(lines: usize) -> [Vec<u8>; 5] {
     draft.0
 }
 
-fn nowhere(lines: usize) -> [Vec<u8>; 5] {
+fn nowhere(lines: usize) -> Files {
     let plan = Plan::new(lines, short);
     let mut draft = plan.write_records();
     for number in 1..lines {
@@ -168,7 +191,7 @@ fn nowhere(lines: usize) -> [Vec<u8>; 5] {
     draft.0
 }
 
-fn all_at_once(lines: usize) -> [Vec<u8>; 5] {
+fn all_at_once(lines: usize) -> Files {
     let mut draft = Draft::new();
     let station = stops_of_one_station(&mut draft, lines);
     draft.route("R");
@@ -181,7 +204,7 @@ fn all_at_once(lines: usize) -> [Vec<u8>; 5] {
     draft.0
 }
 
-fn unresolved(lines: usize) -> [Vec<u8>; 5] {
+fn unresolved(lines: usize) -> Files {
     let mut draft = Draft::new();
     for number in 1..lines {
         // A name that stands nowhere has its place between two that do, whichever way names are ordered.
@@ -189,18 +212,20 @@ fn unresolved(lines: usize) -> [Vec<u8>; 5] {
         draft.stop(&stop, 0, "");
         draft.route(&route);
         draft.service(&service);
+        draft.date(&format!("{service}y"), 20240704);
         draft.trip(&format!("{route}x"), &format!("{service}x"), &short('T', number));
         draft.call(&short('T', number), 0, &format!("{stop}x"));
     }
     draft.0
 }
 
-fn equal_ids(lines: usize) -> [Vec<u8>; 5] {
+fn equal_ids(lines: usize) -> Files {
     let mut draft = Draft::new();
     for place in 0..lines - 1 {
         draft.stop("S", 0, "");
         draft.route("R");
         draft.service("W");
+        draft.date("W", 20240704);
         draft.trip("R", "W", "T");
         draft.call("T", place, "S");
     }

@@ -2,7 +2,7 @@
 
 use crate::clock;
 use cases::Outcome;
-use model::Answer;
+use model::{Answer, Files, FILES};
 use tusuchiy::Verdict;
 
 /// A call is made again until this many seconds are spent, but so many times at most; the fastest counts.
@@ -11,8 +11,6 @@ pub const RUNS: usize = 20;
 
 /// The command's list: room for so many findings.
 pub const ROOM: usize = 65_536;
-
-type Files = [Vec<u8>; 5];
 
 #[derive(Clone, Copy)]
 pub enum Checker {
@@ -72,25 +70,26 @@ pub fn fastest(checker: Checker, files: &Files) -> (f64, Outcome) {
 
 /// The parts of a call that takes this long: rules 1 to 4, reading, and all that follows.
 pub fn parts(checker: Checker, files: &Files, whole: f64) -> [f64; 3] {
-    let (wholes, outcome) = fastest(checker, &unended(files));
-    assert_eq!(outcome.answer, Answer::Refused { number: 4, file: 5, line: 0 });
-    let (read, outcome) = fastest(checker, &malformed(files));
-    let line = model::fields::line_ends(&files[4]);
-    assert_eq!(outcome.answer, Answer::Refused { number: 13, file: 5, line });
+    let last = (0..FILES).rfind(|&file| !files[file].is_empty()).expect("a file that is supplied");
+    let (wholes, outcome) = fastest(checker, &unended(files, last));
+    assert_eq!(outcome.answer, Answer::Refused { number: 4, file: last + 1, line: 0 });
+    let (read, outcome) = fastest(checker, &malformed(files, last));
+    let line = model::fields::line_ends(&files[last]);
+    assert_eq!(outcome.answer, Answer::Refused { number: 13, file: last + 1, line });
     [wholes, (read - wholes).max(0.0), (whole - read).max(0.0)]
 }
 
 /// The feed without its last LF, refused before any line is read.
-fn unended(files: &Files) -> Files {
+fn unended(files: &Files, last: usize) -> Files {
     let mut files = files.clone();
-    files[4].pop();
+    files[last].pop();
     files
 }
 
 /// The feed with a letter in its last value, refused after all is read.
-fn malformed(files: &Files) -> Files {
+fn malformed(files: &Files, last: usize) -> Files {
     let mut files = files.clone();
-    let last = files[4].iter().rposition(u8::is_ascii_digit).expect("a last sequence");
-    files[4][last] = b'x';
+    let digit = files[last].iter().rposition(u8::is_ascii_digit).expect("a last number");
+    files[last][digit] = b'x';
     files
 }

@@ -1,7 +1,7 @@
 //! Lines of a feed in pieces, with the fields marked that a finding or a refusal is about.
 
 use crate::facts::{names, About};
-use crate::feed::Feed;
+use crate::feed::{Feed, FILES};
 use crate::fields::split;
 use crate::safe;
 use crate::value::Value;
@@ -42,7 +42,7 @@ type Fields = Vec<Range<usize>>;
 /// The headers of a feed, and its long lines by file and line, split once.
 pub struct Headers<'a> {
     feed: &'a Feed,
-    names: [OnceCell<Vec<Vec<u8>>>; 5],
+    names: [OnceCell<Vec<Vec<u8>>>; FILES],
     long: RefCell<HashMap<(usize, usize), Fields>>,
 }
 
@@ -135,10 +135,12 @@ fn columns(number: usize, about: &About) -> Vec<String> {
     columns.iter().map(|column| column.to_string()).collect()
 }
 
-/// Every `column` and `columns` among members, however deep.
+/// Every `column`, `columns` and `date` among members, however deep.
 fn named_columns(name: &str, value: &Value, named: &mut Vec<String>) {
     match (name, value) {
         ("column" | "columns", Value::Text(text)) => named.push(String::from_utf8_lossy(text).into_owned()),
+        // Rule 20 goes by the date too, where it names one.
+        ("date", _) => named.push(name.to_string()),
         ("columns" | "references", Value::List(list)) => {
             list.iter().for_each(|value| named_columns(name, value, named))
         }

@@ -8,6 +8,7 @@ use crate::paging::Outcome;
 use crate::safe;
 use std::collections::BTreeMap;
 use std::os::unix::ffi::OsStrExt;
+use tusuchiy::File;
 
 /// How many faults stand in the page for readers without a script.
 const PLAIN: usize = 100;
@@ -71,12 +72,12 @@ pub fn feed(subject: &Subject) -> String {
 /// The verdict in a word, and what it says.
 pub fn verdict(subject: &Subject) -> String {
     let (kind, sign, head, words) = match subject.report.outcome {
-        Outcome::Accepted => ("accepted", "✓", "Accepted".to_string(), "All five files can be read, and no rule is broken."),
+        Outcome::Accepted => ("accepted", "✓", "Accepted".to_string(), "All files can be read, and no rule is broken."),
         Outcome::Findings { total, .. } => (
             "findings",
             "!",
             format!("{} {}", grouped(total), if total == 1 { "finding" } else { "findings" }),
-            "All five files can be read, but something in them doesn't fit together. Not accepted until each finding is mended.",
+            "All files can be read, but something in them doesn't fit together. Not accepted until each finding is mended.",
         ),
         Outcome::Refused { .. } => (
             "refused",
@@ -96,30 +97,37 @@ pub fn records(subject: &Subject) -> String {
     if subject.refused() {
         return String::new();
     }
-    let of_file = |file: usize| format!("{} {}", NAMES[file - 1], grouped(subject.feed.line_count(file) - 1));
-    let files: Vec<String> = (1..=5).map(of_file).collect();
+    let of_file = |(file, count): (File, Option<usize>)| {
+        format!("{file} {}", count.map_or_else(|| "not supplied".to_string(), grouped))
+    };
+    let files = subject.feed.records().map(of_file);
     format!("<p class=\"lead\" id=\"records\">Records read: {}. <a href=\"#read\">More</a></p>", files.join(", "))
 }
 
-/// The five files with what was read of them, and the others, which weren't.
+/// The six files with what was read of them, and the others, which weren't.
 pub fn read(subject: &Subject) -> String {
     let feed = subject.feed;
     let missing = feed.missing();
-    let row = |file: usize| {
-        let (name, bytes) = (NAMES[file - 1], feed.slices()[file - 1]);
-        if missing.contains(&name) {
-            return format!("<tr><th scope=\"row\">{name}</th><td colspan=\"3\" class=\"missing\">missing</td></tr>\n");
+    let row = |(file, count): (File, Option<usize>)| {
+        let none = |class: &str, words: &str| {
+            format!("<tr><th scope=\"row\">{file}</th><td colspan=\"3\" class=\"{class}\">{words}</td></tr>\n")
+        };
+        if missing.contains(&file) {
+            return none("missing", "missing");
         }
-        let lines = feed.line_count(file);
-        let records = if subject.refused() { String::new() } else { grouped(lines.saturating_sub(1)) };
+        if feed.left_out(file) {
+            return none("left-out", "not supplied");
+        }
+        let records = count.filter(|_| !subject.refused()).map_or(String::new(), grouped);
+        let bytes = feed.bytes(file);
         format!(
-            "<tr><th scope=\"row\">{name}</th><td class=\"number\">{records}</td><td class=\"number\">{}</td>\
+            "<tr><th scope=\"row\">{file}</th><td class=\"number\">{records}</td><td class=\"number\">{}</td>\
              <td class=\"digest\"><code>{}</code></td></tr>\n",
             grouped(bytes.len()),
             hex(&sha256(bytes))
         )
     };
-    let rows: String = (1..=5).map(row).collect();
+    let rows: String = feed.records().map(row).concat();
     format!(
         "<div class=\"wide\"><table id=\"read\">\n<thead><tr><th scope=\"col\">File</th><th scope=\"col\" class=\"number\">Records</th>\
          <th scope=\"col\" class=\"number\">Bytes</th><th scope=\"col\">SHA-256</th></tr></thead>\n<tbody>\n{rows}</tbody></table></div>\n{}",

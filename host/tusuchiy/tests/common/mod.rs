@@ -12,8 +12,9 @@ use std::process::{Command, Output, Stdio};
 /// On Arm the command is an x86-64 program and runs under the same runner as this test.
 pub const RUNNER: &str = "CARGO_TARGET_X86_64_UNKNOWN_LINUX_GNU_RUNNER";
 
-/// The five files, in the order of their numbers.
-pub const NAMES: [&str; 5] = ["stops.txt", "routes.txt", "calendar.txt", "trips.txt", "stop_times.txt"];
+/// The six files, in the order of their numbers.
+pub const NAMES: [&str; 6] =
+    ["stops.txt", "routes.txt", "calendar.txt", "trips.txt", "stop_times.txt", "calendar_dates.txt"];
 
 /// The program, with its runner before it where there is one.
 pub fn program() -> Vec<String> {
@@ -93,9 +94,14 @@ impl Folder {
 
     /// A copy of the accepted example.
     pub fn new(name: &str) -> Self {
+        Folder::of("feed", name)
+    }
+
+    /// A copy of an example.
+    pub fn of(of: &str, name: &str) -> Self {
         let folder = Folder::empty(name);
-        for file in NAMES {
-            fs::copy(Path::new(&example("feed")).join(file), folder.0.join(file)).expect("a copy");
+        for file in fs::read_dir(example(of)).expect("a folder").map(|file| file.expect("a file")) {
+            fs::copy(file.path(), folder.0.join(file.file_name())).expect("a copy");
         }
         folder
     }
@@ -113,8 +119,8 @@ impl Folder {
         fs::write(self.0.join(file), bytes).expect("a file");
     }
 
-    /// A folder in it with these five files.
-    pub fn put_feed(&self, name: &str, files: &[Vec<u8>; 5]) -> String {
+    /// A folder in it with these six files.
+    pub fn put_feed(&self, name: &str, files: &[Vec<u8>; 6]) -> String {
         fs::create_dir_all(self.0.join(name)).expect("a folder");
         NAMES.iter().zip(files).for_each(|(file, bytes)| self.put(&format!("{name}/{file}"), bytes));
         self.at(name)
@@ -131,7 +137,7 @@ impl Drop for Folder {
     }
 }
 
-/// The files of an example.
-pub fn example_files(name: &str) -> [Vec<u8>; 5] {
-    NAMES.map(|file| fs::read(Path::new(&example(name)).join(file)).expect("a file"))
+/// The files of an example; one that it lacks is empty.
+pub fn example_files(name: &str) -> [Vec<u8>; 6] {
+    NAMES.map(|file| fs::read(Path::new(&example(name)).join(file)).unwrap_or_default())
 }

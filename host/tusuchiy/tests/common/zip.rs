@@ -29,8 +29,8 @@ pub fn member(name: &str, bytes: &[u8]) -> Member {
     Member { name, local_name, bytes, packed: true, flags: 0, mode: 0o100_644, large: false, wrong: 0, times: 1 }
 }
 
-/// The five files of a feed in a folder.
-pub fn feed(folder: &str, files: &[Vec<u8>; 5]) -> Vec<Member> {
+/// The six files of a feed in a folder.
+pub fn feed(folder: &str, files: &[Vec<u8>; 6]) -> Vec<Member> {
     super::NAMES.iter().zip(files).map(|(name, bytes)| member(&format!("{folder}{name}"), bytes)).collect()
 }
 
