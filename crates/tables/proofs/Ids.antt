@@ -2,7 +2,7 @@
 use mathlib.Core.Path.{_≡_, refl, sym, ap, _∙_}
 use mathlib.Core.List.{List, [], map}
 use Prim.Native.Nat.{ℕ, zero, suc, _+_, _*_, _-_, _≤_, _<_}
-use native.Mathlib.Nat.{add-zero, mul-comm}
+use native.Mathlib.Nat.{add-zero}
 use native.Mathlib.Omega.{arith}
 use lib.IntN.{ℤ, pos}
 use lib.ListN.{length, getD, drop, length-append, length-drop, length-map}
@@ -10,7 +10,7 @@ use lib.Seq.{getD-drop}
 use Rattle.meaning.specs.Lists.{flat, laid}
 use Rattle.meaning.specs.Bytes.{Line, bounds, part, value, countLf, linesFrom, linesOf, startOf}
 use Rattle.meaning.specs.Columns.{Row, places, headerOf, fieldAt, cell, rowOf, rowsOf}
-use Rattle.meaning.specs.Tables.{Feed, under, widthOf, idColumn, recordOf, filled}
+use Rattle.meaning.specs.Tables.{under, widthOf, idColumn}
 use Rattle.text.specs.declared.LineStep.{LineStep}
 use Rattle.text.specs.declared.LineStep.the-variants.{Line as LineAt, Done}
 use Rattle.text.specs.Lines.{LineStands, lineAt}
@@ -18,14 +18,14 @@ use Rattle.text.proofs.Laws.{part-length, part-part}
 use Rattle.text.proofs.Lines.{lines-all, line-found, line-none}
 use Rattle.text.proofs.Fields.{field-inside}
 use Rattle.meaning.proofs.Readable.{getD-map-in}
-use Rattle.rows.proofs.Records.{flat-length, laid-cell, rows-length, record-wide}
+use Rattle.rows.proofs.Records.{flat-length, laid-cell}
 use Rattle.columns.proofs.Laws.{row-at}
 use Rattle.seeking.specs.First.{IdAt, Held}
 use Rattle.records.specs.Line.{line}
 use Rattle.tables.specs.Walk.{placeOf, tabled}
 use Rattle.text.proofs.Walk.{line-here}
 use Rattle.tables.proofs.Turns.{three-wide, wide, table-length, table-at, walk-inside}
-use Rattle.tables.proofs.Written.{IdFirst, record-id, records-are}
+use Rattle.tables.proofs.Written.{IdFirst}
 
 -- a line lies inside its file
 pub record LineIn (s : List ℕ) (x : Line) : Type 0 where
@@ -175,37 +175,3 @@ module _ (f : ℕ) (s : List ℕ) (lent : List ℤ) (some : 1 ≤ countLf s) (g 
           at = λ k h.
               rw (getD-map-in (under (idColumn f)) (rowsOf f s) k [] [] (omega (arith, rows-count f s))) (id-at k (omega arith));
         }
-
--- a table that is filled for a file
-module _ (f : ℕ) (low : 1 ≤ f) (high : f ≤ 6) (w : Feed) (s : List ℕ) (lent : List ℤ) (some : 1 ≤ countLf s) where
-  abbrev pub by-record : Line → List ℤ
-  by-record = recordOf f w (places f (headerOf (linesOf s)))
-
-  by-width : (x : Line) → length (by-record x) ≡ widthOf f
-  by-width x = record-wide f w (places f (headerOf (linesOf s))) x low (omega arith)
-
-  pub filled-as : filled f w s lent ≡ laid (flat (tabled f by-record s)) lent
-  unfolding filled
-  filled-as = ap (λ (v : List (List ℤ)). laid (flat v) lent) (records-are f w s some)
-
-  -- number j of record r
-  pub cell-at :
-      (r j : ℕ) (d : Line)
-      → 1 ≤ r
-      → r < countLf s
-      → j < widthOf f
-      → getD (filled f w s lent) (r * widthOf f + j) (pos 0)
-      ≡ getD (recordOf f w (places f (headerOf (linesOf s))) (getD (linesOf s) r d)) j (pos 0)
-  cell-at r j d h k l = rw filled-as (cell-of f s lent some by-record by-width r j d h k l)
-
-  pub filled-length : widthOf f * countLf s ≤ length lent → length (filled f w s lent) ≡ length lent
-  filled-length h =
-      rw filled-as
-      (rows-length (widthOf f) (tabled f by-record s) (wide f s by-record by-width) lent
-      (rw (table-length f s by-record by-width some, mul-comm (countLf s) (widthOf f)) h))
-
-  module _ (four : f ≤ 4) where
-    pub ids-held : Held s (filled f w s lent) (widthOf f) (map (under (idColumn f)) (rowsOf f s))
-    ids-held =
-        rw filled-as
-        (ids-laid f s lent some by-record by-width low high (record-id f low four w (places f (headerOf (linesOf s)))))

@@ -1,12 +1,11 @@
 -- What each walk writes for a line: as wide as the record, the place of its id first.
-use mathlib.Core.Path.{_≡_, refl, ap, _∙_}
+use mathlib.Core.Path.{_≡_, refl}
 use mathlib.Core.List.{List, [], _∷_, _++_}
-use Prim.Native.Nat.{ℕ, zero, suc, _+_, _≤_, _<_}
+use Prim.Native.Nat.{ℕ, _+_, _≤_, _<_}
 use native.Mathlib.Omega.{arith}
 use lib.IntN.{ℤ, pos}
 use lib.ListN.{length, getD, take, replicate}
 use lib.Seq.{getD-take, length-take-le}
-use Rattle.meaning.specs.Lists.{flat, laid}
 use Rattle.meaning.specs.Bytes.{Line, countLf, linesOf}
 use Rattle.meaning.specs.Columns.{places, headerOf, rowOf}
 use Rattle.meaning.specs.Tables.{Feed, widthOf, idPlace, idColumn, recordOf, zeroth, recordsOf, filled}
@@ -24,15 +23,6 @@ IdFirst f ps g =
     (x : Line)
     → (getD (g x) 0 (pos 0) ≡ pos (placeOf (getD ps (idColumn f) 0) x .start))
     × (getD (g x) 1 (pos 0) ≡ pos (placeOf (getD ps (idColumn f) 0) x .end))
-
-pub record-id : (f : ℕ) → 1 ≤ f → f ≤ 4 → (w : Feed) (ps : List ℕ) → IdFirst f ps (recordOf f w ps)
-unfolding recordOf idPlace
-record-id zero h k w ps x = absurd (omega arith)
-record-id (suc zero) h k w ps x = (refl, refl)
-record-id (suc (suc zero)) h k w ps x = (refl, refl)
-record-id (suc (suc (suc zero))) h k w ps x = (refl, refl)
-record-id (suc (suc (suc (suc zero)))) h k w ps x = (refl, refl)
-record-id (suc (suc (suc (suc (suc f))))) h k w ps x = absurd (omega arith)
 
 -- what the first walk writes for a line, of any width
 module _ (f : ℕ) (ps : List ℕ) (x : Line) where
