@@ -12,6 +12,7 @@ ghost use Rattle.meaning.specs.Refusals.{maxBytes};
 ghost use Rattle.marks.specs.Marks.{MarkedIf};
 ghost use Rattle.rows.specs.Cells.{putAt};
 ghost use Rattle.ordering.specs.Cells.{KeptAt, RoomAt};
+ghost use Rattle.ordering.specs.Ids.{ArrangedBy};
 ghost use Rattle.ordering.specs.declared.By.the-variants.{IdAndDate};
 ghost use Rattle.repeats.specs.Repeats.{Marking as Repeated};
 ghost use Rattle.values.specs.Located.{Within, Located};
@@ -195,6 +196,7 @@ fn mark_dates(s: &[u8], t: &mut [i32], n: usize, m: &mut [u16])
     requires { ⌜ RoomAt 3 4 n (now t) × (n < 2 ^ 31) ⌝ }
     ensures { λ _. ⌜ KeptAt 3 4 n (now (t .entry)) (now (t .exit)) ⌝ }
     ensures { λ _. ⌜ Repeated IdAndDate (now (s .entry)) (now (t .exit)) 4 n 6 (now (m .entry)) (now (m .exit)) ⌝ }
+    ensures { λ _. ⌜ ArrangedBy IdAndDate (now (s .entry)) 3 4 n (now (t .exit)) ⌝ }
 {
     sorting::arrange(By::IdAndDate, s, t, Dates::WIDTH, 3, n);
     repeats::mark_repeats(By::IdAndDate, s, t, Dates::WIDTH, 3, n, Dates::FILE, m);
@@ -211,6 +213,6 @@ pub fn order_dates(s: &[u8], t: &mut [i32], m: &mut [u16]) -> usize
     }
     let n = place_file(Dates::FILE, s, t, m);
     mark_dates(s, t, n, m);
-    seeking::arrange(s, t, Dates::WIDTH, n);
+    sorting::arrange_from(By::Id, s, t, Dates::WIDTH, seeking::CELL, n, 3);
     n
 }

@@ -16,7 +16,7 @@ use report::{Parts, Row};
 const MOST_LINES: usize = 65_536;
 
 /// A size is skipped where a check would take longer than so many seconds, if its time grew with the square.
-const PATIENCE: f64 = 30.0;
+const PATIENCE: f64 = 60.0;
 
 const USAGE: &str = "usage: bench [--only FEED] [--lines N]";
 

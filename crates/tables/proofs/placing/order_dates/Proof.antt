@@ -27,13 +27,15 @@ mark-dates-requires c κs =
     let p = c .before .before .before .before .before .place-file .ensures in
     order-room 3 6 (omega arith) (s .args .s .now) (s .args .t .now) _ _ room (ap length (p .0) ∙ placed-length 6 (omega arith) (omega arith) _ _ room) (p .1 .1)
 
-arrange-requires : tie.Need-arrange-requires
+arrange-from-requires : tie.Need-arrange-from-requires
 unfolding widthOf widths
-arrange-requires c κs =
+arrange-from-requires c κs =
     let s = c .before .before .before .before .before .before .before .before .before .before .before .before .before .before .before .before in
     let room = fits-room 6 _ _ (s .pre) (omega (arith, c .before .before .before .before .before .before .before .before .before .before .before .before .before .if1 .left)) in
     let p = c .before .before .before .before .before .before .before .before .before .before .place-file .ensures in
-    order-room 2 6 (omega arith) (s .args .s .now) (s .args .t .now) _ _ room (c .before .before .before .before .mark-dates .ensures .0 .size ∙ ap length (p .0) ∙ placed-length 6 (omega arith) (omega arith) _ _ room) (p .1 .1)
+    let d = c .before .before .before .before .mark-dates .ensures in
+    let k = order-room 2 6 (omega arith) (s .args .s .now) (s .args .t .now) _ _ room (d .0 .size ∙ ap length (p .0) ∙ placed-length 6 (omega arith) (omega arith) _ _ room) (p .1 .1) in
+    ((k .0, omega arith, k .1), ((omega arith, λ e. omega arith), (d .1 .1 .whole, d .1 .1 .apart)))
 
 same-length : tie.Need-same-length
 same-length c = search needs
@@ -48,13 +50,13 @@ returns-2 c =
     let room = fits-room 6 _ _ (s .pre) (omega (arith, c .before .before .before .before .before .before .before .before .before .before .before .before .before .before .before .if1 .left)) in
     let p = c .before .before .before .before .before .before .before .before .before .before .before .before .place-file .ensures in
     let d = c .before .before .before .before .before .before .mark-dates .ensures in
-    let a = c .before .arrange .ensures in
+    let a = c .before .arrange-from .ensures in
     let first = walked-is 6 (omega arith) (omega arith) (s .args .s .now) (s .args .t .now) room _ _ (p .1 .1) (p .0) in
     let walked = walked-kept 6 3 _ _ _ _ _ (omega arith) (omega arith) (d .0) (λ h. absurd (omega arith)) first in
     let o = ordered-is 6 _ _ _ _ _ (omega arith) walked (a .0) (a .1) in
     let keys = dates-keyed (s .args .s .now) (s .args .t .now) room _ _ _ (p .1 .1) (p .0) (d .0) in (
       record { supplied = λ h. o; lacking = λ z. absurd (c .before .before .before .before .before .before .before .before .before .before .before .before .before .before .before .if1 .left z) },
-      marking-by _ 6 _ _ _ 4 _ _ _ (p .1 .1) (p .1 .0) (d .1) (repeated-dates _ _ _ _ _ (walked .held) (ordered-count 6 _ _ _ _ o) keys (d .1)),
+      marking-by _ 6 _ _ _ 4 _ _ _ (p .1 .1) (p .1 .0) (d .1 .0) (repeated-dates _ _ _ _ _ (walked .held) (ordered-count 6 _ _ _ _ o) keys (d .1 .0)),
     )
 
 pub order-dates-spec : {M : Type 1} → statement M
@@ -64,7 +66,7 @@ order-dates-spec =
     returns
     place-file-requires
     mark-dates-requires
-    arrange-requires
+    arrange-from-requires
     same-length
     same-length-2
     returns-2)
