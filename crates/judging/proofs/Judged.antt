@@ -14,8 +14,8 @@ use Rattle.meaning.specs.Tables.{Feed, stopIds, refer, parentStation, startDate
 use Rattle.meaning.specs.Rules.{row, dangling, rule21·stops, inNeither, rule21·trips, rule21·times, kindOf, otherKind, rule22, rule23, rule24, given, secondsOf, timed, untimed, arrives, departs, rule26, rule27, ofTripLine, firstOfTrip, rule30, openEnded, rule31, stopRules, routeRules, serviceRules, tripRules, timeRules, dateRules}
 use Rattle.meaning.proofs.References.{dangling-refer}
 use Rattle.judging.specs.Judging.{loose, offKind, bothGiven, halfTimed, sooner, stopJudged, routeJudged, serviceJudged, tripJudged, timeJudged, dateJudged, testsFrom}
-use Rattle.judging.proofs.Stored.{kind-number, one-number, day-number}
-use Rattle.rows.proofs.Stored.{given-stored, seconds-stored}
+use Rattle.judging.proofs.Stored.{kind-number, one-number}
+use Rattle.rows.proofs.Stored.{day-stored, given-stored, seconds-stored}
 use Rattle.judging.proofs.Seen.{Refers, KindAt, IsTime, StopSeen, RouteSeen, ServiceSeen, TripSeen, TimeSeen, DateSeen}
 
 -- ---- one rule
@@ -112,7 +112,7 @@ module _ {w : Feed} {i : ℕ} where
   unfolding serviceRules testsFrom serviceJudged rule24
   service-judged {repeats} {start} {end} s =
       let r = row (w .calendar) i in
-      rw (← s .again, s .starts, s .ends, day-number (dateOf (startDate r)), day-number (dateOf (endDate r)))
+      rw (← s .again, s .starts, s .ends, day-stored (dateOf (startDate r)), day-stored (dateOf (endDate r)))
 
   pub trip-judged :
       {repeats : Bool} {route service dated : ℕ} {paired openEnd : Bool}

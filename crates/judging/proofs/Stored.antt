@@ -8,15 +8,13 @@ use lib.Dec.{eqb}
 use lib.IntN.{ℤ}
 use borrow.Author.Tests.{eqb-true}
 use Rattle.num.specs.Signs.{natOf}
-use Rattle.meaning.specs.declared.Date.{Date}
-use Rattle.meaning.specs.declared.Date.the-variants.{Day, NoDate}
 use Rattle.meaning.specs.declared.Choice.{Choice}
 use Rattle.meaning.specs.declared.Choice.the-variants.{Picked, NoChoice}
 use Rattle.meaning.specs.Lists.{empty}
 use Rattle.meaning.specs.Columns.{Row}
 use Rattle.meaning.specs.Forms.{noMark, formed, digitText, choiceOf}
-use Rattle.meaning.specs.Tables.{locationType, day, picked, choiceOr, orZero, orMinus, oneIf}
-use Rattle.meaning.specs.Rules.{kindOf, dayOf, isOne}
+use Rattle.meaning.specs.Tables.{locationType, picked, choiceOr, orZero, orMinus, oneIf}
+use Rattle.meaning.specs.Rules.{kindOf, isOne}
 
 -- ---- choices
 
@@ -64,9 +62,3 @@ one-number m v = stored _ m v (λ z. eqb (natOf z) 1) isOne go refl
     go : (c : Choice) → eqb (natOf (picked c)) 1 ≡ isOne c
     go (Picked n) = refl
     go NoChoice = refl
-
--- ---- days
-
-pub day-number : (d : Date) → natOf (day d) ≡ dayOf d
-day-number (Day n) = refl
-day-number NoDate = refl

@@ -42,7 +42,7 @@ module _ {A B : Type 0} (w : ℕ) (g : B → List A) (wide : (b : B) → length 
       let z : suc k * w + j ≡ length (g b) + (k * w + j) = omega (arith, wide b) in
       rw (z, append-assoc, getD-append-add) (flat-at bs rest k j d e (omega arith) l)
 
-flat-append : {A : Type 0} (xs ys : List (List A)) → flat (xs ++ ys) ≡ flat xs ++ flat ys
+pub flat-append : {A : Type 0} (xs ys : List (List A)) → flat (xs ++ ys) ≡ flat xs ++ flat ys
 unfolding flat
 flat-append [] ys = refl
 flat-append (x ∷ xs) ys = rw (flat-append xs ys, append-assoc)

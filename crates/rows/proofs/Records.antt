@@ -1,5 +1,5 @@
 -- Records laid one after the other into a table: one more written, the length, a number read back.
-use mathlib.Core.Path.{_≡_, refl, sym, ap, _∙_}
+use mathlib.Core.Path.{_≡_, _∙_}
 use mathlib.Core.List.{List, [], _∷_, _++_, append-assoc, append-nil, map}
 use Prim.Native.Nat.{ℕ, zero, suc, _+_, _*_, _≤_, _<_}
 use native.Mathlib.Numerals.{add-one}
@@ -8,7 +8,7 @@ use lib.IntN.{ℤ}
 use lib.ListN.{length, take, drop, getD, length-append, List·getD-append}
 use lib.Seq.{take-suc, take-at, drop-append-add, drop-drop, getD-append-add, length-take-le}
 use Rattle.meaning.specs.Lists.{flat, laid}
-pub use Rattle.meaning.proofs.Records.{record-wide, laid-length}
+pub use Rattle.meaning.proofs.Records.{flat-append, laid-length, record-wide}
 use Rattle.rows.specs.Cells.{putAt}
 
 -- every record has width w
@@ -28,11 +28,6 @@ module _ {A : Type 0} where
       → Wide w (map f xs)
   wide-map w f [] h = tt
   wide-map w f (x ∷ xs) h = (h x, wide-map w f xs h)
-
-  pub flat-append : (rs qs : List (List A)) → flat (rs ++ qs) ≡ flat rs ++ flat qs
-  unfolding flat
-  flat-append [] qs = refl
-  flat-append (r ∷ rs) qs = ap (λ (l : List A). r ++ l) (flat-append rs qs) ∙ sym (append-assoc r (flat rs) (flat qs))
 
   pub flat-length : (w : ℕ) (rs : List (List A)) → Wide w rs → length (flat rs) ≡ length rs * w
   unfolding flat

@@ -1,5 +1,5 @@
 -- After the first walk and the sort a table holds its file's ids in their order, the places of fields that wait, and the dates of file 6.
-use mathlib.Core.Path.{_≡_, refl, sym, ap, _∙_}
+use mathlib.Core.Path.{_≡_, sym, ap, _∙_}
 use mathlib.Core.List.{List, []}
 use Prim.Native.Nat.{ℕ, _+_, _*_, _-_, _^_, _≤_, _<_}
 use native.Mathlib.Omega.{arith}
@@ -7,18 +7,17 @@ use native.Mathlib.Nat.{add-zero, mul-comm}
 use lib.IntN.{ℤ, pos}
 use lib.ListN.{length, getD}
 use Rattle.num.specs.Signs.{natOf}
-use Rattle.meaning.specs.declared.Date.{Date}
-use Rattle.meaning.specs.declared.Date.the-variants.{Day, NoDate}
 use Rattle.meaning.specs.Lists.{flat, laid}
 use Rattle.meaning.specs.Bytes.{Line, part, value, countLf, linesOf, startOf}
 use Rattle.meaning.specs.Columns.{places, headerOf, rowOf, rowsOf}
 use Rattle.meaning.specs.Forms.{dateOf}
-use Rattle.meaning.specs.Tables.{under, day, exceptionDate, widths, widthOf}
-use Rattle.meaning.specs.Rules.{row, dayOf, exceptionDay}
+use Rattle.meaning.specs.Tables.{under, exceptionDate, widths, widthOf}
+use Rattle.meaning.specs.Rules.{row, exceptionDay}
 use Rattle.text.proofs.Lines.{lines-all}
 use Rattle.columns.proofs.Laws.{row-at}
 use Rattle.rows.specs.Cells.{boundsAt}
 use Rattle.rows.proofs.Records.{flat-length}
+use Rattle.rows.proofs.Stored.{day-stored}
 use Rattle.ordering.specs.Cells.{Kept, KeptAt, RoomAt}
 use Rattle.ordering.specs.Ids.{keyOf, Arranged}
 use Rattle.ordering.proofs.Laws.{keys-kept}
@@ -152,10 +151,6 @@ module _ (f : ℕ) (low : 1 ≤ f) (high : f ≤ 6) (s : List ℕ) (t : List ℤ
     }
 
 -- ---- the dates of file 6
-
-day-stored : (d : Date) → natOf (day d) ≡ dayOf d
-day-stored (Day n) = refl
-day-stored NoDate = refl
 
 -- they stand behind the services, also when the records are in their order
 pub dates-keyed :

@@ -1,9 +1,9 @@
 -- What fields that wait name is settled one by one: the last number of a record is none of those that its id's place and the order use.
-use mathlib.Core.Path.{_≡_, sym, ap, _∙_, fun-ext}
+use mathlib.Core.Path.{_≡_, ap, _∙_, fun-ext}
 use mathlib.Core.List.{List}
-use Prim.Native.Nat.{ℕ, _+_, _*_, _-_, _/_, _≤_, _<_}
+use Prim.Native.Nat.{ℕ, _+_, _*_, _-_, _≤_, _<_}
 use native.Mathlib.Omega.{arith}
-use native.Mathlib.Nat.{add-zero, mul-div-cancel}
+use native.Mathlib.Nat.{add-zero}
 use lib.IntN.{ℤ, pos}
 use lib.ListN.{length, getD, set}
 use lib.Seq.{getD-set-same, getD-set-other}
@@ -13,7 +13,7 @@ use Rattle.meaning.specs.Tables.{refer}
 use Rattle.rows.specs.Cells.{boundsAt}
 use Rattle.ordering.specs.Cells.{KeptAt}
 use Rattle.ordering.specs.Ids.{idOf, Placed}
-use Rattle.ordering.proofs.Laws.{Alike, yes, no, alike, put-kept, kept-trans}
+use Rattle.ordering.proofs.Laws.{Alike, yes, no, alike, apart, put-kept, kept-trans}
 use Rattle.seeking.specs.First.{idIs}
 use Rattle.seeking.proofs.First.{held-as}
 use Rattle.seeking.proofs.Laws.{arranged-as}
@@ -95,18 +95,13 @@ module _ (w n r : ℕ) (wide : 5 < w) (above : 0 < r) (below : r ≤ n) (u u′ 
         let b = rw e at (kept .same r 4 (omega arith) (λ z g h. omega arith)) in
         rw (a, b)
 
-    apart : (k : ℕ) → k * w + (w - 1) ≡ r * w + (w - 1) → k ≡ r
-    apart k e =
-        let m : k * w ≡ r * w = omega arith in
-        sym (mul-div-cancel k (omega arith)) ∙ ap (λ (x : ℕ). x / w) m ∙ mul-div-cancel r (omega arith)
-
     pub settle-turn : Named w s r ids t u → q ≡ refer (value (part s (boundsAt u (r * w + 3)))) ids → Named w s (r + 1) ids t u′
     unfolding Named
     settle-turn p e k a b = go (alike k r)
       where
         go : Alike k r → getD u′ (k * w + (w - 1)) (pos 0) ≡ pos (refer (value (part s (boundsAt t (k * w + 3)))) ids)
         go (yes z) = rw (z, set-is) (getD-set-same u (r * w + (w - 1)) (pos q) (pos 0) (omega arith) ∙ ap pos (rw waiting-as at e))
-        go (no z) = rw set-is (getD-set-other u (r * w + (w - 1)) (k * w + (w - 1)) (pos q) (pos 0) (λ g. z (apart k g))) ∙ p k a (omega (arith, z))
+        go (no z) = rw set-is (getD-set-other u (r * w + (w - 1)) (k * w + (w - 1)) (pos q) (pos 0) (λ g. z (apart r k w (omega arith) g))) ∙ p k a (omega (arith, z))
 
 -- all are settled
 pub named-end : (w : ℕ) (s : List ℕ) (n r : ℕ) (ids : List (List ℕ)) (t u : List ℤ) → n < r → r ≤ n + 1 → Named w s r ids t u → Named w s (n + 1) ids t u

@@ -26,7 +26,7 @@ fn trip(draft: &mut Draft, service: &str, id: &str, calls: usize) {
 }
 
 /// Each service on the dates of a year, one service after the other, with five trips of ten lines; no calendar.
-pub fn dates_only(lines: usize) -> Files {
+fn yearly(lines: usize) -> Draft {
     let mut draft = beginning();
     draft.0[2].clear();
     for number in 0..lines - 1 {
@@ -36,6 +36,17 @@ pub fn dates_only(lines: usize) -> Files {
             (0..5).for_each(|place| trip(&mut draft, &service, &format!("{service}-{place}"), 10));
         }
     }
+    draft
+}
+
+pub fn dates_only(lines: usize) -> Files {
+    yearly(lines).0
+}
+
+/// Neither services nor dates stand in order: both orders of the file are made by sorting.
+pub fn dates_muddle(lines: usize) -> Files {
+    let mut draft = yearly(lines);
+    draft.shuffle(6, &mut Random::new(0));
     draft.0
 }
 

@@ -29,7 +29,7 @@ const fn family(name: &'static str, kind: Kind, feed: fn(usize) -> Files, about:
 }
 
 /// All families, in the benchmark's order.
-pub const FAMILIES: [Family; 32] = [
+pub const FAMILIES: [Family; 33] = [
     family("plain", Kind::Plain, plain, "trips one after the other, ten lines a trip"),
     family("long-ids", Kind::Hard, long_ids, "trip ids of 64 bytes, two lines a trip"),
     family("last-parent", Kind::Hard, last_parent, "all stops have the same parent, on the last line of stops"),
@@ -62,6 +62,7 @@ pub const FAMILIES: [Family; 32] = [
         dated::dates_only,
         "no calendar.txt; in calendar_dates each service has a year of dates",
     ),
+    family("dates-muddle", Kind::Hard, dated::dates_muddle, "as dates-only, but its dates are shuffled"),
     family("dates-rise", Kind::Hard, dated::dates_rise, "one service on every line of calendar_dates, dates rise"),
     family("dates-mixed", Kind::Hard, dated::dates_mixed, "as dates-rise, but shuffled"),
     family("dates-twice", Kind::Hard, dated::dates_twice, "as dates-rise, but half the dates, and these again"),
