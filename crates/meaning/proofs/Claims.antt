@@ -1,22 +1,24 @@
--- Demand 1: the claims are all that rules 1 to 13 say of the files, and stand in the order in which they speak.
+-- Demand 1: the claims are all that rules 1 to 14 say of the files, and stand in the order in which they speak.
 use Prim.Native.Nat.{ℕ, zero, suc, _+_, _-_, _≤_, _<_, min}
 use native.Mathlib.Omega.{arith}
 use mathlib.Core.Path.{_≡_, refl, ap}
 use mathlib.Core.Logic.{_↔_, _⊎_, inl, inr, ⊎-elim}
-use mathlib.Core.Bool.{Bool, true, false, cond}
+use mathlib.Core.Bool.{Bool, true, false, cond, _&&_}
 use mathlib.Core.List.{List, [], _∷_, _++_, List·Memᴰ, List·Memᴰ·head, List·Memᴰ·tail, List·Memᴰ·not-nil, List·Memᴰ·cases-cons, List·Memᴰ·append-cases, List·Memᴰ·eq-of-singleton, Memᴰ·cast, Memᴰ·append-left, Memᴰ·append-right}
 use lib.ListN.{length, getD}
-use lib.Dec.{ltb, eqb}
-use borrow.Author.Tests.{lt-ltb, le-ltb, ne-eqb}
+use lib.Dec.{T, ltb, leb, eqb}
+use borrow.Author.Tests.{lt-ltb, le-ltb, leb-true, eqb-true, ne-eqb}
 use Rattle.meaning.specs.declared.Refusal.{Refusal}
 use Rattle.meaning.specs.declared.Verdict.the-variants.{Unreadable}
 use Rattle.meaning.specs.Bytes.{Line, linesOf, fields}
 use Rattle.meaning.specs.Columns.{places, headerOf}
 use Rattle.meaning.specs.Tables.{fileOf}
 use Rattle.meaning.specs.Refusals.{Test, test, Claim, claim, rule1, rule2, rule3, rule4, textTests, headTests, rowTests, lineTests, onLines, inFile, inFiles, overFiles, claims, refusal, verdictOf}
-use Rattle.meaning.specs.Promises.{Ordered, Each, fileTests, fieldCount, testsOn, noLine, testOf, FileClaim, LineClaim, speaksBefore, noClaim, FirstBroken, Sayable}
+use Rattle.meaning.specs.Promises.{Ordered, Each, fileTests, fieldCount, testsOn, noLine, testOf, FileClaim, LineClaim, lineOrder, placeFrom, turn, speaksBefore, noClaim, FirstBroken, Sayable}
+use Rattle.meaning.proofs.Computed.{all, and-left, and-right, is-true}
+use Rattle.meaning.proofs.ListLaws.{and-both}
 use Rattle.meaning.proofs.Laws.{sooner-less, sooner-same, each-append, getD-mem, ordered-append, ordered-by, along, Along, along-in, along-of, along-ordered}
-use Rattle.meaning.proofs.Lines.{rising, Within, rising-within, rank, rank-file, linewise, Linewise, linewise-exactly, linewise-ordered}
+use Rattle.meaning.proofs.Lines.{rising, Within, rising-within, rank, rank-file, byNumber, linewise, Linewise, linewise-exactly, linewise-ordered}
 use Rattle.meaning.proofs.FirstBroken.{first-broken}
 
 -- two lists side by side, as far as both go
@@ -122,20 +124,20 @@ module _ (files : List (List ℕ)) where
           let u : Linewise noLine (p .file) (testsOn (p .file) ls) 1 ls p = record { file = refl; from = t .first; to = omega arith; rule = t .rule } in
           along-of [] inText 1 files p (record { number = p .file; from = t .from; to = omega arith; here = rw (file-along (p .file) ls) (linewise-exactly noLine (p .file) (testsOn (p .file) ls) 1 ls p .1 u) })
 
-file-rising : (files : List (List ℕ)) (f : ℕ) (s : List ℕ) (room : ℕ) → rising 0 5 (fileTests files f s room) ≡ true
+file-rising : (files : List (List ℕ)) (f : ℕ) (s : List ℕ) (room : ℕ) → rising byNumber 0 5 (fileTests files f s room) ≡ true
 unfolding rising fileTests
 file-rising files f s room = refl
 
-tests-rising : (f : ℕ) (ls : List Line) (n : ℕ) (l : Line) → rising 4 14 (testsOn f ls n l) ≡ true
-unfolding rising testsOn headTests lineTests textTests rowTests
+tests-rising : (f : ℕ) (ls : List Line) (n : ℕ) (l : Line) → rising turn 0 11 (testsOn f ls n l) ≡ true
+unfolding rising turn placeFrom lineOrder testsOn headTests lineTests textTests rowTests
 tests-rising f ls n l = go (eqb n 1)
   where
-    go : (first : Bool) → rising 4 14 (cond first (headTests f (l .text)) (lineTests f (places f (headerOf ls)) (fieldCount ls) (l .text))) ≡ true
+    go : (first : Bool) → rising turn 0 11 (cond first (headTests f (l .text)) (lineTests f (places f (headerOf ls)) (fieldCount ls) (l .text))) ≡ true
     go true = refl
     go false = refl
 
 module _ (p q : Claim) where
-  lines-speak : 5 ≤ p .number → 5 ≤ q .number → rank p q ≡ true → speaksBefore p q ≡ true
+  lines-speak : 5 ≤ p .number → 5 ≤ q .number → rank turn p q ≡ true → speaksBefore p q ≡ true
   unfolding speaksBefore rank
   lines-speak h k e = rw (le-ltb (p .number) 5 h, le-ltb (q .number) 5 k) e
 
@@ -158,36 +160,53 @@ pub record Queue (n : ℕ) (l : List Claim) : Type 0 where
   pub ordered : Ordered speaksBefore l
   pub numbers : Each (λ p. n ≤ p .number) l
 
-pub file-number : (files : List (List ℕ)) (rooms : List ℕ) (p : Claim) → FileClaim files rooms p → Within 0 5 (testOf p)
+pub file-number : (files : List (List ℕ)) (rooms : List ℕ) (p : Claim) → FileClaim files rooms p → Within byNumber 0 5 (testOf p)
 file-number files rooms p t =
     let s = fileOf files (p .file) in
     let room = getD rooms (p .file - 1) 0 in
-    rising-within 0 5 (fileTests files (p .file) s room) (file-rising files (p .file) s room) (testOf p) (t .rule)
+    rising-within byNumber 0 5 (fileTests files (p .file) s room) (file-rising files (p .file) s room) (testOf p) (t .rule)
 
-pub line-number : (files : List (List ℕ)) (p : Claim) → LineClaim files p → Within 4 14 (testOf p)
+-- a number that has a turn is one of those counted
+placed : (P : ℕ → Bool) (k : ℕ) (l : List ℕ) (n : ℕ) → T (all P l) → 0 < placeFrom k l n → P n ≡ true
+unfolding placeFrom
+placed P k [] n t h = absurd (omega arith)
+placed P k (m ∷ r) n t h = go (eqb m n) refl (placed P (k + 1) r n (and-right (P m) (all P r) t))
+  where
+    go : (y : Bool) → eqb m n ≡ y → (0 < placeFrom (k + 1) r n → P n ≡ true) → P n ≡ true
+    go true e rest = rw (← eqb-true m n e) (is-true (P m) (and-left (P m) (all P r) t))
+    go false e rest = rest (rw e at h)
+
+-- the rules of a line are 5 to 14
+turn-number : (n : ℕ) → 0 < turn n → (5 ≤ n) × (n ≤ 14)
+unfolding turn lineOrder
+turn-number n h =
+    let e = and-both (leb 5 n) (leb n 14) (placed (λ m. leb 5 m && leb m 14) 1 lineOrder n tt h) in
+    (leb-true 5 n (e .0), leb-true n 14 (e .1))
+
+pub line-number : (files : List (List ℕ)) (p : Claim) → LineClaim files p → (5 ≤ p .number) × (p .number ≤ 14)
 line-number files p t =
     let ls = linesOf (fileOf files (p .file)) in
     let l = getD ls (p .line - 1) noLine in
-    rising-within 4 14 (testsOn (p .file) ls (p .line) l) (tests-rising (p .file) ls (p .line) l) (testOf p) (t .rule)
+    turn-number (p .number) (rising-within turn 0 11 (testsOn (p .file) ls (p .line) l) (tests-rising (p .file) ls (p .line) l) (testOf p) (t .rule) .0)
 
-file-ordered : (f : ℕ) (ls : List Line) → Ordered rank (inFile f ls)
-file-ordered f ls = rw (file-along f ls) (linewise-ordered noLine f (testsOn f ls) 1 ls 4 14 (tests-rising f ls))
+file-ordered : (f : ℕ) (ls : List Line) → Ordered (rank turn) (inFile f ls)
+file-ordered f ls = rw (file-along f ls) (linewise-ordered noLine f (testsOn f ls) 1 ls turn 0 11 (tests-rising f ls))
 
 file-of : (f : ℕ) (ls : List Line) (p : Claim) → List·Memᴰ p (inFile f ls) → p .file ≡ f
 file-of f ls p m = linewise-exactly noLine f (testsOn f ls) 1 ls p .0 (rw (file-along f ls) at m) .file
 
 module _ (files : List (List ℕ)) (rooms : List ℕ) where
-  lines-ordered : Ordered rank (inFiles 1 files)
-  lines-ordered = rw (files-along 1 files) (along-ordered [] (λ k s. inFile k (linesOf s)) rank (λ k s. file-ordered k (linesOf s)) apart 1 files)
+  lines-ordered : Ordered (rank turn) (inFiles 1 files)
+  lines-ordered = rw (files-along 1 files) (along-ordered [] (λ k s. inFile k (linesOf s)) (rank turn) (λ k s. file-ordered k (linesOf s)) apart 1 files)
     where
-      apart : (j k : ℕ) (b c : List ℕ) (x y : Claim) → j < k → List·Memᴰ x (inFile j (linesOf b)) → List·Memᴰ y (inFile k (linesOf c)) → rank x y ≡ true
+      apart : (j k : ℕ) (b c : List ℕ) (x y : Claim) → j < k → List·Memᴰ x (inFile j (linesOf b)) → List·Memᴰ y (inFile k (linesOf c)) → rank turn x y ≡ true
       apart j k b c x y h m t =
           let u = file-of j (linesOf b) x m in
           let v = file-of k (linesOf c) y t in
-          rank-file x y (omega arith)
+          rank-file turn x y (omega arith)
 
   lines-queue : Queue 5 (inFiles 1 files)
-  lines-queue = record { ordered = ordered-by rank speaksBefore (inFiles 1 files) (λ x y m t. lines-speak x y (numbers x m) (numbers y t)) lines-ordered; numbers = numbers }
+  lines-queue = record { ordered = ordered-by (rank turn) speaksBefore (inFiles 1 files) (λ x y m t. lines-speak x y (numbers x m) (numbers y t)) lines-ordered; numbers = numbers }
     where
       numbers : Each (λ p. 5 ≤ p .number) (inFiles 1 files)
       numbers p m = line-number files p (line-exactly files p .0 m) .0
@@ -213,7 +232,7 @@ module _ (files : List (List ℕ)) (rooms : List ℕ) where
           let k = rest .numbers y t in
           rules-speak x y (omega arith) (omega arith)
 
-  -- The claims stand in the order in which they speak: rules 1 to 4 rule by rule over the files; then file, line, number.
+  -- The claims stand in the order in which they speak: rules 1 to 4 rule by rule over the files; then file, line, turn.
   pub claims-ordered : Ordered speaksBefore (claims files rooms)
   unfolding claims
   claims-ordered =
@@ -255,7 +274,7 @@ module _ (files : List (List ℕ)) (rooms : List ℕ) (p : Claim) where
             broken = ap (λ (q : Test). q .broken) e;
           }))
 
-  -- The claims are exactly those of rules 1 to 4 on each file, and those of rules 5 to 13 on each line of each file.
+  -- The claims are exactly those of rules 1 to 4 on each file, and those of rules 5 to 14 on each line of each file.
   pub claims-exactly : List·Memᴰ p (claims files rooms) ↔ (FileClaim files rooms p ⊎ LineClaim files p)
   unfolding claims fileTests
   claims-exactly = (there, ⊎-elim (λ t. whole t (t .rule)) (λ t. lines (line-exactly files p .1 t)))
@@ -287,11 +306,11 @@ module _ (files : List (List ℕ)) (rooms : List ℕ) (p : Claim) where
   pub claim-of-file : p .line ≡ 0 → List·Memᴰ p (claims files rooms) ↔ FileClaim files rooms p
   claim-of-file e = (λ m. ⊎-elim (λ t. t) (λ t. absurd (omega arith)) (claims-exactly .0 m), λ t. claims-exactly .1 (inl t))
 
-  -- Of a line the tests of rules 5 to 13 are claimed, and nothing else.
+  -- Of a line the tests of rules 5 to 14 are claimed, and nothing else.
   pub claim-of-line : 1 ≤ p .line → List·Memᴰ p (claims files rooms) ↔ LineClaim files p
   claim-of-line h = (λ m. ⊎-elim (λ t. absurd (omega arith)) (λ t. t) (claims-exactly .0 m), λ t. claims-exactly .1 (inr t))
 
--- A refusal's number is 1 to 13, its file one of the files, its line one of that file's, or 0 exactly for rules 1 to 4.
+-- A refusal's number is 1 to 14, its file one of the files, its line one of that file's, or 0 exactly for rules 1 to 4.
 pub refusal-numbers : (files : List (List ℕ)) (rooms : List ℕ) (r : Refusal) → verdictOf files rooms ≡ Unreadable r → Sayable files r
 refusal-numbers files rooms r e = go (first-broken files rooms r .0 e)
   where

@@ -1,4 +1,5 @@
 -- Theorems about the definitions, a file for each promise.
+pub mod Computed
 pub mod ListLaws
 pub mod Tests
 pub mod Laws
@@ -15,4 +16,6 @@ pub mod Held
 pub mod Calls
 pub mod Demands
 pub mod ByDate
+pub mod Characters
+pub mod BadUtf8
 pub mod Starred

@@ -1,4 +1,4 @@
--- Laws about claims on lines: what stands among them, and that they rise by file, line, number.
+-- Laws about claims on lines: what stands among them, and that they rise by file, line and the turn of their rule.
 use Prim.Native.Nat.{ℕ, _+_, _-_, _≤_, _<_}
 use native.Mathlib.Omega.{arith}
 use mathlib.Core.Path.{_≡_, refl, sym, ap}
@@ -40,58 +40,72 @@ module _ (f n : ℕ) where
       (λ (m : List·Memᴰ (testOf p) r). List·Memᴰ·tail (line-of r p (record { file = k .file; line = k .line; rule = m })))
       (List·Memᴰ·cases-cons (k .rule))
 
--- numbers of tests that rise strictly, above a and below z
-unfoldable pub rising : ℕ → ℕ → List Test → Bool
-rising a z [] = true
-rising a z (t ∷ r) = ltb a (t .number) && (ltb (t .number) z && rising (t .number) z r)
+-- tests have turns by their numbers: binding rules the number itself, the rules of a line an order of their own
+module _ (turn : ℕ → ℕ) where
+  -- turns of tests that rise strictly, above a and below z
+  unfoldable pub rising : ℕ → ℕ → List Test → Bool
+  rising a z [] = true
+  rising a z (t ∷ r) = ltb a (turn (t .number)) && (ltb (turn (t .number)) z && rising (turn (t .number)) z r)
 
--- a test whose number lies above a and below z
-abbrev pub Within : ℕ → ℕ → Test → Type 0
-Within a z t = (a < t .number) × (t .number < z)
+  -- a test whose turn lies above a and below z
+  abbrev pub Within : ℕ → ℕ → Test → Type 0
+  Within a z t = (a < turn (t .number)) × (turn (t .number) < z)
 
-pub rising-within : (a z : ℕ) (ts : List Test) → rising a z ts ≡ true → Each (Within a z) ts
-unfolding rising
-rising-within a z [] h = λ t m. absurd (List·Memᴰ·not-nil m)
-rising-within a z (t ∷ r) h =
-    let p = and-both (ltb a (t .number)) (ltb (t .number) z && rising (t .number) z r) h in
-    let q = and-both (ltb (t .number) z) (rising (t .number) z r) (p .1) in
-    let low : a < t .number = ltb-true a (t .number) (p .0) in
-    let high : t .number < z = ltb-true (t .number) z (q .0) in
-    each-cons (Within a z) t r (low, high) (λ u m. let k = rising-within (t .number) z r (q .1) u m in (omega arith, k .1))
+  pub rising-within : (a z : ℕ) (ts : List Test) → rising a z ts ≡ true → Each (Within a z) ts
+  unfolding rising
+  rising-within a z [] h = λ t m. absurd (List·Memᴰ·not-nil m)
+  rising-within a z (t ∷ r) h =
+      let k = turn (t .number) in
+      let p = and-both (ltb a k) (ltb k z && rising k z r) h in
+      let q = and-both (ltb k z) (rising k z r) (p .1) in
+      let low : a < k = ltb-true a k (p .0) in
+      let high : k < z = ltb-true k z (q .0) in
+      each-cons (Within a z) t r (low, high) (λ u m. let j = rising-within k z r (q .1) u m in (omega arith, j .1))
 
--- claims in the order of file, line, number
-unfoldable pub rank : Claim → Claim → Bool
-rank p q = sooner3 (p .file) (p .line) (p .number) (q .file) (q .line) (q .number)
+  -- claims in the order of file, line, turn
+  unfoldable pub rank : Claim → Claim → Bool
+  rank p q = sooner3 (p .file) (p .line) (turn (p .number)) (q .file) (q .line) (turn (q .number))
 
-module _ (p q : Claim) where
-  pub rank-file : p .file < q .file → rank p q ≡ true
-  unfolding rank
-  rank-file h = sooner-less (p .file) (q .file) (sooner2 (p .line) (p .number) (q .line) (q .number)) h
+  module _ (p q : Claim) where
+    pub rank-file : p .file < q .file → rank p q ≡ true
+    unfolding rank
+    rank-file h = sooner-less (p .file) (q .file) (sooner2 (p .line) (turn (p .number)) (q .line) (turn (q .number))) h
 
-  pub rank-line : p .file ≡ q .file → p .line < q .line → rank p q ≡ true
-  unfolding rank
-  rank-line e h = sooner-same (p .file) (q .file) (sooner2 (p .line) (p .number) (q .line) (q .number)) e (sooner-less (p .line) (q .line) (ltb (p .number) (q .number)) h)
+    pub rank-line : p .file ≡ q .file → p .line < q .line → rank p q ≡ true
+    unfolding rank
+    rank-line e h =
+        sooner-same
+        (p .file)
+        (q .file)
+        (sooner2 (p .line) (turn (p .number)) (q .line) (turn (q .number)))
+        e
+        (sooner-less (p .line) (q .line) (ltb (turn (p .number)) (turn (q .number))) h)
 
-  pub rank-number : p .file ≡ q .file → p .line ≡ q .line → p .number < q .number → rank p q ≡ true
-  unfolding rank
-  rank-number e d h =
-      sooner-same
-      (p .file)
-      (q .file)
-      (sooner2 (p .line) (p .number) (q .line) (q .number))
-      e
-      (sooner-same (p .line) (q .line) (ltb (p .number) (q .number)) d (lt-ltb (p .number) (q .number) h))
+    pub rank-turn : p .file ≡ q .file → p .line ≡ q .line → turn (p .number) < turn (q .number) → rank p q ≡ true
+    unfolding rank
+    rank-turn e d h =
+        sooner-same
+        (p .file)
+        (q .file)
+        (sooner2 (p .line) (turn (p .number)) (q .line) (turn (q .number)))
+        e
+        (sooner-same (p .line) (q .line) (ltb (turn (p .number)) (turn (q .number))) d (lt-ltb (turn (p .number)) (turn (q .number)) h))
 
-pub line-ordered : (f n a z : ℕ) (ts : List Test) → rising a z ts ≡ true → Ordered rank (onLine f n ts)
-unfolding onLine rising
-line-ordered f n a z [] h = tt
-line-ordered f n a z (t ∷ r) h =
-    let p = and-both (ltb a (t .number)) (ltb (t .number) z && rising (t .number) z r) h in
-    let q = and-both (ltb (t .number) z) (rising (t .number) z r) (p .1) in
-    (λ y m. first y (line-in f n r y m) (q .1), line-ordered f n (t .number) z r (q .1))
-  where
-    first : (y : Claim) → OnLine f n r y → rising (t .number) z r ≡ true → rank (claim (t .number) f n (t .broken)) y ≡ true
-    first y k up = rank-number (claim (t .number) f n (t .broken)) y (sym (k .file)) (sym (k .line)) (rising-within (t .number) z r up (testOf y) (k .rule) .0)
+  pub line-ordered : (f n a z : ℕ) (ts : List Test) → rising a z ts ≡ true → Ordered rank (onLine f n ts)
+  unfolding onLine rising
+  line-ordered f n a z [] h = tt
+  line-ordered f n a z (t ∷ r) h =
+      let k = turn (t .number) in
+      let p = and-both (ltb a k) (ltb k z && rising k z r) h in
+      let q = and-both (ltb k z) (rising k z r) (p .1) in
+      (λ y m. first y (line-in f n r y m) (q .1), line-ordered f n k z r (q .1))
+    where
+      first : (y : Claim) → OnLine f n r y → rising (turn (t .number)) z r ≡ true → rank (claim (t .number) f n (t .broken)) y ≡ true
+      first y k up = rank-turn (claim (t .number) f n (t .broken)) y (sym (k .file)) (sym (k .line)) (rising-within (turn (t .number)) z r up (testOf y) (k .rule) .0)
+
+-- a rule's turn where the lowest number speaks
+abbrev pub byNumber : ℕ → ℕ
+byNumber n = n
 
 -- the claims of lines n, n + 1, .. of file f, by the tests of each
 abbrev pub linewise : {B : Type 0} → ℕ → (ℕ → B → List Test) → ℕ → List B → List Claim
@@ -118,11 +132,11 @@ module _ {B : Type 0} (d : B) (f : ℕ) (tests : ℕ → B → List Test) (n : �
           let u = line-of f (p .line) (tests (p .line) (getD bs (p .line - n) d)) p (record { file = t .file; line = refl; rule = t .rule }) in
           along-of d (λ k b. onLine f k (tests k b)) n bs p (record { number = p .line; from = t .from; to = t .to; here = u })
 
-  pub linewise-ordered : (a z : ℕ) → ((k : ℕ) (b : B) → rising a z (tests k b) ≡ true) → Ordered rank (linewise f tests n bs)
-  linewise-ordered a z up = along-ordered d (λ k b. onLine f k (tests k b)) rank (λ k b. line-ordered f k a z (tests k b) (up k b)) apart n bs
+  pub linewise-ordered : (turn : ℕ → ℕ) (a z : ℕ) → ((k : ℕ) (b : B) → rising turn a z (tests k b) ≡ true) → Ordered (rank turn) (linewise f tests n bs)
+  linewise-ordered turn a z up = along-ordered d (λ k b. onLine f k (tests k b)) (rank turn) (λ k b. line-ordered turn f k a z (tests k b) (up k b)) apart n bs
     where
-      apart : (j k : ℕ) (b c : B) (x y : Claim) → j < k → List·Memᴰ x (onLine f j (tests j b)) → List·Memᴰ y (onLine f k (tests k c)) → rank x y ≡ true
+      apart : (j k : ℕ) (b c : B) (x y : Claim) → j < k → List·Memᴰ x (onLine f j (tests j b)) → List·Memᴰ y (onLine f k (tests k c)) → rank turn x y ≡ true
       apart j k b c x y h m t =
           let u = line-in f j (tests j b) x m in
           let v = line-in f k (tests k c) y t in
-          rank-line x y (cc) (omega arith)
+          rank-line turn x y (cc) (omega arith)

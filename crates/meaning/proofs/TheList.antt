@@ -25,7 +25,7 @@ use Rattle.meaning.specs.Promises.{Ordered, Each, saysAccepted, saysFind
 use Rattle.meaning.proofs.Pages.{told}
 use Rattle.meaning.proofs.Claims.{refusal-numbers}
 use Rattle.meaning.proofs.Laws.{along, Along, along-in, along-of, along-ordered}
-use Rattle.meaning.proofs.Lines.{rising, rising-within, rank, rank-file, linewise, Linewise, linewise-exactly, linewise-ordered}
+use Rattle.meaning.proofs.Lines.{rising, rising-within, rank, rank-file, byNumber, linewise, Linewise, linewise-exactly, linewise-ordered}
 
 -- the finding that a broken claim is
 abbrev toFinding : Claim → Finding
@@ -64,7 +64,7 @@ listed-of f n r (p ∷ cs) m = ⊎-elim here (λ k. later (p .broken) refl (list
     later true e k = rw (listed-yes p cs e) (List·Memᴰ·tail k)
     later false e k = rw (listed-no p cs e) k
 
-listed-ordered : (cs : List Claim) → Ordered rank cs → Ordered comesBefore (listed cs)
+listed-ordered : (cs : List Claim) → Ordered (rank byNumber) cs → Ordered comesBefore (listed cs)
 unfolding listed rank comesBefore
 listed-ordered [] o = tt
 listed-ordered (p ∷ cs) o = go (p .broken) refl (listed-ordered cs (o .1))
@@ -96,7 +96,7 @@ records-along f rules i (suc n) =
     let e : i + 1 + 2 ≡ i + 2 + 1 = omega arith in
     rw (records-along f rules (i + 1) n, e, add-sub-cancel i 2)
 
-rules-rising : (w : Feed) (f i : ℕ) → rising 19 32 (rulesOf w f i) ≡ true
+rules-rising : (w : Feed) (f i : ℕ) → rising byNumber 19 32 (rulesOf w f i) ≡ true
 unfolding rising rulesOf stopRules routeRules serviceRules tripRules timeRules dateRules
 rules-rising w zero i = refl
 rules-rising w (suc zero) i = refl
@@ -149,17 +149,17 @@ module _ (w : Feed) where
   file-exactly : (f : ℕ) (p : Claim) → List·Memᴰ p (bindingsOf w f) ↔ Linewise tt f (ruled f) 2 (records f) p
   file-exactly f p = rw (file-along f) (linewise-exactly tt f (ruled f) 2 (records f) p)
 
-  bindings-ordered : Ordered rank (bindings w)
-  bindings-ordered = rw bindings-along (along-ordered tt ofNumber rank own apart 1 six)
+  bindings-ordered : Ordered (rank byNumber) (bindings w)
+  bindings-ordered = rw bindings-along (along-ordered tt ofNumber (rank byNumber) own apart 1 six)
     where
-      own : (f : ℕ) (u : Unit {0}) → Ordered rank (bindingsOf w f)
-      own f u = rw (file-along f) (linewise-ordered tt f (ruled f) 2 (records f) 19 32 (λ k b. rules-rising w f (k - 2)))
+      own : (f : ℕ) (u : Unit {0}) → Ordered (rank byNumber) (bindingsOf w f)
+      own f u = rw (file-along f) (linewise-ordered tt f (ruled f) 2 (records f) byNumber 19 32 (λ k b. rules-rising w f (k - 2)))
 
-      apart : (j k : ℕ) (b c : Unit {0}) (x y : Claim) → j < k → List·Memᴰ x (bindingsOf w j) → List·Memᴰ y (bindingsOf w k) → rank x y ≡ true
+      apart : (j k : ℕ) (b c : Unit {0}) (x y : Claim) → j < k → List·Memᴰ x (bindingsOf w j) → List·Memᴰ y (bindingsOf w k) → rank byNumber x y ≡ true
       apart j k b c x y h m t =
           let u = file-exactly j x .0 m .file in
           let v = file-exactly k y .0 t .file in
-          rank-file x y (omega arith)
+          rank-file byNumber x y (omega arith)
 
   module _ (f n r : ℕ) where
     broken-in : Along tt ofNumber 1 six (claim r f n true) → BrokenAt w f n r
@@ -192,7 +192,7 @@ pub finding-numbers : (w : Feed) → Each (Findable w) (findingsOf w)
 finding-numbers w d m =
     let b = listed-exactly w (d .file) (d .line) (d .rule) .0 m in
     let file = counted-files w (d .file) (omega arith) in
-    let rule = rising-within 19 32 (rulesOf w (d .file) (d .line - 2)) (rules-rising w (d .file) (d .line - 2)) (test (d .rule) true) (b .rule) in
+    let rule = rising-within byNumber 19 32 (rulesOf w (d .file) (d .line - 2)) (rules-rising w (d .file) (d .line - 2)) (test (d .rule) true) (b .rule) in
     record { file = omega arith; line = omega arith; rule = omega arith }
 
 -- Every finding comes after the list's beginning.

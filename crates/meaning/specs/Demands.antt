@@ -17,16 +17,16 @@ use Rattle.meaning.specs.Promises.{Ordered, Each, saysAccepted, saysRefu
 use Rattle.meaning.specs.Held.{TablesHeld}
 use Rattle.meaning.specs.Calls.{Lending, Enough, CallsJoin}
 
--- the files can be read: no rule of 1 to 13 is broken anywhere
+-- the files can be read: no rule of 1 to 14 is broken anywhere
 abbrev pub Reads : List (List ℕ) → List (List ℤ) → Type 0
 Reads files tables = NoneBroken (claims files (map length tables))
 
 pub record Demand1 (files : List (List ℕ)) (tables : List (List ℤ)) (list : List ℤ) (o : Outcome) : Type 0 where
-  -- the check ends with accepted, findings, or a refusal numbered 1 to 13 with its file and line (line 0 for a whole file)
+  -- the check ends with accepted, findings, or a refusal numbered 1 to 14 with its file and line (line 0 for a whole file)
   pub ends : Ends files (answerNumbers (o .answer))
   -- a refusal is given exactly when its rule is the first one broken
   pub first : (r : Refusal) → answerNumbers (o .answer) ≡ saysRefused r ↔ FirstBroken (claims files (map length tables)) r
-  -- in the order in which document 01 has the rules speak
+  -- in the order in which the documents have the rules speak
   pub order : Ordered speaksBefore (claims files (map length tables))
   -- among all the rules at all the places
   pub all : (q : Claim) → List·Memᴰ q (claims files (map length tables)) ↔ (FileClaim files (map length tables) q ⊎ LineClaim files q)

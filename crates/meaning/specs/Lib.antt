@@ -1,6 +1,7 @@
--- What document 01 means, one section a file, in its order; then what is promised of it.
+-- What document 01 means, one section a file, in its order, as document 02's requests amend it; then what is promised of it.
 pub mod Lists
 pub mod Bytes
+pub mod Characters
 pub mod Columns
 pub mod Forms
 pub mod Tables
@@ -13,4 +14,5 @@ pub mod Held
 pub mod Calls
 pub mod Demands
 pub mod ByDate
+pub mod BadUtf8
 pub mod Cases

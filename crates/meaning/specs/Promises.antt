@@ -90,7 +90,7 @@ pub record FileClaim (files : List (List ℕ)) (rooms : List ℕ) (p : Claim) : 
   pub room : p .file ≤ length rooms
   pub rule : List·Memᴰ (testOf p) (fileTests files (p .file) (fileOf files (p .file)) (getD rooms (p .file - 1) 0))
 
--- a claim of rules 5 to 13
+-- a claim of rules 5 to 14
 pub record LineClaim (files : List (List ℕ)) (p : Claim) : Type 0 where
   pub from : 1 ≤ p .file
   pub to : p .file ≤ length files
@@ -100,12 +100,25 @@ pub record LineClaim (files : List (List ℕ)) (p : Claim) : Type 0 where
       List·Memᴰ (testOf p)
       (testsOn (p .file) (linesOf (fileOf files (p .file))) (p .line) (getD (linesOf (fileOf files (p .file))) (p .line - 1) noLine))
 
--- which of two claims speaks first: rules 1 to 4 rule by rule over the files; then file, line, number
+-- the rules of a line in the order in which they speak: the lowest number first, but 14 after 5 and before 6
+unfoldable pub lineOrder : List ℕ
+lineOrder = 5 ∷ 14 ∷ 6 ∷ 7 ∷ 8 ∷ 9 ∷ 10 ∷ 11 ∷ 12 ∷ 13 ∷ []
+
+-- where a number stands first among numbers, counted from k; 0 where it doesn't
+unfoldable pub placeFrom : ℕ → List ℕ → ℕ → ℕ
+placeFrom k [] n = 0
+placeFrom k (m ∷ r) n = let j = placeFrom (k + 1) r n in cond (eqb m n) k j
+
+-- a rule's turn on a line
+unfoldable pub turn : ℕ → ℕ
+turn n = placeFrom 1 lineOrder n
+
+-- which of two claims speaks first: rules 1 to 4 rule by rule over the files; then file, line, turn
 unfoldable pub speaksBefore : Claim → Claim → Bool
 speaksBefore p q =
     cond (ltb (p .number) 5)
     (cond (ltb (q .number) 5) (sooner2 (p .number) (p .file) (q .number) (q .file)) true)
-    (cond (ltb (q .number) 5) false (sooner3 (p .file) (p .line) (p .number) (q .file) (q .line) (q .number)))
+    (cond (ltb (q .number) 5) false (sooner3 (p .file) (p .line) (turn (p .number)) (q .file) (q .line) (turn (q .number))))
 
 -- the claim at some place is broken, it is the refusal's, and nothing that speaks before it is broken
 abbrev pub noClaim : Claim
@@ -133,10 +146,10 @@ pub record RefusedBy (files : List (List ℕ)) (rooms : List ℕ) : Type 0 where
   pub told : Refusal
   pub verdict : verdictOf files rooms ≡ Unreadable told
 
--- what a refusal can say: a number from 1 to 13, its file, its line, or line 0 exactly for a whole file
+-- what a refusal can say: a number from 1 to 14, its file, its line, or line 0 exactly for a whole file
 pub record Sayable (files : List (List ℕ)) (r : Refusal) : Type 0 where
   pub lowest : 1 ≤ r .number
-  pub highest : r .number ≤ 13
+  pub highest : r .number ≤ 14
   pub file : (1 ≤ r .file) × (r .file ≤ length files)
   pub line : r .line ≡ 0 ↔ r .number ≤ 4
   pub last : r .line ≤ length (linesOf (fileOf files (r .file)))

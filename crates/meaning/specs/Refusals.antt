@@ -10,6 +10,7 @@ use Rattle.meaning.specs.declared.Verdict.{Verdict}
 use Rattle.meaning.specs.declared.Verdict.the-variants.{Readable, Unreadable}
 use Rattle.meaning.specs.Lists.{same, empty, some}
 use Rattle.meaning.specs.Bytes.{Line, linesOf, countLf, good, fields, values}
+use Rattle.meaning.specs.Characters.{wellFormed}
 use Rattle.meaning.specs.Columns.{Row, nameOf, columnOf, countOf, places, rowOf}
 use Rattle.meaning.specs.Forms.{shape}
 use Rattle.meaning.specs.Tables.{fileOf, widthOf}
@@ -126,9 +127,13 @@ rule12 f r = overRow blank f r (countOf f)
 unfoldable pub rule13 : ℕ → Row → Bool
 rule13 f r = overRow formless f r (countOf f)
 
--- the tests of any line, in the order in which they speak
+-- 14: not well-formed UTF-8 (a line's text has no leading mark and no ending)
+unfoldable pub rule14 : List ℕ → Bool
+rule14 l = not (wellFormed l)
+
+-- the tests of any line, in the order in which they speak: 14 is tested after 5 and before 6, despite its number
 unfoldable pub textTests : List ℕ → List Test
-textTests l = test 5 (rule5 l) ∷ test 6 (rule6 l) ∷ test 7 (rule7 l) ∷ []
+textTests l = test 5 (rule5 l) ∷ test 14 (rule14 l) ∷ test 6 (rule6 l) ∷ test 7 (rule7 l) ∷ []
 
 -- the tests of a header
 unfoldable pub headTests : ℕ → List ℕ → List Test
@@ -165,7 +170,7 @@ overFiles n P f [] rooms = []
 overFiles n P f (s ∷ r) [] = []
 overFiles n P f (s ∷ r) (m ∷ rooms) = claim n f 0 (P f s m) ∷ overFiles n P (f + 1) r rooms
 
--- Rules 1 to 4 go rule by rule, each over files 1 to 6. Then files are read in order, lines in order, and on one line the lowest number speaks.
+-- Rules 1 to 4 go rule by rule, each over files 1 to 6. Then files are read in order, lines in order, and on one line the lowest number speaks, but 14 after 5 and before 6.
 unfoldable pub claims : List (List ℕ) → List ℕ → List Claim
 claims files rooms =
     overFiles 1 rule1 1 files rooms

@@ -14,7 +14,7 @@ use Rattle.meaning.specs.Columns.{places}
 use Rattle.meaning.specs.Tables.{fileOf}
 use Rattle.meaning.specs.Refusals.{Test, Claim, claim, refusal, textTests, headTests, rowTests, lineTests, onLine, onLines, inFile, inFiles, overFiles, claims, speaks, verdictOf, rule1, rule2, rule3, rule4}
 use Rattle.reading.specs.Named.{Named}
-use Rattle.text.proofs.Laws.{all, and-left, and-right}
+use Rattle.meaning.proofs.Computed.{all, and-left, and-right}
 use Rattle.text.proofs.Lines.{lines-all}
 
 -- a number of a rule

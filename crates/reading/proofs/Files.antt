@@ -15,8 +15,7 @@ use Rattle.meaning.specs.Columns.{places}
 use Rattle.meaning.specs.Tables.{widths, widthOf}
 use Rattle.meaning.specs.Refusals.{textTests, headTests, rowTests, lineTests, onLines, inFile, inFiles, speaks, verdictOf}
 use Rattle.text.specs.Lines.{LineStands}
-use Rattle.text.proofs.Laws.{all}
-use Rattle.schema.proofs.Laws.{below-all}
+use Rattle.meaning.proofs.Computed.{all, below-all}
 use Rattle.columns.specs.Columns.{placesOf}
 use Rattle.columns.proofs.Laws.{places-at}
 use Rattle.reading.specs.Tests.{first}

@@ -7,7 +7,7 @@ use native.Mathlib.Omega.{arith}
 use native.Mathlib.Numerals.{add-one}
 use lib.Dec.{T, ltb, leb→le}
 use lib.ListN.{getD}
-use Rattle.text.proofs.Laws.{all, and-left, and-right}
+use Rattle.meaning.proofs.Computed.{all, and-left, and-right}
 use Rattle.meaning.specs.declared.Column.{Column}
 use Rattle.meaning.specs.Lists.{some}
 use Rattle.meaning.specs.Columns.{Row, columnOf, countOf}

@@ -4,16 +4,14 @@ use mathlib.Core.Bool.{Bool, true, false, _&&_}
 use mathlib.Core.List.{List, [], _∷_, _++_}
 use Prim.Native.Nat.{ℕ, zero, suc, _+_, _-_, _≤_, _<_}
 use native.Mathlib.Omega.{arith}
-use native.Mathlib.Nat.{not-suc-le-zero}
 use lib.Dec.{T, eqb, leb, leb→le}
 use lib.ListN.{length, getD, take, drop}
-use borrow.Author.Tests.{eqb-true, eqb-false}
 use Rattle.meaning.specs.declared.Column.{Column}
 use Rattle.meaning.specs.Lists.{same}
 use Rattle.meaning.specs.Columns as X
 use Rattle.meaning.specs.Columns.{Known, unknown, schemas, schema, nameOf, countOf}
 use Rattle.meaning.proofs.ListLaws.{same-equal}
-use Rattle.text.proofs.Laws.{getD-all, and-left, and-right}
+use Rattle.meaning.proofs.Computed.{getD-all, and-left, and-right, allBelow, below-all}
 
 -- rows of ten of one part of the columns, filled up by that of an unknown one
 module _ {A : Type 0} (g : Known → A) where
@@ -62,19 +60,6 @@ few f = leb→le _ _ (getD-all (λ n. leb n 10) 0 tt (lengths schemas) tt f)
 pub count-le : (f : ℕ) → countOf f ≤ 10
 unfolding countOf schema
 count-le f = rw (← lengths-at schemas f) (few f)
-
--- a test computed for every number below a bound
-abbrev pub allBelow : ℕ → (ℕ → Bool) → Bool
-allBelow zero P = true
-allBelow (suc n) P = P n && allBelow n P
-
-pub below-all : (n : ℕ) (P : ℕ → Bool) → T (allBelow n P) → (k : ℕ) → k < n → T (P k)
-below-all zero P t k h = absurd (not-suc-le-zero h)
-below-all (suc n) P t k h = go (eqb k n) refl (below-all n P (and-right (P n) (allBelow n P) t) k)
-  where
-    go : (b : Bool) → eqb k n ≡ b → (k < n → T (P k)) → T (P k)
-    go true e ih = let z : k ≡ n = eqb-true k n e in rw z (and-left (P n) (allBelow n P) t)
-    go false e ih = ih (let z : k ≡ n → ⊥ = eqb-false k n e in omega arith)
 
 -- where each name starts and ends in the text of all names, rows of ten filled up by 0
 abbrev startsRow : ℕ → ℕ → List Known → List ℕ

@@ -17,7 +17,8 @@ use Rattle.meaning.specs.Refusals.{rule5}
 use Rattle.text.specs.declared.Cursor.{Cursor}
 use Rattle.text.specs.declared.Step.the-variants.{Field, Done}
 use Rattle.text.specs.Fields.{fieldCount, fieldLen, stepAt, fieldsFrom, valuesFrom, FieldStands, Inside}
-use Rattle.text.proofs.Laws.{drop-next, drop-over, all, getD-all}
+use Rattle.meaning.proofs.Computed.{all, getD-all}
+use Rattle.text.proofs.Laws.{drop-next, drop-over}
 
 -- a turn along the bytes, on whether a stray one is left
 module _ (s : List ℕ) (i : ℕ) (k : Bool) (inv : rule5 (drop i s) ≡ k) where

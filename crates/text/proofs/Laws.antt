@@ -1,11 +1,10 @@
--- Laws of byte strings and tables: one byte more, the end, parts, equality, and a test computed over a table.
+-- Laws of byte strings: one byte more, the end, parts, equality.
 use mathlib.Core.Path.{_≡_, refl, sym, _∙_}
-use mathlib.Core.Bool.{Bool, true, false, _&&_}
+use mathlib.Core.Bool.{Bool, true, false}
 use mathlib.Core.List.{List, [], _∷_}
 use Prim.Native.Nat.{ℕ, zero, suc, _+_, _-_, _≤_, _<_}
 use native.Mathlib.Numerals.{add-one}
 use native.Mathlib.Omega.{arith}
-use lib.Dec.{T}
 use lib.ListN.{length, getD, take, drop, drop-of-length-le, length-take, length-drop}
 use lib.Seq.{drop-cons, drop-drop, take-take, take-nil}
 use Rattle.meaning.specs.Lists.{same}
@@ -54,21 +53,3 @@ same-no a b n = go (same a b) refl
     go : (t : Bool) → same a b ≡ t → t ≡ false
     go true p = absurd (n (same-equal a b p))
     go false p = refl
-
--- what a computed test shows of each element of a table, and of the default, holds at each index
-abbrev pub all {ℓ} : {A : Type ℓ} → (A → Bool) → List A → Bool
-all P [] = true
-all P (x ∷ r) = P x && all P r
-
-pub and-left : (a b : Bool) → T (a && b) → T a
-and-left true b t = tt
-and-left false b t = t
-
-pub and-right : (a b : Bool) → T (a && b) → T b
-and-right true b t = t
-and-right false b t = absurd t
-
-pub getD-all {ℓ} : {A : Type ℓ} (P : A → Bool) (d : A) → T (P d) → (l : List A) → T (all P l) → (i : ℕ) → T (P (getD l i d))
-getD-all P d k [] t i = k
-getD-all P d k (x ∷ r) t zero = and-left (P x) (all P r) t
-getD-all P d k (x ∷ r) t (suc i) = getD-all P d k r (and-right (P x) (all P r) t) i
