@@ -1,4 +1,4 @@
--- What a refusal can name: a rule of 1 to 13, a file that there is, and a line that it has.
+-- What a refusal can name: a rule of 1 to 14, a file that there is, and a line that it has.
 use mathlib.Core.Path.{_≡_, refl, sym}
 use mathlib.Core.Bool.{Bool, true, false, _&&_}
 use mathlib.Core.List.{List, [], _∷_, _++_}
@@ -19,7 +19,7 @@ use Rattle.text.proofs.Lines.{lines-all}
 
 -- a number of a rule
 abbrev ruled : Test → Bool
-ruled t = leb 1 (t .number) && leb (t .number) 13
+ruled t = leb 1 (t .number) && leb (t .number) 14
 
 module _ (files : List (List ℕ)) where
   data Each : List Claim → Type 0 where
@@ -49,8 +49,8 @@ module _ (files : List (List ℕ)) where
       let h = and-left (ruled u) (all ruled ts) t in
       more
       (record {
-        rule-first = leb→le 1 (u .number) (and-left (leb 1 (u .number)) (leb (u .number) 13) h);
-        rule-last = leb→le (u .number) 13 (and-right (leb 1 (u .number)) (leb (u .number) 13) h);
+        rule-first = leb→le 1 (u .number) (and-left (leb 1 (u .number)) (leb (u .number) 14) h);
+        rule-last = leb→le (u .number) 14 (and-right (leb 1 (u .number)) (leb (u .number) 14) h);
         file-first = a;
         file-last = b;
         line-last = c;
@@ -90,7 +90,7 @@ module _ (files : List (List ℕ)) where
       (each-file f a (within f s r a e) (linesOf s) (rw (this-file f s r e, lines-all s) (omega arith)))
       (each-files (f + 1) (omega arith) r (next-file f s r a e))
 
-  each-whole : (n : ℕ) → 1 ≤ n → n ≤ 13 → (P : ℕ → List ℕ → ℕ → Bool) (f : ℕ) → 1 ≤ f → (ss : List (List ℕ)) → drop (f - 1) files ≡ ss → (rooms : List ℕ) → Each (overFiles n P f ss rooms)
+  each-whole : (n : ℕ) → 1 ≤ n → n ≤ 14 → (P : ℕ → List ℕ → ℕ → Bool) (f : ℕ) → 1 ≤ f → (ss : List (List ℕ)) → drop (f - 1) files ≡ ss → (rooms : List ℕ) → Each (overFiles n P f ss rooms)
   unfolding overFiles
   each-whole n a b P f h [] e rooms = none
   each-whole n a b P f h (s ∷ r) e [] = none

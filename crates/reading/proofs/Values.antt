@@ -1,4 +1,4 @@
--- Rules 5 to 13 on a line: what the callees say of each test.
+-- Rules 5 to 14 on a line: what the callees say of each test.
 use mathlib.Core.Path.{_≡_, refl, sym, ap, _∙_}
 use mathlib.Core.Bool.{Bool, true, false, not, _&&_}
 use mathlib.Core.List.{List}

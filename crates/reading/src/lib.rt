@@ -1,4 +1,4 @@
-// Refusals 1 to 13: the first broken rule of a value, a line, a file and a feed. Nothing is written.
+// Refusals 1 to 14: the first broken rule of a value, a line, a file and a feed. Nothing is written.
 use columns::Columns;
 use meaning::Choice;
 use meaning::Column;
@@ -205,13 +205,16 @@ fn row_rule(f: usize, at: [usize; 10], l: &[u8]) -> usize
     rule
 }
 
-// The first of rules 5 to 7 that a line breaks, by what a walk along it told.
+// The first of rules 5, 14, 6 and 7 that a line breaks, by what a walk along it told.
 fn text_rule(l: &[u8], m: Measured) -> usize
     requires { ⌜ (m .good ≡ good (now l)) × (m .fields ≡ length (fields (now l))) ⌝ }
     ensures { λ r. ⌜ r ≡ first (textTests (now (l .entry))) ⌝ }
 {
     if text::has_stray(l) {
         return 5;
+    }
+    if characters::is_ill_formed(l) {
+        return 14;
     }
     if m.good {
         if 32 < m.fields {

@@ -1,0 +1,50 @@
+-- `characters::ascii_end` meets its contract.
+use Rattle.characters.proofs.Laws.{high-yes, high-no, high-over}
+use Rattle.characters.specs.States.{toHigh}
+use mathlib.Core.Path.{_≡_, refl}
+use Prim.Native.Nat.{_≤_, _-_, _+_}
+use native.Mathlib.Omega.{arith}
+use lib.ListN.{length, drop}
+use Rattle.characters.proofs.ascii_end.Statement.{statement}
+use Rattle.characters.proofs.ascii_end.Tie as tie
+
+abbrev Inv-loop : tie.InvT-loop
+Inv-loop l at i₀ i = (at ≤ i) × (i + toHigh (drop i l) ≡ at + toHigh (drop at l))
+
+abbrev μ-loop : tie.MeasureT-loop
+μ-loop l at i₀ i = length l - i
+
+loop-holds : tie.Need-loop-holds Inv-loop μ-loop
+loop-holds c = (omega arith, refl)
+
+shared-slice-read-if1 : tie.Need-shared-slice-read-if1 Inv-loop μ-loop
+shared-slice-read-if1 c = omega arith
+
+returns : tie.Need-returns Inv-loop μ-loop
+returns c = (high-yes _ _ _ (c .before .before .before .loop .inv .1) (c .before .before .loop-test .taken) (c .if1 .taken), omega arith)
+
+add-i : tie.Need-add-i Inv-loop μ-loop
+add-i c = omega arith
+
+loop-less : tie.Need-loop-less Inv-loop μ-loop
+loop-less c = omega arith
+
+loop-again : tie.Need-loop-again Inv-loop μ-loop
+loop-again c = (omega arith, high-no _ _ _ (c .before .before .before .loop .inv .1) (c .before .before .loop-test .taken) (c .if1 .left))
+
+returns-2 : tie.Need-returns-2 Inv-loop μ-loop
+returns-2 c = (high-over _ _ _ (c .before .loop .inv .1) (c .loop-test .left), omega arith)
+
+pub ascii-end-spec : {M : Type 1} → statement M
+ascii-end-spec =
+    tie.close
+    (tie.spec
+    Inv-loop
+    μ-loop
+    loop-holds
+    shared-slice-read-if1
+    returns
+    add-i
+    loop-less
+    loop-again
+    returns-2)

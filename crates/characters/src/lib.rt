@@ -1,0 +1,119 @@
+// Characters: is a line well-formed UTF-8? One walk along it, by the Unicode standard's table of byte sequences.
+ghost use mathlib.Core.Path.{_≡_};
+ghost use Prim.Native.Nat.{_+_, _<_, _≤_};
+ghost use lib.ListN.{length, drop};
+ghost use Rattle.meaning.specs.Characters.{awaited};
+ghost use Rattle.meaning.specs.Refusals.{rule14};
+ghost use Rattle.characters.specs.States.{awaits, classOf, toHigh};
+
+// Between two characters a walk lacks nothing.
+const START: u8 = 0;
+
+// The next state by state and byte class. The states, by what a character lacks: 0 nothing; 1 a byte; 2, 3 and 4 two bytes, the first from A0 on,
+// any, up to 9F; 5, 6 and 7 three bytes, the first from 90 on, any, up to 8F; 8 what no byte can give.
+// The classes, by their first byte: 00, 80, 90, A0, C0, C2, E0, E1, ED, EE, F0, F1, F4, F5.
+const NEXT: [[u8; 14]; 9] = [
+    [0, 8, 8, 8, 8, 1, 2, 3, 4, 3, 5, 6, 7, 8],
+    [8, 0, 0, 0, 8, 8, 8, 8, 8, 8, 8, 8, 8, 8],
+    [8, 8, 8, 1, 8, 8, 8, 8, 8, 8, 8, 8, 8, 8],
+    [8, 1, 1, 1, 8, 8, 8, 8, 8, 8, 8, 8, 8, 8],
+    [8, 1, 1, 8, 8, 8, 8, 8, 8, 8, 8, 8, 8, 8],
+    [8, 8, 3, 3, 8, 8, 8, 8, 8, 8, 8, 8, 8, 8],
+    [8, 3, 3, 3, 8, 8, 8, 8, 8, 8, 8, 8, 8, 8],
+    [8, 3, 8, 8, 8, 8, 8, 8, 8, 8, 8, 8, 8, 8],
+    [8, 8, 8, 8, 8, 8, 8, 8, 8, 8, 8, 8, 8, 8],
+];
+
+// The class of a byte that is no ASCII and no later byte of a character.
+fn lead_class(b: u8) -> usize
+    requires { ⌜ 0xC0 ≤ b ⌝ }
+    ensures { λ r. ⌜ (r ≡ classOf b) × (r < 14) ⌝ }
+{
+    if b < 0xC2 {
+        return 4;
+    }
+    if b < 0xE0 {
+        return 5;
+    }
+    if b < 0xE1 {
+        return 6;
+    }
+    if b < 0xED {
+        return 7;
+    }
+    if b < 0xEE {
+        return 8;
+    }
+    if b < 0xF0 {
+        return 9;
+    }
+    if b < 0xF1 {
+        return 10;
+    }
+    if b < 0xF4 {
+        return 11;
+    }
+    if b < 0xF5 {
+        return 12;
+    }
+    13
+}
+
+// The class of a byte.
+fn class_of(b: u8) -> usize
+    ensures { λ r. ⌜ (r ≡ classOf b) × (r < 14) ⌝ }
+{
+    if b < 0x80 {
+        return 0;
+    }
+    if b < 0x90 {
+        return 1;
+    }
+    if b < 0xA0 {
+        return 2;
+    }
+    if b < 0xC0 {
+        return 3;
+    }
+    lead_class(b)
+}
+
+// The state after a byte.
+fn next_state(q: u8, b: u8) -> u8
+    requires { ⌜ q < 9 ⌝ }
+    ensures { λ r. ⌜ (awaits r ≡ awaited (awaits q) b) × (r < 9) ⌝ }
+{
+    let c = class_of(b);
+    let k = q as usize;
+    NEXT[k][c]
+}
+
+// Where the first byte from `at` on stands that is no ASCII; the line's end where there is none.
+fn ascii_end(l: &[u8], at: usize) -> usize
+    ensures { λ r. ⌜ (r ≡ at + toHigh (drop at (now (l .entry)))) × (at ≤ r) ⌝ }
+{
+    let mut i = at;
+    while i < l.len() {
+        if 0x80 <= l[i] {
+            return i;
+        }
+        i += 1;
+    }
+    i
+}
+
+// Is a line not well-formed UTF-8? Between characters a run of ASCII is passed over, a test a byte.
+pub fn is_ill_formed(l: &[u8]) -> bool
+    ensures { λ r. ⌜ r ≡ rule14 (now (l .entry)) ⌝ }
+{
+    let mut q = START;
+    let mut i = ascii_end(l, 0);
+    while i < l.len() {
+        q = next_state(q, l[i]);
+        i += 1;
+        if q == START {
+            i = ascii_end(l, i);
+        }
+    }
+    q != START
+}
