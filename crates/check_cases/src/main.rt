@@ -447,8 +447,13 @@ fn run_lines(s: &[u8]) {
     }
 }
 
+// Room for standard input.
+fn room() -> [u8; 262144] {
+    [0; 262144]
+}
+
 fn main() {
-    let mut input = io::large_buffer();
+    let mut input = room();
     let n = io::read_full(STDIN_FILENO, &mut input);
     run_lines(&input[..n]);
 }

@@ -1,4 +1,4 @@
--- The computed cases of document 01 hold: the starred ones, the errors of a hurried hand, the worked examples.
+-- The computed cases hold: the starred ones, the errors of a hurried hand, the worked examples.
 use mathlib.Core.Path.{refl}
 use Rattle.meaning.specs.Lists as L
 use Rattle.meaning.specs.Bytes as B
@@ -28,4 +28,4 @@ none-slips = (refl, (refl, (refl, tt)))
 
 pub all-worked : AllHold worked
 unfolding definitions
-all-worked = (refl, (refl, ((refl, refl), (refl, (refl, (refl, (refl, (refl, (refl, (refl, (refl, (refl, (refl, (refl, (refl, (refl, (refl, (refl, (refl, (refl, (refl, (refl, (refl, (refl, (refl, (refl, (refl, (refl, (refl, (refl, (refl, tt)))))))))))))))))))))))))))))))
+all-worked = (refl, (refl, ((refl, refl), (refl, (refl, (refl, (refl, (refl, (refl, (refl, (refl, (refl, (refl, (refl, (refl, (refl, (refl, (refl, (refl, (refl, (refl, (refl, (refl, (refl, (refl, (refl, (refl, (refl, (refl, (refl, (refl, (refl, (refl, (refl, (refl, (refl, (refl, (refl, (refl, tt)))))))))))))))))))))))))))))))))))))))

@@ -1,7 +1,7 @@
--- The cases of document 01 that are computed: the starred ones, the errors of a hurried hand, and worked examples.
+-- Cases that are computed: document 01's starred ones, the errors of a hurried hand, and worked examples from both documents.
 use mathlib.Core.Path.{_≡_}
 use mathlib.Core.List.{List, [], _∷_, map}
-use mathlib.Core.Bool.{true, false}
+use mathlib.Core.Bool.{true, false, not}
 use Prim.Native.Nat.{ℕ}
 use Prim.Native.String.{String}
 use lib.IntN.{ℤ, pos, negsuc}
@@ -18,11 +18,11 @@ use Rattle.meaning.specs.declared.Refusal.{Refusal}
 use Rattle.meaning.specs.declared.Place.{Place}
 use Rattle.meaning.specs.declared.Answer.{Answer}
 use Rattle.meaning.specs.declared.Answer.the-variants.{Accepted, Findings, Refused}
-use Rattle.meaning.specs.Lists.{ascii}
+use Rattle.meaning.specs.Lists.{ascii, any}
 use Rattle.meaning.specs.Bytes.{good, values}
 use Rattle.meaning.specs.Forms.{timeOf, dateOf, latitudeOf, longitudeOf}
 use Rattle.meaning.specs.Tables.{feedOf, fileOf, recordsOf}
-use Rattle.meaning.specs.Refusals.{verdictOf}
+use Rattle.meaning.specs.Refusals.{rule14, verdictOf}
 use Rattle.meaning.specs.Findings.{Finding, finding, findingsOf}
 use Rattle.meaning.specs.Outcome.{Outcome, outcome}
 use Rattle.meaning.specs.Promises.{beginning}
@@ -32,7 +32,7 @@ use Rattle.meaning.specs.Calls.{Lending, again, written, calls}
 abbrev pub sevens : ℕ → List ℤ
 sevens n = replicate n (pos 7)
 
--- a text, and what document 01 says of it
+-- a text, and what the documents say of it
 pub data Case : Type 0 where
   time : String → Time → Case
   date : String → Date → Case
@@ -40,6 +40,8 @@ pub data Case : Type 0 where
   longitude : String → Degrees → Case
   line : String → List String → Case
   refusedLine : String → Case
+  formed : List (List ℕ) → Case
+  illFormed : List (List ℕ) → Case
   found : List String → List Finding → Case
   read : List String → Verdict → Case
   records : ℕ → List String → List (List ℤ) → Case
@@ -54,6 +56,8 @@ Holds (latitude s d) = latitudeOf (ascii s) ≡ d
 Holds (longitude s d) = longitudeOf (ascii s) ≡ d
 Holds (line s vs) = (good (ascii s) ≡ true) × (values (ascii s) ≡ map ascii vs)
 Holds (refusedLine s) = good (ascii s) ≡ false
+Holds (formed ls) = any rule14 ls ≡ false
+Holds (illFormed ls) = any (λ l. not (rule14 l)) ls ≡ false
 Holds (found files ds) = findingsOf (feedOf (map ascii files)) ≡ ds
 Holds (read files v) = verdictOf (map ascii files) (replicate 6 99) ≡ v
 Holds (records f files rs) = recordsOf f (feedOf (map ascii files)) (fileOf (map ascii files) f) ≡ rs
@@ -401,6 +405,66 @@ datesTwice =
     found (serviced oneService "service_id,date,exception_type\nW,20240101,1\nW,20240102,1\nV,20240101,1\n\"W\",20240101,2\nV,20240102,1\nW,20240101,1\n")
     (finding 6 5 20 ∷ finding 6 7 20 ∷ [])
 
+-- ---- bad UTF-8, from document 02's words; a character of a text below stands for the byte with its number
+
+-- the first and the last sequence of each row of the table, and characters one after the other, EF BB BF among them
+abbrev pub rowsAllow : Case
+rowsAllow =
+    formed
+    ((0x00 ∷ []) ∷ (0x7F ∷ [])
+    ∷ (0xC2 ∷ 0x80 ∷ []) ∷ (0xDF ∷ 0xBF ∷ [])
+    ∷ (0xE0 ∷ 0xA0 ∷ 0x80 ∷ []) ∷ (0xE0 ∷ 0xBF ∷ 0xBF ∷ [])
+    ∷ (0xE1 ∷ 0x80 ∷ 0x80 ∷ []) ∷ (0xEC ∷ 0xBF ∷ 0xBF ∷ [])
+    ∷ (0xED ∷ 0x80 ∷ 0x80 ∷ []) ∷ (0xED ∷ 0x9F ∷ 0xBF ∷ [])
+    ∷ (0xEE ∷ 0x80 ∷ 0x80 ∷ []) ∷ (0xEF ∷ 0xBF ∷ 0xBF ∷ [])
+    ∷ (0xF0 ∷ 0x90 ∷ 0x80 ∷ 0x80 ∷ []) ∷ (0xF0 ∷ 0xBF ∷ 0xBF ∷ 0xBF ∷ [])
+    ∷ (0xF1 ∷ 0x80 ∷ 0x80 ∷ 0x80 ∷ []) ∷ (0xF3 ∷ 0xBF ∷ 0xBF ∷ 0xBF ∷ [])
+    ∷ (0xF4 ∷ 0x80 ∷ 0x80 ∷ 0x80 ∷ []) ∷ (0xF4 ∷ 0x8F ∷ 0xBF ∷ 0xBF ∷ [])
+    ∷ []
+    ∷ (0x41 ∷ 0xC3 ∷ 0xA4 ∷ 0xEF ∷ 0xBB ∷ 0xBF ∷ 0xF0 ∷ 0x9F ∷ 0x9A ∷ 0x8C ∷ 0x42 ∷ [])
+    ∷ [])
+
+-- no overlong forms, no surrogates, nothing above U+10FFFF; a later byte alone, half a character, a character broken by a comma, one byte too many
+abbrev pub noRowAllows : Case
+noRowAllows =
+    illFormed
+    ((0xC0 ∷ 0x80 ∷ []) ∷ (0xC1 ∷ 0xBF ∷ []) ∷ (0xE0 ∷ 0x9F ∷ 0xBF ∷ []) ∷ (0xF0 ∷ 0x8F ∷ 0xBF ∷ 0xBF ∷ [])
+    ∷ (0xED ∷ 0xA0 ∷ 0x80 ∷ []) ∷ (0xED ∷ 0xBF ∷ 0xBF ∷ [])
+    ∷ (0xF4 ∷ 0x90 ∷ 0x80 ∷ 0x80 ∷ []) ∷ (0xF5 ∷ 0x80 ∷ 0x80 ∷ 0x80 ∷ []) ∷ (0xFF ∷ [])
+    ∷ (0x80 ∷ []) ∷ (0x41 ∷ 0xBF ∷ [])
+    ∷ (0xC3 ∷ []) ∷ (0xE2 ∷ 0x82 ∷ []) ∷ (0xF0 ∷ 0x9F ∷ 0x9A ∷ [])
+    ∷ (0xE2 ∷ 0x2C ∷ 0x82 ∷ 0xAC ∷ []) ∷ (0xC3 ∷ 0xA4 ∷ 0xA4 ∷ [])
+    ∷ [])
+
+-- half a character, in a quoted name: 14, on its line
+abbrev pub halfCharacter : Case
+halfCharacter =
+    read (around "stop_id,stop_name,stop_lat,stop_lon\nA,\"CafÃ\",1.5,2\n" oneTrip twoTimes) (Unreadable (refusedAs 14 1 2))
+
+-- header too, under a name that no file knows
+abbrev pub badHeader : Case
+badHeader =
+    read (around "stop_id,stop_name,stop_lat,stop_lon,é\nA,Alder,1.5,2,\n" oneTrip twoTimes) (Unreadable (refusedAs 14 1 1))
+
+-- after 5 and before 6: a tab speaks first, a mark in a bare field doesn't
+abbrev pub tabAndBad : Case
+tabAndBad =
+    read (around "stop_id,stop_name,stop_lat,stop_lon\nA,é\t,1.5,2\n" oneTrip twoTimes) (Unreadable (refusedAs 5 1 2))
+
+abbrev pub badAndMark : Case
+badAndMark =
+    read (around "stop_id,stop_name,stop_lat,stop_lon\nA,\"\"aé,1.5,2\n" oneTrip twoTimes) (Unreadable (refusedAs 14 1 2))
+
+-- lines keep their order: 13 on line 2 speaks before 14 on line 3
+abbrev pub badLater : Case
+badLater =
+    read (around "stop_id,stop_name,stop_lat,stop_lon\nA,Alder,x,2\nB,é,1.5,2\n" oneTrip twoTimes) (Unreadable (refusedAs 13 1 2))
+
+-- The mark at the start is dropped once; a second one is a character, and part of the first name.
+abbrev pub markTwice : Case
+markTwice =
+    read (around "ï»¿ï»¿stop_id,stop_name,stop_lat,stop_lon\nA,Alder,1.5,2\n" oneTrip twoTimes) (Unreadable (refusedAs 9 1 1))
+
 abbrev pub worked : List Case
 worked =
     acceptedCall
@@ -432,6 +496,14 @@ worked =
     ∷ exceptionZero
     ∷ timesBeforeDates
     ∷ datesTwice
+    ∷ rowsAllow
+    ∷ noRowAllows
+    ∷ halfCharacter
+    ∷ badHeader
+    ∷ tabAndBad
+    ∷ badAndMark
+    ∷ badLater
+    ∷ markTwice
     ∷ longitude "180" (TenMillionths (pos 1800000000))
     ∷ time "9:60:00" NoTime
     ∷ []

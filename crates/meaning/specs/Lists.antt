@@ -8,7 +8,7 @@ use mathlib.Core.Bool.{Bool, true, false, cond}
 use lib.ListN.{length, drop}
 use lib.Dec.{eqb}
 
--- the bytes of a text of ASCII characters
+-- the bytes of a text of characters up to U+00FF, each the byte with its number
 abbrev pub ascii : String → List ℕ
 ascii S.[] = []
 ascii (S._∷_ c r) = code c ∷ ascii r
