@@ -448,7 +448,9 @@ fn run_lines(s: &[u8]) {
 }
 
 // Room for standard input.
-fn room() -> [u8; 262144] {
+fn room() -> [u8; 262144]
+    ensures { λ r. ⌜ 262144 ≡ length r ⌝ }
+{
     [0; 262144]
 }
 
