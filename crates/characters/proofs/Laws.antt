@@ -1,15 +1,15 @@
 -- Laws of a walk along a line: the classes, the states and their table, runs of ASCII, a turn.
-use Prim.Native.Nat.{ℕ, zero, suc, _+_, _≤_, _<_}
+use Prim.Native.Nat.{ℕ, _+_, _≤_, _<_}
 use native.Mathlib.Numerals.{add-one}
 use native.Mathlib.Omega.{arith}
-use mathlib.Core.Path.{_≡_, refl, sym, ap, _∙_}
+use mathlib.Core.Path.{_≡_, refl, sym, _∙_}
 use mathlib.Core.Bool.{Bool, true, false, cond, not, _&&_}
 use mathlib.Core.List.{List, [], _∷_, _++_}
 use lib.Dec.{leb, ltb, eqb}
 use lib.ListN.{length, getD, drop}
 use lib.Seq.{drop-drop}
-use borrow.Author.Tests.{eqb-true, ltb-true, le-leb, lt-ltb, le-ltb, eq-eqb, ne-eqb}
-use Rattle.meaning.specs.Characters.{Range, _to_, sequences, within, never, begun, awaited, awaitedAfter, wellFormed}
+use borrow.Author.Tests.{eqb-true, ltb-true, le-leb, lt-ltb, le-ltb}
+use Rattle.meaning.specs.Characters.{Range, _to_, sequences, within, begun, awaited, awaitedAfter, wellFormed}
 use Rattle.meaning.specs.Refusals.{rule14}
 use Rattle.meaning.proofs.Computed.{is-true, allBelow, below-all}
 use Rattle.meaning.proofs.ListLaws.{both, and-both}

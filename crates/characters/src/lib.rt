@@ -1,7 +1,7 @@
 // Characters: is a line well-formed UTF-8? One walk along it, by the Unicode standard's table of byte sequences.
 ghost use mathlib.Core.Path.{_≡_};
 ghost use Prim.Native.Nat.{_+_, _<_, _≤_};
-ghost use lib.ListN.{length, drop};
+ghost use lib.ListN.{drop};
 ghost use Rattle.meaning.specs.Characters.{awaited};
 ghost use Rattle.meaning.specs.Refusals.{rule14};
 ghost use Rattle.characters.specs.States.{awaits, classOf, toHigh};

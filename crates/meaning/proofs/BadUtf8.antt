@@ -2,17 +2,17 @@
 use Prim.Native.Nat.{ℕ, _-_}
 use mathlib.Core.Path.{_≡_, refl}
 use mathlib.Core.Logic.{_↔_}
-use mathlib.Core.Bool.{Bool, true, false, cond, not}
-use mathlib.Core.List.{List, map, List·Memᴰ, List·Memᴰ·head, List·Memᴰ·tail, Memᴰ·append-left}
+use mathlib.Core.Bool.{Bool, true, false, cond}
+use mathlib.Core.List.{List, map, List·Memᴰ, List·Memᴰ·head, List·Memᴰ·tail}
 use lib.IntN.{ℤ}
 use lib.ListN.{length, getD}
 use lib.Dec.{eqb}
-use borrow.Author.Tests.{not-false, eq-eqb}
+use borrow.Author.Tests.{not-false}
 use Rattle.meaning.specs.Bytes.{Line, linesOf}
 use Rattle.meaning.specs.Columns.{places, headerOf}
 use Rattle.meaning.specs.Characters.{wellFormed, Written}
 use Rattle.meaning.specs.Tables.{fileOf}
-use Rattle.meaning.specs.Refusals.{Test, test, claim, claims, rule14, textTests, headTests, lineTests}
+use Rattle.meaning.specs.Refusals.{test, claim, claims, rule14, textTests, headTests, lineTests}
 use Rattle.meaning.specs.Promises.{lineOrder, placeFrom, turn, fieldCount, testsOn, noLine, speaksBefore}
 use Rattle.meaning.specs.BadUtf8.{textOf, HasLine, BadUtf8}
 use Rattle.meaning.proofs.Laws.{sooner-same}

@@ -6,7 +6,7 @@ use mathlib.Core.Bool.{Bool, true, false}
 use mathlib.Core.List.{List, map, List·Memᴰ}
 use lib.IntN.{ℤ}
 use lib.ListN.{length, getD}
-use Rattle.meaning.specs.Bytes.{Line, linesOf}
+use Rattle.meaning.specs.Bytes.{linesOf}
 use Rattle.meaning.specs.Characters.{isCharacter, Written, Encoded}
 use Rattle.meaning.specs.Tables.{fileOf}
 use Rattle.meaning.specs.Refusals.{claim, claims, rule14}
