@@ -18,19 +18,20 @@ pub const TABLE: [&[[u8; 2]]; 9] = [
 ];
 
 /// Ill-formed, each in its way: a byte that no character has, one that only goes on, cut characters, overlong forms, surrogates, too high.
-pub const ILL_FORMED: [&[u8]; 12] = [
+pub const ILL_FORMED: [&[u8]; 13] = [
     b"\xFF",
     b"\x80",
     b"\xC3",
     b"\xE2\x82",
     b"\xF0\x9F\x9A",
-    b"\xC1\xBF",
+    b"\xC0\x80",
     b"\xE0\x9F\xBF",
     b"\xF0\x8F\xBF\xBF",
     b"\xED\xA0\x80",
-    b"\xED\xBF\xBF",
+    b"\xED\xA0\x80\xED\xB0\x80",
     b"\xF4\x90\x80\x80",
     b"\xF5\x80\x80\x80",
+    b"\xF8\x88\x80\x80\x80",
 ];
 
 /// Each kind of character twice: of the first bytes that it may have, and of the last ones.
@@ -90,16 +91,26 @@ fn at(place: &str, text: &[u8]) -> Case {
 /// Bytes between the two pieces of a character: none, and those that end a field, a line or a quoted part.
 const BETWEEN: [&[u8]; 7] = [b"", b",", b"\"", b"\"\"", b"\n", b"\r\n", b"\r"];
 
-/// Every text in every place: at the edges of the table, cut short, broken in two, the mark and what looks like it.
+/// The mark and what looks like it, and longer forms.
+const MORE: [&[u8]; 8] = [
+    b"\xEF\xBB\xBF",
+    b"\xEF\xBB\xBF\xEF\xBB\xBF",
+    b"\xEF\xBB\xBF\xEF\xBB",
+    b"\xEF\xBB\xBF\xBF",
+    b"\xFE\xFF",
+    b"\xFF\xFE",
+    b"\xF7\xBF\xBF\xBF",
+    b"\xFC\x84\x80\x80\x80\x80",
+];
+
+/// Every text in every place: at the edges of the table, cut short, broken in two, and more.
 fn of_the_table() -> Vec<Case> {
     let mut texts = at_the_edges();
     for [first, second] in in_two() {
         texts.extend(BETWEEN.map(|between| [&first, between, &second].concat()));
         texts.extend([first, second]);
     }
-    let marks: [&[u8]; 4] =
-        [b"\xEF\xBB\xBF", b"\xEF\xBB\xBF\xEF\xBB\xBF", b"\xEF\xBB\xBF\xEF\xBB", b"\xEF\xBB\xBF\xBF"];
-    texts.extend(marks.map(<[u8]>::to_vec));
+    texts.extend(ILL_FORMED.iter().chain(&MORE).map(|text| text.to_vec()));
     PLACES.iter().flat_map(|place| texts.iter().map(|text| at(place, text))).collect()
 }
 

@@ -6,11 +6,11 @@ use model::columns::Column;
 
 /// Names that no file knows, or that only look like a known one.
 const UNKNOWN: [&str; 10] =
-    ["", " stop_id", "Stop_id", "TRIP_ID", "stop_id ", "shape_id", "\"stop_id\"", "note", "zone,fare", "ä駅🚏"];
+    ["", " stop_id", "Stop_id", "TRIP_ID", "stop_id ", "\u{feff}", "\"stop_id\"", "note", "zone,fare", "ä駅🚏"];
 
 /// What stands in unread columns: well-formed, as every line has to be.
 const JUNK: [&str; 11] =
-    ["", "0", "A ", "a, b", "say \"hi\"", "\"", "\0", "ä", "\u{feff}", "東京, \"駅\"", "🚏\u{10ffff}"];
+    ["", "0", "A ", "a, b", "say \"hi\"", "\"", "\0", "ä", "\u{feff}\u{ffff}", "東京, \"駅\"", "🚏\u{10ffff}"];
 
 /// Takes known columns out, puts unknown ones in, and changes their order.
 pub fn arrange(grid: &Grid, known: &[Column], faulty: bool, random: &mut Random) -> Grid {
