@@ -1,5 +1,6 @@
 //! Damage: a file that breaks one of the refusal rules on purpose, bytes changed at random, files cut short.
 
+use crate::characters::ILL_FORMED;
 use crate::feeds::Grid;
 use crate::random::Random;
 use model::columns::Column;
@@ -48,7 +49,7 @@ fn repeat_name(grid: &mut Grid, column: &Column, random: &mut Random) {
 /// A value that breaks rule 11, 12 or 13 under a column.
 fn bad_value(rule: usize, column: &Column, random: &mut Random) -> Vec<u8> {
     let from: &[&str] = match (rule, column.form) {
-        (11, _) => return vec![*random.pick(b"x\"\xFF"); random.between(64, 67)],
+        (11, _) => return long_value(random),
         (12, _) => return Vec::new(),
         (_, Form::Time) => &["10:5:00", "9:60:00", "100:00:00", "8:00", "-1:00:00", "08:00:60", ":00:00", "8 :00:00"],
         (_, Form::Date) => {
@@ -65,7 +66,16 @@ fn bad_value(rule: usize, column: &Column, random: &mut Random) -> Vec<u8> {
     random.pick(from).as_bytes().to_vec()
 }
 
-/// Breaks rule 1, 2, 4, 5, 6, 7 or 10 in the bytes of a file.
+/// A value of 64 to 67 bytes, of characters of any length.
+fn long_value(random: &mut Random) -> Vec<u8> {
+    let character = *random.pick(&["x", "\"", "ä", "駅", "🚏"]);
+    let length = random.between(64, 67);
+    let mut value = character.repeat(length / character.len()).into_bytes();
+    value.resize(length, b'x');
+    value
+}
+
+/// Breaks rule 1, 2, 4, 5, 6, 7, 10 or 14 in the bytes of a file.
 pub fn break_bytes(file: &mut Vec<u8>, rule: usize, random: &mut Random) {
     match rule {
         1 => file.resize(16_777_217, b'\n'),
@@ -86,19 +96,31 @@ pub fn cut_services(files: &mut Files, random: &mut Random) {
     }
 }
 
-/// Breaks rule 5, 6, 7 or 10 on a random line.
+/// Breaks rule 5, 6, 7, 10 or 14 on a random line.
 fn break_line(file: &mut Vec<u8>, rule: usize, random: &mut Random) {
     let ends: Vec<usize> = (0..file.len()).filter(|&place| file[place] == b'\n').collect();
     let Some(line) = (!ends.is_empty()).then(|| random.below(ends.len())) else { return };
     let from = if line == 0 { 0 } else { ends[line - 1] + 1 };
-    let place = random.between(from, ends[line]);
-    let more: &[&str] = match rule {
-        5 => &["\t", "\r", "\r\r"],
-        6 => &["\"", "a\"b", "\"a\"b", ",\""],
-        7 => &[",,,,,,,,,,,,,,,,,,,,,,,,,,,,,,,,"],
-        _ => &[",", ",,", ",x", "\n"],
+    let end = if file[from..ends[line]].ends_with(b"\r") { ends[line] - 1 } else { ends[line] };
+    // A cut character at a line's end, and another rule beside 14, tell more than others.
+    let at_end = rule == 14 && random.once_in(3);
+    put_in(file, rule, if at_end { end } else { random.between(from, ends[line]) }, random);
+    if rule == 14 && random.once_in(3) {
+        let other = *random.pick(&[5, 6, 7, 10]);
+        put_in(file, other, random.between(from, ends[line]), random);
+    }
+}
+
+/// Puts bytes that break rule 5, 6, 7, 10 or 14 at a place of a file.
+fn put_in(file: &mut Vec<u8>, rule: usize, place: usize, random: &mut Random) {
+    let more: &[&[u8]] = match rule {
+        5 => &[b"\t", b"\r", b"\r\r"],
+        6 => &[b"\"", b"a\"b", b"\"a\"b", b",\""],
+        7 => &[&[b','; 32]],
+        10 => &[b",", b",,", b",x", b"\n"],
+        _ => &ILL_FORMED,
     };
-    file.splice(place..place, random.pick(more).bytes());
+    file.splice(place..place, random.pick(more).iter().copied());
 }
 
 /// Bytes that matter to some rule.

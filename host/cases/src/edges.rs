@@ -1,7 +1,7 @@
 //! Edge cases, each tried everywhere: every raw field under every known column, every odd file in every place, every small order of lines,
-//! every state of calendar and calendar_dates, every two files that can't be read.
+//! every state of calendar and calendar_dates, every two files that can't be read; and all that is about characters.
 
-use crate::{large, orders, services, Case};
+use crate::{characters, large, orders, services, Case};
 use model::columns::COLUMNS;
 use model::{Files, FILES};
 
@@ -225,6 +225,7 @@ pub fn cases() -> Vec<Case> {
     let mut cases = Vec::new();
     let mut raw: Vec<Vec<u8>> = RAW.iter().map(|raw| raw.as_bytes().to_vec()).collect();
     raw.extend(long_raw());
+    raw.extend(characters::ILL_FORMED.map(<[u8]>::to_vec));
     for file in 0..FILES {
         for odd in odd_files(BASE[file].as_bytes()) {
             cases.extend(with_file(file, odd));
@@ -239,6 +240,7 @@ pub fn cases() -> Vec<Case> {
     }
     cases.extend(orders::stop_times().into_iter().map(|file| with_file(4, file.into_bytes()).swap_remove(0)));
     cases.extend(of_services());
+    cases.extend(characters::cases());
     cases
 }
 
@@ -262,12 +264,13 @@ fn with_two_refused(tab: usize, nameless: usize) -> Case {
     exact(format!("file {} has a tab, file {} no name", tab + 1, nameless + 1), files)
 }
 
-fn base() -> Files {
+/// The base feed.
+pub fn base() -> Files {
     BASE.map(|file| file.as_bytes().to_vec())
 }
 
 /// A feed with tables of the exact length; where none is asked for, one that must stay as lent.
-fn exact(name: String, files: Files) -> Case {
+pub fn exact(name: String, files: Files) -> Case {
     let mut tables = large::tables(&files, -7);
     tables.iter_mut().filter(|table| table.is_empty()).for_each(|table| table.extend([-7; 5]));
     Case { name, files, tables, list: vec![-9; 100], start: [0, 0, 0] }
@@ -284,7 +287,7 @@ fn with_services([calendar, dates]: [String; 2]) -> Case {
 }
 
 /// The base feed with another file, with tables of the exact length and with one that is short by a number.
-fn with_file(file: usize, bytes: Vec<u8>) -> Vec<Case> {
+pub fn with_file(file: usize, bytes: Vec<u8>) -> Vec<Case> {
     let mut files = base();
     files[file] = bytes;
     let exact = exact(format!("file {}: {}", file + 1, files[file].escape_ascii()), files);

@@ -46,15 +46,15 @@ impl Grid {
     }
 }
 
-/// Ids that only an exact comparison by value tells apart.
+/// Ids that only an exact comparison by value tells apart, with characters of one to four bytes.
 const IDS: [&str; 16] =
-    ["A", "a", "B", "C", "1", "01", "0", " A", "A ", "A,B", "\"A\"", "\"", "AB", "é", "\u{feff}A", "nowhere?"];
+    ["A", "a", "駅", "🚏", "1", "01", "0", " A", "A ", "A,B", "\"A\"", "\"", "AB", "é", "\u{feff}A", "nowhere?"];
 
 /// So many different ids.
 fn ids(random: &mut Random, count: usize) -> Vec<Vec<u8>> {
     let mut ids: Vec<Vec<u8>> = IDS.iter().map(|id| id.as_bytes().to_vec()).collect();
     ids.push(vec![b'x'; 64]);
-    ids.push(vec![0xFF, 0x00, b'"']);
+    ids.push("\u{10ffff}\0\"".into());
     random.shuffle(&mut ids);
     let more = (0..count).map(|number| format!("id-{number}").into_bytes());
     ids.extend(more);
@@ -62,7 +62,7 @@ fn ids(random: &mut Random, count: usize) -> Vec<Vec<u8>> {
     ids
 }
 
-const NAMES: [&str; 8] = ["Alder", "Birch, north", "say \"hi\"", " ", "0", "ä", "\u{feff}x", "\0"];
+const NAMES: [&str; 10] = ["Alder", "Birch, north", "say \"hi\"", " ", "0", "ä", "\u{feff}x", "\0", "新宿駅", "𝄞 🚉"];
 
 const PLACES: [&str; 14] = [
     "0",

@@ -36,12 +36,12 @@ pub fn kind(seed: u64) -> Kind {
     }
 }
 
-/// The rule that a turn breaks; rules 1 and 2 take much memory and come seldom.
+/// The rule that a turn breaks; rules 1 and 2 take much memory and come seldom, rule 14 can be broken in many ways and comes often.
 fn refusal(turn: u64) -> usize {
     match turn % 240 {
         17 => 1,
         34 | 134 => 2,
-        other => (other % 11) as usize + 3,
+        other => (other as usize % 14 + 3).min(14),
     }
 }
 
@@ -87,7 +87,7 @@ fn files(feed: &Feed, kind: Kind, random: &mut Random) -> Files {
     }
     match kind {
         Kind::Refused(4) if random.once_in(2) => cut_services(&mut files, random),
-        Kind::Refused(rule @ (1 | 2 | 4 | 5 | 6 | 7 | 10)) => break_bytes(&mut files[target], rule, random),
+        Kind::Refused(rule @ (1 | 2 | 4 | 5 | 6 | 7 | 10 | 14)) => break_bytes(&mut files[target], rule, random),
         Kind::Mutated => mutate(&mut files[target], random),
         Kind::Truncated if random.once_in(3) => cut_services(&mut files, random),
         Kind::Truncated => truncate(&mut files[target], random),
@@ -95,7 +95,7 @@ fn files(feed: &Feed, kind: Kind, random: &mut Random) -> Files {
     }
     // A second file that can't be read: the first one speaks.
     if matches!(kind, Kind::Refused(5..)) && random.once_in(3) {
-        let rule = *random.pick(&[5, 6, 7, 10]);
+        let rule = *random.pick(&[5, 6, 7, 10, 14]);
         break_bytes(&mut files[random.below(FILES)], rule, random);
     }
     files

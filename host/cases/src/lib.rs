@@ -2,6 +2,7 @@
 #![forbid(unsafe_code)]
 
 pub mod agree;
+pub mod characters;
 pub mod damage;
 pub mod edges;
 pub mod faults;

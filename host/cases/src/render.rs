@@ -6,9 +6,11 @@ use model::columns::Column;
 
 /// Names that no file knows, or that only look like a known one.
 const UNKNOWN: [&str; 10] =
-    ["", " stop_id", "Stop_id", "TRIP_ID", "stop_id ", "shape_id", "\"stop_id\"", "note", "zone,fare", "ä"];
+    ["", " stop_id", "Stop_id", "TRIP_ID", "stop_id ", "\u{feff}", "\"stop_id\"", "note", "zone,fare", "ä駅🚏"];
 
-const JUNK: [&[u8]; 9] = [b"", b"0", b"A ", b"a, b", b"say \"hi\"", b"\"", b"\x00", b"\xC3\xA4", b"\xFF\xEF\xBB\xBF"];
+/// What stands in unread columns: well-formed, as every line has to be.
+const JUNK: [&str; 11] =
+    ["", "0", "A ", "a, b", "say \"hi\"", "\"", "\0", "ä", "\u{feff}\u{ffff}", "東京, \"駅\"", "🚏\u{10ffff}"];
 
 /// Takes known columns out, puts unknown ones in, and changes their order.
 pub fn arrange(grid: &Grid, known: &[Column], faulty: bool, random: &mut Random) -> Grid {
@@ -28,7 +30,7 @@ pub fn arrange(grid: &Grid, known: &[Column], faulty: bool, random: &mut Random)
     for row in &grid.rows {
         let value = |place: &Option<usize>| match place {
             Some(place) => row[*place].clone(),
-            None => random.pick(&JUNK).to_vec(),
+            None => random.pick(&JUNK).as_bytes().to_vec(),
         };
         arranged.rows.push(places.iter().map(value).collect());
     }

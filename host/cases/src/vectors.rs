@@ -1,14 +1,14 @@
-//! Reads vector files; their form is explained at the top of vectors/e1.txt.
+//! Reads vector files; their form is explained at the top of vectors/e6.txt.
 
 use crate::{Case, Outcome};
 use model::{Answer, Files, Tables};
 
-/// The customer's vectors for document 01 with E2 and E1; the first line says so.
-pub const E1: &str = include_str!("../vectors/e1.txt");
+/// The customer's vectors for document 01 with E2, E1 and E6; the first line says so.
+pub const E6: &str = include_str!("../vectors/e6.txt");
 
 /// The customer's cases with what each must give.
 pub fn customers() -> Vec<(Case, Outcome)> {
-    read(E1).expect("vectors/e1.txt is well-formed")
+    read(E6).expect("vectors/e6.txt is well-formed")
 }
 
 /// The cases of a vector file, or what is wrong with it and where.

@@ -1,9 +1,13 @@
 //! The generator reaches everything that it is meant to reach.
 
+use cases::characters::ILL_FORMED;
 use cases::generate::{case, kind, Kind};
 use cases::{by_model, Case};
+use model::characters::first_character;
+use model::columns::COLUMNS;
+use model::fields::{fields, lines};
 use model::reading::read;
-use model::Answer;
+use model::{Answer, FILES};
 use std::collections::{BTreeMap, BTreeSet};
 
 const SEEDS: u64 = 6000;
@@ -37,8 +41,10 @@ fn every_answer_and_rule_is_reached() {
     println!("accepted {accepted}, refusals {refusals:?}, findings {findings:?}");
     assert!(accepted > 0);
     let numbers: BTreeSet<usize> = refusals.keys().map(|&(_, number)| number).collect();
-    assert_eq!(numbers, (1..=13).collect());
-    assert!((3..=13).all(|number| refusals.contains_key(&(6, number))), "file 6 breaks every rule but 1 and 2");
+    assert_eq!(numbers, (1..=14).collect());
+    assert!((3..=14).all(|number| refusals.contains_key(&(6, number))), "file 6 breaks every rule but 1 and 2");
+    let ill_formed: Vec<usize> = (1..=FILES).map(|file| refusals[&(file, 14)]).collect();
+    assert!(ill_formed.iter().all(|&seeds| seeds >= 40), "rule 14 in every file: {ill_formed:?}");
     let stands: [(i32, &[i32]); 6] = [
         (1, &[20, 21, 22]),
         (2, &[20, 25]),
@@ -74,6 +80,57 @@ fn every_way_to_give_services_is_reached() {
     assert_eq!(services.len(), 4, "{services:?}");
 }
 
+/// The lengths of the well-formed characters that a text begins with, and what follows them.
+fn characters(text: &[u8]) -> (BTreeSet<usize>, &[u8]) {
+    let mut lengths = BTreeSet::new();
+    let mut rest = text;
+    while let Some(length) = (!rest.is_empty()).then(|| first_character(rest)).flatten() {
+        lengths.insert(length);
+        rest = &rest[length..];
+    }
+    (lengths, rest)
+}
+
+/// Each way to be ill-formed, and headers as well as lines below.
+#[test]
+fn every_ill_formed_sequence_is_reached() {
+    let mut reached = BTreeMap::new();
+    let mut headers = BTreeSet::new();
+    for case in (0..SEEDS).filter(|&seed| kind(seed) == Kind::Refused(14)).map(case) {
+        let Answer::Refused { number: 14, file, line } = by_model(&case).answer else { continue };
+        let (_, rest) = characters(lines(&case.files[file - 1])[line - 1].text);
+        ILL_FORMED.iter().filter(|ill| rest.starts_with(ill)).for_each(|ill| *reached.entry(*ill).or_insert(0) += 1);
+        headers.insert(line == 1);
+    }
+    assert!(reached.len() == ILL_FORMED.len() && reached.values().all(|&seeds| seeds >= 5), "{reached:02X?}");
+    assert_eq!(headers.len(), 2);
+}
+
+/// Feeds that are read have characters of every length in headers, under columns of ids, of names, and under unread ones.
+#[test]
+fn characters_of_every_length_are_read() {
+    let mut reached = BTreeSet::new();
+    for case in (0..SEEDS / 10).map(case) {
+        if read(&case.files, case.tables.each_ref().map(Vec::len)).is_err() {
+            continue;
+        }
+        for (file, columns) in case.files.iter().zip(COLUMNS) {
+            let mut rows = lines(file).into_iter().map(|line| fields(line).expect("a line that is read"));
+            let header = rows.next().unwrap_or_default();
+            reached.extend(header.iter().flat_map(|name| characters(&name.value).0).map(|length| ("header", length)));
+            for (field, name) in rows.flat_map(|row| row.into_iter().zip(&header).collect::<Vec<_>>()) {
+                let under = match columns.iter().find(|column| column.name.as_bytes() == name.value) {
+                    Some(column) if column.is_id() => "id",
+                    Some(_) => "other",
+                    None => "unread",
+                };
+                reached.extend(characters(&field.value).0.into_iter().map(|length| (under, length)));
+            }
+        }
+    }
+    assert_eq!(reached.len(), 4 * 4, "{reached:?}");
+}
+
 #[test]
 fn a_clean_feed_is_accepted_unless_its_tables_are_short() {
     for seed in (0..SEEDS).filter(|&seed| kind(seed) == Kind::Clean) {
@@ -81,6 +138,15 @@ fn a_clean_feed_is_accepted_unless_its_tables_are_short() {
         let answer = by_model(&case).answer;
         let short = matches!(answer, Answer::Refused { number: 3, .. });
         assert!(answer == Answer::Accepted || short, "{}: {answer:?}", case.name);
+    }
+}
+
+#[test]
+fn a_faulty_feed_is_read_unless_its_tables_are_short() {
+    for seed in (0..SEEDS).filter(|&seed| kind(seed) == Kind::Faulty) {
+        let case = case(seed);
+        let answer = by_model(&case).answer;
+        assert!(!matches!(answer, Answer::Refused { number: 4.., .. }), "{}: {answer:?}", case.name);
     }
 }
 

@@ -90,6 +90,23 @@ fn ids_are_as_long_as_said() {
 }
 
 #[test]
+fn characters_are_as_wide_as_said() {
+    let widths =
+        |text: &[u8]| std::str::from_utf8(text).expect("UTF-8").chars().map(char::len_utf8).collect::<Vec<_>>();
+    let (files, tables) = filled("three-bytes");
+    for file in 0..4 {
+        let ids = tables[file].iter().map(|record| &files[file][record[0] as usize..record[1] as usize]);
+        assert!(ids.into_iter().all(|id| widths(id) == [3; 21]), "file {}", file + 1);
+    }
+    let (files, tables) = filled("mixed-bytes");
+    assert_eq!(tables, filled("plain").1);
+    let notes =
+        files[4].split(|&byte| byte == b'\n').skip(1).filter_map(|line| line.rsplit(|&byte| byte == b',').next());
+    let notes: Vec<Vec<usize>> = notes.filter(|note| !note.is_empty()).map(widths).collect();
+    assert_eq!(notes, vec![[1, 2, 3, 4].repeat(16); 63]);
+}
+
+#[test]
 fn references_go_where_they_should() {
     let [stops, ..] = filled("last-parent").1;
     assert!(stops[..62].iter().all(|stop| stop[5] == 63) && stops[62][5] == 0);

@@ -4,7 +4,7 @@ use cases::{by_model, difference, vectors};
 
 #[test]
 fn the_model_agrees_with_every_vector() {
-    assert_eq!(vectors::E1.lines().next(), Some("# Document 01 with requests E2,E1 in force."));
+    assert_eq!(vectors::E6.lines().next(), Some("# Document 01 with requests E2,E1,E6 in force."));
     let vectors = vectors::customers();
     assert_eq!(vectors.len(), 400);
     for (case, wanted) in &vectors {

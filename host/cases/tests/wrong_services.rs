@@ -1,4 +1,4 @@
-//! Likely wrong readings of E1: edge cases and generated feeds tell every one of them from the right one, vectors most.
+//! Likely wrong readings of E1: vectors, edge cases and generated feeds each tell every one of them from the right one.
 
 use cases::edges::BASE;
 use cases::{by_model, edges, generate, vectors, Case, Outcome};
@@ -224,8 +224,8 @@ fn by(reading: &Reading, case: &Case) -> Outcome {
     outcome
 }
 
-/// Fails unless the right reading gives the model's outcome on every case, and each wrong one but these differs on some.
-fn told_apart(cases: impl Iterator<Item = Case>, but: &[&str]) {
+/// Fails unless the right reading gives the model's outcome on every case, and each wrong one differs on some.
+fn told_apart(cases: impl Iterator<Item = Case>) {
     let mut missed: BTreeSet<&str> = WRONG.iter().map(|(name, _)| *name).collect();
     for case in cases.filter(|case| case.files.iter().all(|file| file.len() < 100_000)) {
         let wanted = by_model(&case);
@@ -233,22 +233,20 @@ fn told_apart(cases: impl Iterator<Item = Case>, but: &[&str]) {
         let differs = |name: &&str| WRONG.iter().any(|(own, wrong)| own == name && by(wrong, &case) != wanted);
         missed.retain(|name| !differs(name));
     }
-    assert_eq!(missed, but.iter().copied().collect(), "not told apart");
+    assert!(missed.is_empty(), "not told apart: {missed:?}");
 }
 
 #[test]
 fn by_the_vectors() {
-    // In none of the customer's feeds lines of two such files are refused.
-    let but = ["file 6 read before file 5", "file 6 read behind file 3"];
-    told_apart(vectors::customers().into_iter().map(|(case, _)| case), &but);
+    told_apart(vectors::customers().into_iter().map(|(case, _)| case));
 }
 
 #[test]
 fn by_the_edge_cases() {
-    told_apart(edges::of_services().into_iter(), &[]);
+    told_apart(edges::of_services().into_iter());
 }
 
 #[test]
 fn by_generated_feeds() {
-    told_apart((0..SEEDS).map(generate::case), &[]);
+    told_apart((0..SEEDS).map(generate::case));
 }

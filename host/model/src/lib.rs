@@ -1,6 +1,7 @@
-//! The whole check of document 01 with requests E2 and E1, written naively from the documents: files in, tables, list and answer out.
+//! The whole check of document 01 with requests E2, E1 and E6, written naively from the documents: files in, tables, list and answer out.
 #![forbid(unsafe_code)]
 
+pub mod characters;
 pub mod columns;
 pub mod facts;
 pub mod fields;
@@ -27,7 +28,7 @@ pub enum Answer {
     Accepted,
     /// How many findings were written to the list, and how many the whole feed has.
     Findings { written: usize, total: usize },
-    /// The rule broken (1 to 13), the file (1 to 6) and the line (0 for a whole file).
+    /// The rule broken (1 to 14), the file (1 to 6) and the line (0 for a whole file).
     Refused { number: usize, file: usize, line: usize },
 }
 

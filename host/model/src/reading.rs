@@ -1,5 +1,6 @@
-//! Refusals 1 to 13, and the values of a feed that can be read.
+//! Refusals 1 to 14, and the values of a feed that can be read.
 
+use crate::characters::well_formed;
 use crate::columns::{Column, COLUMNS, WIDTHS};
 use crate::fields::{fields, line_ends, lines, Field, Line};
 use crate::forms::number;
@@ -107,10 +108,13 @@ fn sheet(file: &[u8], columns: &'static [Column]) -> Result<Sheet, (usize, usize
     Ok(Sheet { supplied: true, columns, rows })
 }
 
-/// Rules 5, 6 and 7, which every line has to hold: its fields.
+/// Rules 5, 14, 6 and 7, which every line has to hold, tested in this order: its fields.
 fn fields_of(line: Line) -> Result<Vec<Field>, usize> {
     if line.text.contains(&b'\t') || line.text.contains(&b'\r') {
         return Err(5);
+    }
+    if !well_formed(line.text) {
+        return Err(14);
     }
     let fields = fields(line).ok_or(6_usize)?;
     if fields.len() > 32 {
@@ -119,7 +123,7 @@ fn fields_of(line: Line) -> Result<Vec<Field>, usize> {
     Ok(fields)
 }
 
-/// Rules 5 to 9: the names of the header line.
+/// Rules 5 to 9 and 14: the names of the header line.
 fn header(line: Line, columns: &[Column]) -> Result<Vec<Vec<u8>>, usize> {
     let names: Vec<Vec<u8>> = fields_of(line)?.into_iter().map(|field| field.value).collect();
     let times = |column: &Column| names.iter().filter(|name| *name == column.name.as_bytes()).count();
@@ -132,7 +136,7 @@ fn header(line: Line, columns: &[Column]) -> Result<Vec<Vec<u8>>, usize> {
     Ok(names)
 }
 
-/// Rules 5 to 7 and 10 to 13: the fields of a record line under the known columns.
+/// Rules 5 to 7 and 10 to 14: the fields of a record line under the known columns.
 fn row(line: Line, columns: &[Column], header: &[Vec<u8>]) -> Result<Vec<Field>, usize> {
     let fields = fields_of(line)?;
     if fields.len() != header.len() {

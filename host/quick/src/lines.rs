@@ -19,21 +19,30 @@ const fn marked(bytes: &[u8]) -> [bool; 256] {
     marks
 }
 
+/// Where the first ill-formed character of a file begins, or the file's length. LF is no part of a character, so that the
+/// first line that isn't well-formed is the one with this place.
+pub fn ill_formed(file: &[u8]) -> usize {
+    std::str::from_utf8(file).map_or_else(|error| error.valid_up_to(), str::len)
+}
+
 /// The line cut last: field k is between edge k and the byte before edge k + 1, counted from the file's first byte.
 pub struct Cut {
     edges: [usize; MOST + 1],
+    /// Where the first ill-formed character begins.
+    ill_formed: usize,
     /// How many fields it has.
     pub count: usize,
 }
 
 impl Cut {
-    pub fn new() -> Self {
-        Cut { edges: [0; MOST + 1], count: 0 }
+    pub fn new(ill_formed: usize) -> Self {
+        Cut { edges: [0; MOST + 1], ill_formed, count: 0 }
     }
 
-    /// Cuts the line that starts here and tells where the next one starts, or which of rules 5, 6 and 7 it breaks.
+    /// Cuts the line that starts here and tells where the next one starts, or which of rules 5, 14, 6 and 7 it breaks.
     pub fn cut(&mut self, file: &[u8], from: usize) -> Result<usize, usize> {
-        self.fields(file, from).ok_or_else(|| rule_broken(file, from))
+        let next = self.fields(file, from).filter(|&next| next <= self.ill_formed);
+        next.ok_or_else(|| self.rule_broken(file, from))
     }
 
     fn fields(&mut self, file: &[u8], from: usize) -> Option<usize> {
@@ -57,6 +66,21 @@ impl Cut {
     pub fn bounds(&self, field: usize) -> (usize, usize) {
         (self.edges[field], self.edges[field + 1] - 1)
     }
+
+    /// Which rule a line breaks that couldn't be cut: 5, 14 or 6 wherever it stands on the line, else 7.
+    fn rule_broken(&self, file: &[u8], from: usize) -> usize {
+        let line = file[from..].split(|&byte| byte == b'\n').next().unwrap_or_default();
+        let line = line.strip_suffix(b"\r").unwrap_or(line);
+        if line.iter().any(|&byte| byte == b'\t' || byte == b'\r') {
+            5
+        } else if self.ill_formed < from + line.len() {
+            14
+        } else if !well_quoted(line) {
+            6
+        } else {
+            7
+        }
+    }
 }
 
 /// The place after the field that starts here.
@@ -78,19 +102,6 @@ fn quotes_end(file: &[u8], from: usize) -> Option<usize> {
             [b'"', ..] => return Some(at + 1),
             _ => return None,
         }
-    }
-}
-
-/// Which rule a line breaks that couldn't be cut: 5 or 6 wherever it stands on the line, else 7.
-fn rule_broken(file: &[u8], from: usize) -> usize {
-    let line = file[from..].split(|&byte| byte == b'\n').next().unwrap_or_default();
-    let line = line.strip_suffix(b"\r").unwrap_or(line);
-    if line.iter().any(|&byte| byte == b'\t' || byte == b'\r') {
-        5
-    } else if !well_quoted(line) {
-        6
-    } else {
-        7
     }
 }
 

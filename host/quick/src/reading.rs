@@ -1,7 +1,7 @@
-//! Refusals 1 to 13: rules 1 to 4 over whole files, then each file once, line by line.
+//! Refusals 1 to 14: rules 1 to 4 over whole files, then each file once, line by line.
 
 use crate::header::Header;
-use crate::lines::Cut;
+use crate::lines::{ill_formed, Cut};
 use crate::records::{Call, Record, Route, Service, ServiceDate, Stop, Trip};
 use crate::row::Row;
 use model::{Answer, Files, FILES};
@@ -77,7 +77,7 @@ fn file<'a, R: Record<'a>>(files: &'a Files, lines: [usize; FILES], number: usiz
 /// Reads a file's lines into records; the first rule broken comes with its line.
 fn fill<'a, R: Record<'a>>(file: &'a [u8], records: &mut Vec<R>) -> Result<(), (usize, usize)> {
     let start = if file.starts_with(b"\xEF\xBB\xBF") { 3 } else { 0 };
-    let mut line = Cut::new();
+    let mut line = Cut::new(ill_formed(file));
     let on_line_1 = |rule| (rule, 1);
     let mut at = line.cut(file, start).map_err(on_line_1)?;
     let header = Header::read(file, &line, &R::COLUMNS).map_err(on_line_1)?;

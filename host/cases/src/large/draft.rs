@@ -71,6 +71,15 @@ impl Draft {
         self.0[file - 1] = lines.concat();
     }
 
+    /// A further column of a file, which is unread, with this text on every line.
+    pub fn note(&mut self, file: usize, text: &str) {
+        let bytes = std::mem::take(&mut self.0[file - 1]);
+        for (place, line) in bytes.split(|&byte| byte == b'\n').filter(|line| !line.is_empty()).enumerate() {
+            let text = if place == 0 { "note" } else { text };
+            self.0[file - 1].extend([line, b",", text.as_bytes(), b"\n"].concat());
+        }
+    }
+
     /// Puts every field of every file in quotes, those of the headers too.
     pub fn quote(&mut self) {
         for file in &mut self.0 {

@@ -2,7 +2,7 @@
 
 use super::dated;
 use super::draft::Draft;
-use super::plan::{prefixed, short, stop_of, with_long_trips, Plan};
+use super::plan::{of_three_bytes, prefixed, short, stop_of, with_long_trips, Plan};
 use crate::random::Random;
 use model::Files;
 
@@ -29,7 +29,7 @@ const fn family(name: &'static str, kind: Kind, feed: fn(usize) -> Files, about:
 }
 
 /// All families, in the benchmark's order.
-pub const FAMILIES: [Family; 33] = [
+pub const FAMILIES: [Family; 35] = [
     family("plain", Kind::Plain, plain, "trips one after the other, ten lines a trip"),
     family("long-ids", Kind::Hard, long_ids, "trip ids of 64 bytes, two lines a trip"),
     family("last-parent", Kind::Hard, last_parent, "all stops have the same parent, on the last line of stops"),
@@ -56,6 +56,13 @@ pub const FAMILIES: [Family; 33] = [
     family("one-nowhere", Kind::Hard, one_nowhere, "as one-backward, but the trip stands nowhere"),
     family("one-sequence", Kind::Hard, one_sequence, "as one-trip, but all its sequences are equal"),
     family("quoted", Kind::Plain, quoted, "as plain, and every field is quoted"),
+    family("three-bytes", Kind::Hard, three_bytes, "as plain, and all ids are 21 characters of three bytes"),
+    family(
+        "mixed-bytes",
+        Kind::Hard,
+        mixed_bytes,
+        "as plain, and each line of stop_times has an unread note, characters of one to four bytes by turns",
+    ),
     family(
         "dates-only",
         Kind::Plain,
@@ -159,6 +166,16 @@ fn shuffled(lines: usize) -> Files {
 fn quoted(lines: usize) -> Files {
     let mut draft = Plan::new(lines, short).write();
     draft.quote();
+    draft.0
+}
+
+fn three_bytes(lines: usize) -> Files {
+    Plan::new(lines, of_three_bytes).write().0
+}
+
+fn mixed_bytes(lines: usize) -> Files {
+    let mut draft = Plan::new(lines, short).write();
+    draft.note(5, &"aä駅🚏".repeat(16));
     draft.0
 }
 

@@ -24,6 +24,12 @@ pub fn prefixed(_: char, number: usize) -> String {
     format!("{:060}{}", 0, last.iter().collect::<String>())
 }
 
+/// The number in 21 digits, the last one first, and for each digit a character of three bytes.
+pub fn of_three_bytes(_: char, number: usize) -> String {
+    let wide = |digit: u8| char::from_u32(0x4E00 + u32::from(digit)).unwrap_or('-');
+    format!("{number:021}").bytes().rev().map(wide).collect()
+}
+
 /// The stop at which a trip calls at a place along it.
 pub fn stop_of(trip: usize, place: usize, stops: usize) -> usize {
     (trip * 7 + place) % stops
