@@ -10,8 +10,8 @@ extern "C" {
 #endif
 
 /* The version of the check, as a text and as a number: 10000 for each major, 100 for each minor step. */
-#define TUSUCHIY_VERSION "0.3.0"
-#define TUSUCHIY_VERSION_NUMBER 300
+#define TUSUCHIY_VERSION "0.4.0"
+#define TUSUCHIY_VERSION_NUMBER 400
 
 /* The six files have numbers: in `file` of an answer and of a finding. */
 enum {
