@@ -101,9 +101,6 @@ def hostile(folder):
         routes += [f"{field},,,3"]
         trips += [f"{quoted(value + '?')},{field},{field}"]
         times += [f"{field},08:0{n % 10}:00,08:00:00,{field},1", f"{field},07:00:00,08:00:00,{field},2", f"{field},,,{field},2"]
-    # What isn't UTF-8.
-    stops.append(b"\xff\xfe<b>,\xc3,1,1,1,\x80")
-    trips.append(b"\xff,W,\xed\xa0\x80<i>")
     dates = ["service_id,date,exception_type"] + [f"{quoted(value + '.')},20260101,{kind}" for value in MARKUP for kind in [1, 2]]
     put(folder, stops, routes, CALENDAR + [WEEK], trips, times, dates)
     open(os.path.join(folder, "<svg onload=window.broken=1>.txt"), "w").close()
@@ -112,7 +109,12 @@ def hostile(folder):
 
 # Refused at a line of markup, and not by a word that is plain.
 def hostile_refused(folder):
-    return put(folder, ["stop_id,stop_name,stop_lat,stop_lon", b"A," + MARKUP[0].encode() + b"\xff,<b>1</b>,2"], ["route_id"], CALENDAR, ["x"], ["x"])
+    return put(folder, ["stop_id,stop_name,stop_lat,stop_lon", "A," + MARKUP[0] + ",<b>1</b>,2"], ["route_id"], CALENDAR, ["x"], ["x"])
+
+
+# Refused at a byte that isn't UTF-8, with more of them and markup around it.
+def hostile_bytes(folder):
+    return put(folder, ["stop_id,stop_name,stop_lat,stop_lon", b"\xc3\xa9<b>,<i>\xed\xa0\x80<i>\xff" + MARKUP[0].encode() + b",1,2"], ["route_id"], CALENDAR, ["x"], ["x"])
 
 
 # One trip whose lines stand in another order than their sequence: the third departs late, so the fourth arrives before it.

@@ -90,7 +90,7 @@ def unquoted(field):
 
 # What is marked stands in the finding's own columns.
 def compare_marks(case, card, found):
-    columns = {20: 1, 21: 1, 22: 1, 23: 1, 24: 2, 26: 2, 27: 2, 28: 1, 29: 1, 30: 1, 31: 1, 5: 1, 6: 1, 8: 1, 11: 1, 12: 1, 13: 1}
+    columns = {20: 1, 21: 1, 22: 1, 23: 1, 24: 2, 26: 2, 27: 2, 28: 1, 29: 1, 30: 1, 31: 1, 5: 1, 6: 1, 8: 1, 11: 1, 12: 1, 13: 1, 14: 1}
     holds(f"{case.name}: marks of {card}", len(card["marks"]) >= columns.get(number(found), 0))
     about = found["about"]
     # What can't be printed is shown as an escape.
@@ -98,6 +98,8 @@ def compare_marks(case, card, found):
         same(f"{case.name}: mark", unquoted(card["marks"][0][1]), about["value"])
     if "date" in about:
         same(f"{case.name}: mark of the date", card["marks"][1:], [["date", about["date"]]])
+    if number(found) == 14:
+        same(f"{case.name}: mark", card["marks"], [[f"byte {about['byte']}", f"\\x{about['found']}"]])
     if number(found) == 24:
         same(f"{case.name}: marks", [text for _, text in card["marks"]], [about["start_date"], about["end_date"]])
     if number(found) == 28:
@@ -371,12 +373,12 @@ def every_page(browser, case):
 def main():
     os.makedirs(PICTURES, exist_ok=True)
     with tempfile.TemporaryDirectory() as folder:
-        for name in ["many", "town", "hostile_refused", "shuffled"]:
+        for name in ["many", "town", "hostile_refused", "hostile_bytes", "shuffled"]:
             getattr(feeds, name)(os.path.join(folder, name))
         feeds.hostile(os.path.join(folder, feeds.HOSTILE_NAME))
         large_case = Case(folder, "many", "many", plain=True)
         cases = {name: Case(folder, name, os.path.join(TOP, "examples", name)) for name in ["feed", "findings", "refused", "by-date"]}
-        cases.update({name: Case(folder, name, name) for name in ["town", "hostile_refused", "shuffled"]})
+        cases.update({name: Case(folder, name, name) for name in ["town", "hostile_refused", "hostile_bytes", "shuffled"]})
         cases["hostile"] = Case(folder, "hostile", feeds.HOSTILE_NAME)
         browser = Browser()
         try:
@@ -385,6 +387,7 @@ def main():
             for case in cases.values():
                 every_page(browser, case.wait())
                 looks(browser, case)
+            same("hostile_bytes: the refusal", number(cases["hostile_bytes"].json["refusal"]), 14)
             browser.open(cases["town"].page)
             filters(browser, cases["town"], "entrance")
             holds("town: stops where trips call", stops_map(browser, cases["town"]) >= 2)

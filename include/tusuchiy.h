@@ -10,8 +10,8 @@ extern "C" {
 #endif
 
 /* The version of the check, as a text and as a number: 10000 for each major, 100 for each minor step. */
-#define TUSUCHIY_VERSION "0.3.0"
-#define TUSUCHIY_VERSION_NUMBER 300
+#define TUSUCHIY_VERSION "0.4.0"
+#define TUSUCHIY_VERSION_NUMBER 400
 
 /* The six files have numbers: in `file` of an answer and of a finding. */
 enum {
@@ -48,7 +48,8 @@ enum {
     TUSUCHIY_REFUSED = 2   /* the files can't be read: see number, file, line */
 };
 
-/* Values of `number`: why a file can't be read. docs/RULES.md says more of each, tusuchiy_meanings.h a few words. */
+/* Values of `number`: why a file can't be read. docs/RULES.md says more of each, tusuchiy_meanings.h a few words.
+ * On a line the lowest number is named, but 14 comes after 5 and before 6. */
 enum {
     TUSUCHIY_REFUSAL_TOO_MANY_BYTES = 1,
     TUSUCHIY_REFUSAL_TOO_MANY_LINES = 2,
@@ -62,7 +63,8 @@ enum {
     TUSUCHIY_REFUSAL_FIELD_COUNT = 10,
     TUSUCHIY_REFUSAL_LONG_ID = 11,
     TUSUCHIY_REFUSAL_EMPTY_VALUE = 12,
-    TUSUCHIY_REFUSAL_MALFORMED_VALUE = 13
+    TUSUCHIY_REFUSAL_MALFORMED_VALUE = 13,
+    TUSUCHIY_REFUSAL_BAD_UTF8 = 14
 };
 
 /* The rules of findings. */
@@ -83,7 +85,7 @@ enum {
 
 typedef struct {
     int32_t verdict;            /* 0 accepted, 1 findings, 2 refused */
-    int32_t number, file, line; /* of a refusal (1 to 13; 1 to 6; 0 for a whole file), else 0 */
+    int32_t number, file, line; /* of a refusal (1 to 14; 1 to 6; 0 for a whole file), else 0 */
     int32_t column;             /* always 0 for now */
     int32_t written, total;     /* of the findings, else 0: how many this call wrote, how many the feed has */
 } tusuchiy_answer;

@@ -4,7 +4,7 @@
 
 #include <stdint.h>
 
-/* The meaning of a refusal (1 to 13) or a rule (20 to 31); "" for any other number. The words may change, the numbers don't. */
+/* The meaning of a refusal (1 to 14) or a rule (20 to 31); "" for any other number. The words may change, the numbers don't. */
 static inline const char *tusuchiy_meaning(int32_t number) {
     switch (number) {
     case 1: return "the file is longer than 16,777,216 bytes";
@@ -20,6 +20,7 @@ static inline const char *tusuchiy_meaning(int32_t number) {
     case 11: return "an id is longer than 64 bytes";
     case 12: return "a value that is needed is empty";
     case 13: return "a value doesn't have the form that its column asks for";
+    case 14: return "the line isn't well-formed UTF-8";
     case 20: return "the id, or the service and date, stands on an earlier line of the file";
     case 21: return "a reference names no line";
     case 22: return "the parent station doesn't fit the kind of stop";

@@ -222,7 +222,7 @@ pub fn of_refusal(files: &Files, number: usize, file: usize, line: usize) -> Fac
         2 => return vec![("lines", count(line_ends(bytes))), ("limit", count(65_536))],
         4 => {
             let clause = if bytes.is_empty() { "empty" } else { "no_line_end" };
-            return vec![("clause", text(clause)), ("missing", Fact::List(Vec::new()))];
+            return vec![("clause", text(clause)), ("missing", Fact::List(Vec::new())), ("guess", utf_16(bytes))];
         }
         _ => {}
     }
@@ -232,7 +232,7 @@ pub fn of_refusal(files: &Files, number: usize, file: usize, line: usize) -> Fac
     let header = || values(fields(lines[0]).expect("a header that is read"));
     let own_fields = || fields(own).expect("a line of good marks");
     match number {
-        5 => stray(own),
+        5 => [stray(own), vec![("guess", utf_16(bytes))]].concat(),
         6 => marks(own),
         7 => vec![("fields", count(own_fields().len())), ("limit", count(32))],
         8 => twice(&header(), columns),
@@ -241,6 +241,7 @@ pub fn of_refusal(files: &Files, number: usize, file: usize, line: usize) -> Fac
             vec![("columns", Fact::List(missing.map(|column| text(column.name)).collect()))]
         }
         10 => vec![("fields", count(own_fields().len())), ("header_fields", count(header().len()))],
+        14 => bad_byte(own, bytes),
         _ => bad_value(number, &header(), own_fields(), columns),
     }
 }
@@ -255,6 +256,50 @@ fn stray(line: Line) -> Facts {
     let cr = line.text.iter().position(|&byte| byte == b'\r').unwrap_or(usize::MAX);
     let found = if tab < cr { "tab" } else { "CR" };
     vec![("found", text(found)), ("byte", count(tab.min(cr) + 1))]
+}
+
+/// Rule 14: the first byte that is left over when characters are taken off the line's front, and what the file may be.
+fn bad_byte(line: Line, file: &[u8]) -> Facts {
+    let mut rest = line.text;
+    while let Some(length) = (1..=4.min(rest.len())).find(|&length| is_character(&rest[..length])) {
+        rest = &rest[length..];
+    }
+    let found = rest.first().expect("a byte that begins no character");
+    let guess = match utf_16(file) {
+        Fact::None if *found != 0xC2 && *found != 0xC3 && may_be_windows_1252(file) => text("windows-1252"),
+        guess => guess,
+    };
+    vec![("found", text(format!("{found:02X}"))), ("byte", count(line.text.len() - rest.len() + 1)), ("guess", guess)]
+}
+
+/// Are these bytes what UTF-8 writes for one character? Their low bits are its number, and it is written again.
+fn is_character(bytes: &[u8]) -> bool {
+    let first = match bytes.len() {
+        1 => bytes[0],
+        length => bytes[0] & (0x7F >> length),
+    };
+    let number = bytes[1..].iter().fold(u32::from(first), |number, byte| number << 6 | u32::from(byte & 0x3F));
+    char::from_u32(number).is_some_and(|char| char.to_string().as_bytes() == bytes)
+}
+
+/// utf-16 for a file that begins with its mark.
+fn utf_16(file: &[u8]) -> Fact {
+    match file {
+        [0xFF, 0xFE, ..] | [0xFE, 0xFF, ..] => text("utf-16"),
+        _ => Fact::None,
+    }
+}
+
+/// Windows-1252 has no character for five bytes; one that begins a character in UTF-8 has none behind it that goes on.
+fn may_be_windows_1252(file: &[u8]) -> bool {
+    for (place, byte) in file.iter().enumerate() {
+        let next = file.get(place + 1).copied().unwrap_or(b'\n');
+        let as_in_utf_8 = (0xC2..=0xF4).contains(byte) && (0x80..=0xBF).contains(&next);
+        if as_in_utf_8 || [0x81, 0x8D, 0x8F, 0x90, 0x9D].contains(byte) {
+            return false;
+        }
+    }
+    true
 }
 
 /// Rule 6: the first byte after which no line end can be good any more, or the mark that nothing closes.

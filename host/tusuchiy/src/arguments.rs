@@ -183,7 +183,7 @@ fn report(mut found: Found) -> Result<Asked, String> {
 
 fn explain(words: &[OsString]) -> Result<Command, String> {
     let [word] = words else {
-        return Err("explain takes one number: 1 to 13 or 20 to 31".to_string());
+        return Err("explain takes one number: 1 to 14 or 20 to 31".to_string());
     };
     let number = word.to_str().and_then(|word| word.parse().ok());
     number.map(Command::Explain).ok_or_else(|| format!("explain takes a number, and {} is none", shown(word)))

@@ -80,7 +80,7 @@ impl Display for File {
 #[derive(Clone, Copy, Debug, PartialEq, Eq, PartialOrd, Ord, Hash)]
 pub struct Rule(u8);
 
-/// A reason why a feed can't be read, 1 to 13.
+/// A reason why a feed can't be read, 1 to 14.
 #[derive(Clone, Copy, Debug, PartialEq, Eq, PartialOrd, Ord, Hash)]
 pub struct Refusal(u8);
 
@@ -126,7 +126,7 @@ macro_rules! numbered {
 }
 
 numbered!(Rule, "rule", 20, 31);
-numbered!(Refusal, "refusal", 1, 13);
+numbered!(Refusal, "refusal", 1, 14);
 
 /// A place where a rule is broken.
 #[derive(Clone, Copy, Debug, PartialEq, Eq, PartialOrd, Ord, Hash)]
@@ -170,9 +170,9 @@ mod tests {
         }
         assert!([0, 7].iter().all(|&number| File::new(number).is_none()));
         assert!(Rule::all().map(Rule::number).eq(20..=31));
-        assert!(Refusal::all().map(Refusal::number).eq(1..=13));
+        assert!(Refusal::all().map(Refusal::number).eq(1..=14));
         assert!([19, 32, 276].iter().all(|&number| Rule::new(number).is_none()));
-        assert!([0, 14, 257].iter().all(|&number| Refusal::new(number).is_none()));
+        assert!([0, 15, 257].iter().all(|&number| Refusal::new(number).is_none()));
     }
 
     #[test]

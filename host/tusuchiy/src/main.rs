@@ -3,6 +3,7 @@
 
 mod arguments;
 mod columns;
+mod encoding;
 mod facts;
 mod feed;
 mod fields;

@@ -63,7 +63,7 @@ pub const VERBS: &[Verb] = &[
     Verb {
         name: "explain",
         operand: "RULE",
-        help: "what a refusal (1 to 13) or a rule (20 to 31) means, and how to mend it",
+        help: "what a refusal (1 to 14) or a rule (20 to 31) means, and how to mend it",
         flags: &[],
     },
 ];

@@ -1,6 +1,7 @@
 //! What a refusal is about. The check names file and line; where it refused a value, it is asked about each column again.
 
 use crate::columns::{Column, COLUMNS};
+use crate::encoding::{guess, guess_by_mark, ill_formed, windows_1252, Guess};
 use crate::facts::{names, shown, shown_value, About};
 use crate::feed::{Feed, FILES, MOST_BYTES, MOST_LINES};
 use crate::fields::{split, value, Wrong};
@@ -14,17 +15,19 @@ const MOST_ID_BYTES: usize = 64;
 /// What a refusal is about.
 pub fn about(feed: &Feed, number: usize, file: usize, line: usize) -> About {
     let text = feed.line(file, line).unwrap_or(&[]);
+    let bytes = feed.slices()[file - 1];
     match number {
         1 => one_number(format!("it has more than {MOST_BYTES} bytes"), "limit", MOST_BYTES),
         2 => counted(format!("it has {} lines", feed.line_count(file)), "lines", feed.line_count(file), MOST_LINES),
-        4 => File::new(file).map_or_else(About::default, |file| no_end(feed, file)),
-        5 => stray(text),
+        4 => File::new(file).map_or_else(About::default, |file| guessed(no_end(feed, file), guess_by_mark(bytes))),
+        5 => guessed(stray(text), guess_by_mark(bytes)),
         6 => marks(text),
         7 => counted(format!("it has {} fields", field_count(text)), "fields", field_count(text), MOST_FIELDS),
         8 => twice(feed, file),
         9 => missing(feed, file),
         10 => counts(field_count(text), names(feed, file).len()),
         11..=13 => bad_value(feed, number, file, text).unwrap_or_default(),
+        14 => bad_byte(bytes, text).unwrap_or_default(),
         _ => About::default(),
     }
 }
@@ -70,6 +73,29 @@ fn stray(text: &[u8]) -> About {
         words: format!("byte {} of the line is a {found}", place + 1),
         members: vec![("found", Value::text(found)), ("byte", Value::size(place + 1))],
     }
+}
+
+/// A byte at which no UTF-8 character begins.
+fn bad_byte(file: &[u8], text: &[u8]) -> Option<About> {
+    let place = ill_formed(text)?;
+    let byte = text[place];
+    let guess = guess(file, byte);
+    let letter = windows_1252(byte).filter(|_| guess == Some(Guess::Windows1252)).map(String::from);
+    let hint = letter.map_or(String::new(), |letter| format!("; in Windows-1252 it is {}", shown(letter.as_bytes())));
+    let about = About {
+        words: format!("byte {} of the line, {byte:02X}, begins no UTF-8 character{hint}", place + 1),
+        members: vec![("found", Value::text(format!("{byte:02X}"))), ("byte", Value::size(place + 1))],
+    };
+    Some(guessed(about, guess))
+}
+
+/// The same with the encoding that the file may have; in UTF-16 no line ends where a reader of bytes looks for it.
+fn guessed(mut about: About, guess: Option<Guess>) -> About {
+    if guess == Some(Guess::Utf16) {
+        about.words += "; the file begins with the mark of UTF-16: save it as UTF-8";
+    }
+    about.members.push(("guess", guess.map_or(Value::Null, |guess| Value::text(guess.name()))));
+    about
 }
 
 fn marks(text: &[u8]) -> About {

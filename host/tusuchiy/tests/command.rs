@@ -341,7 +341,7 @@ fn escapes_go_to_able_terminals_only() {
 
 #[test]
 fn explain_prints_the_clerks_page() {
-    for number in (1..=13).chain(20..=31) {
+    for number in (1..=14).chain(20..=31) {
         let output = run(&["explain", &number.to_string()]);
         assert_eq!(status(&output), 0);
         let word = if number < 20 { "Refusal" } else { "Rule" };
@@ -349,7 +349,7 @@ fn explain_prints_the_clerks_page() {
         assert_eq!(out(&output).matches("\n#").count(), 0);
         assert!(out(&output).contains("**How to mend it.**"));
     }
-    for bad in ["0", "14", "19", "32"] {
+    for bad in ["0", "15", "19", "32"] {
         assert_cannot(&["explain", bad], &["there is no refusal or rule"]);
     }
 }
@@ -390,7 +390,7 @@ fn help_and_version_are_there() {
     }
     for words in [&["--version"][..], &["-V"], &["check", "--version"]] {
         let output = run(words);
-        assert_eq!((status(&output), out(&output)), (0, "tusuchiy 0.3.0\n"), "{words:?}");
+        assert_eq!((status(&output), out(&output)), (0, "tusuchiy 0.4.0\n"), "{words:?}");
     }
 }
 

@@ -4,7 +4,7 @@ mod common;
 
 use cases::generate;
 use common::json::Json;
-use common::{document, json, out, run, status, Folder};
+use common::{document, example_files, json, out, run, status, Folder};
 use model::columns::COLUMNS;
 use model::facts::{of_finding, of_refusal, Fact, Facts};
 use model::forms::Form;
@@ -114,7 +114,7 @@ fn the_facts_are_the_models() {
             }
         }
     }
-    let all: BTreeSet<i64> = (1..=13).filter(|number| *number != 3).chain(20..=31).collect();
+    let all: BTreeSet<i64> = (1..=14).filter(|number| *number != 3).chain(20..=31).collect();
     assert_eq!(seen.keys().copied().collect::<BTreeSet<_>>(), all);
     for (number, names) in seen {
         assert_eq!(documented(number), names, "docs/JSON.md on {number}");
@@ -140,11 +140,19 @@ fn names(value: &Json) -> Names {
     }
 }
 
-/// The accepted example with one file in another shape.
-fn words_of(file: &str, bytes: &str) -> Vec<String> {
+/// The document of the accepted example with one file in another shape.
+fn document_of(file: &str, bytes: impl AsRef<[u8]>) -> Json {
     let folder = Folder::new("words");
-    folder.put(file, bytes.as_bytes());
-    let report = document(&[folder.path()]);
+    folder.put(file, bytes.as_ref());
+    document(&[folder.path()])
+}
+
+/// What it says: line, number and words of each place.
+fn words_of(file: &str, bytes: impl AsRef<[u8]>) -> Vec<String> {
+    words_in(&document_of(file, bytes))
+}
+
+fn words_in(report: &Json) -> Vec<String> {
     let places = match report.get("refusal") {
         Json::Null => report.get("findings").list(),
         refusal => std::slice::from_ref(refusal),
@@ -378,4 +386,87 @@ fn words_about_refusals() {
     assert_eq!(words_of("routes.txt", &many), ["0:2: it has 65537 lines"]);
     let long = "\n".repeat(16_777_217);
     assert_eq!(words_of("routes.txt", &long), ["0:1: it has more than 16777216 bytes"]);
+}
+
+/// Files of routes that aren't UTF-8, behind the header where they begin with H, and the words about them, found by hand.
+const BAD_BYTES: [(&[u8], &str); 17] = [
+    (b"H\nB7,Caf\xE9,3\n", "2:14: byte 7 of the line, E9, begins no UTF-8 character; in Windows-1252 it is \"é\""),
+    (b"H\nB7,5 \x80,3\n", "2:14: byte 6 of the line, 80, begins no UTF-8 character; in Windows-1252 it is \"€\""),
+    (b"H\nB7,\xA0,3\n", "2:14: byte 4 of the line, A0, begins no UTF-8 character; in Windows-1252 it is \"\\u{00A0}\""),
+    (b"H\nB7,\"a,\xFF\",3\n", "2:14: byte 7 of the line, FF, begins no UTF-8 character; in Windows-1252 it is \"ÿ\""),
+    (b"H\nB7,\xF5,3\n", "2:14: byte 4 of the line, F5, begins no UTF-8 character; in Windows-1252 it is \"õ\""),
+    (b"H\nB7,\x81,3\n", "2:14: byte 4 of the line, 81, begins no UTF-8 character"),
+    // Elsewhere in the file a byte is as in UTF-8, or no character of Windows-1252.
+    (b"H\nB7,\xE9,3\nB8,Caf\xC3\xA9,3\n", "2:14: byte 4 of the line, E9, begins no UTF-8 character"),
+    (b"H\nB7,\xE9,3\nB8,\x9D,3\n", "2:14: byte 4 of the line, E9, begins no UTF-8 character"),
+    // Half of é at the end of a line and of a value, and the first two bytes of € and three of an emoji.
+    (b"H\nB7,x,3\nB8,Caf\xC3\n", "3:14: byte 7 of the line, C3, begins no UTF-8 character"),
+    (b"H\nB7,\xC3\xA9,3\nB8,Caf\xC3\r\n", "3:14: byte 7 of the line, C3, begins no UTF-8 character"),
+    (b"H\nB7,\xC3\xA9\xE2\x82,3\n", "2:14: byte 6 of the line, E2, begins no UTF-8 character"),
+    (b"H\nB7,\xF0\x9F\x98,3\n", "2:14: byte 4 of the line, F0, begins no UTF-8 character"),
+    // A long form of the slash, half of a pair of surrogates, and the number above U+10FFFF.
+    (b"H\nB7,\xC0\xAF,3\n", "2:14: byte 4 of the line, C0, begins no UTF-8 character; in Windows-1252 it is \"À\""),
+    (b"H\nB7,\xED\xA0\x80,3\n", "2:14: byte 4 of the line, ED, begins no UTF-8 character"),
+    (b"H\nB7,\xF4\x90\x80\x80,3\n", "2:14: byte 4 of the line, F4, begins no UTF-8 character"),
+    // The header, behind the mark of UTF-8 too.
+    (b"caf\xE9\n", "1:14: byte 4 of the line, E9, begins no UTF-8 character; in Windows-1252 it is \"é\""),
+    (b"\xEF\xBB\xBFcaf\xE9\n", "1:14: byte 4 of the line, E9, begins no UTF-8 character"),
+];
+
+/// Their words, and the model's facts.
+#[test]
+fn words_about_bad_bytes() {
+    for (bytes, wanted) in BAD_BYTES {
+        let mut files = example_files("feed");
+        files[1] = match bytes.strip_prefix(b"H\n") {
+            Some(lines) => [b"route_id,route_short_name,route_type\n", lines].concat(),
+            None => bytes.to_vec(),
+        };
+        let report = document_of("routes.txt", &files[1]);
+        assert_eq!(words_in(&report), [wanted]);
+        compare(wanted, &files, &report);
+    }
+}
+
+/// The clerk's examples of bytes that aren't UTF-8 are refused for them.
+#[test]
+fn the_clerks_examples_of_bytes_are_true() {
+    let page = run(&["explain", "14"]);
+    let example = out(&page).split("**Example.**").nth(1).and_then(|rest| rest.split("**").next()).expect("an example");
+    let lines: Vec<&str> = example.split('`').skip(1).step_by(2).collect();
+    let words: Vec<Vec<String>> = lines
+        .iter()
+        .map(|line| {
+            let (before, rest) = line.split_once("\\x").expect("an escape");
+            let byte = u8::from_str_radix(&rest[..2], 16).expect("two digits");
+            let line = [before.as_bytes(), &[byte], rest[2..].as_bytes(), b"\n"].concat();
+            words_of("stops.txt", [b"stop_id,stop_name,stop_lat,stop_lon\n", &line[..]].concat())
+        })
+        .collect();
+    let wanted = |words: &str| [format!("2:14: byte 6 of the line, {words}")];
+    let [latin, half] = ["E9, begins no UTF-8 character; in Windows-1252 it is \"é\"", "C3, begins no UTF-8 character"];
+    assert_eq!(words, [wanted(latin), wanted(half)]);
+}
+
+/// UTF-16 with its mark, by the order of its bytes and by its line ends: which rule it breaks, its words and the model's facts.
+#[test]
+fn words_about_utf_16() {
+    let hint = "the file begins with the mark of UTF-16: save it as UTF-8";
+    let utf_16 = |text: &str, bytes: fn(u16) -> [u8; 2]| -> Vec<u8> { text.encode_utf16().flat_map(bytes).collect() };
+    let lines = "\u{FEFF}route_id,route_short_name,route_type\nB7,Café,3\n";
+    let cases = [
+        (utf_16(lines, u16::to_be_bytes), "1:14: byte 1 of the line, FE, begins no UTF-8 character"),
+        // The mark and 36 characters take 74 bytes, and NUL goes before CR.
+        (utf_16(&lines.replace('\n', "\r\n"), u16::to_be_bytes), "1:5: byte 76 of the line is a CR"),
+        (utf_16(lines, u16::to_le_bytes), "0:4: the last line has no line ending"),
+        (utf_16(&lines.replace('\n', "\r\n"), u16::to_le_bytes), "0:4: the last line has no line ending"),
+    ];
+    for (bytes, wanted) in cases {
+        let mut files = example_files("feed");
+        files[1] = bytes;
+        let report = document_of("routes.txt", &files[1]);
+        assert_eq!(words_in(&report), [format!("{wanted}; {hint}")]);
+        compare(wanted, &files, &report);
+        assert_eq!(report.get("refusal").get("about").get("guess").text(), "utf-16");
+    }
 }

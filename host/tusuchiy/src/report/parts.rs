@@ -273,7 +273,7 @@ mod tests {
         let wanted = "<p><strong>What.</strong> <code>&lt;A&gt;</code> is <strong>so</strong><br>\nand so.</p>\n\
             <p><strong>Example.</strong> Of</p>\n<pre>A,1\nB,2</pre>\n<p><strong>How.</strong> Mend.</p>\n";
         assert_eq!(marked_up(text), wanted);
-        for number in (1..=13).chain(20..=31) {
+        for number in (1..=14).chain(20..=31) {
             let page = explain::page(number).expect("a section");
             let body = marked_up(page);
             assert!(!body.contains("**") && !body.contains('`'), "{number}: {body}");

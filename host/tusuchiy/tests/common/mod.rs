@@ -8,6 +8,7 @@ use json::Json;
 use std::fs;
 use std::path::{Path, PathBuf};
 use std::process::{Command, Output, Stdio};
+use std::sync::atomic::{AtomicUsize, Ordering};
 
 /// On Arm the command is an x86-64 program and runs under the same runner as this test.
 pub const RUNNER: &str = "CARGO_TARGET_X86_64_UNKNOWN_LINUX_GNU_RUNNER";
@@ -84,9 +85,11 @@ pub fn assert_cannot(words: &[&str], messages: &[&str]) {
 pub struct Folder(pub PathBuf);
 
 impl Folder {
-    /// An empty one.
+    /// An empty one. Tests run at the same time, and a name may be used again.
     pub fn empty(name: &str) -> Self {
-        let folder = std::env::temp_dir().join(format!("tusuchiy-{}-{name}", std::process::id()));
+        static NEXT: AtomicUsize = AtomicUsize::new(0);
+        let number = NEXT.fetch_add(1, Ordering::Relaxed);
+        let folder = std::env::temp_dir().join(format!("tusuchiy-{}-{number}-{name}", std::process::id()));
         let _ = fs::remove_dir_all(&folder);
         fs::create_dir_all(&folder).expect("a folder");
         Folder(folder)
