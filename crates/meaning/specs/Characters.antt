@@ -18,6 +18,7 @@ abbrev pub _to_ : ℕ → ℕ → Range
 a to z = record { first = a; last = z }
 
 -- Table 3-7 of the Unicode standard, well-formed UTF-8 byte sequences: of each row the first byte, the second, the third, the fourth.
+-- The rows write U+0000 to 007F, 0080 to 07FF, 0800 to 0FFF, 1000 to CFFF, D000 to D7FF, E000 to FFFF, 10000 to 3FFFF, 40000 to FFFFF, 100000 to 10FFFF.
 unfoldable pub sequences : List (List Range)
 sequences =
     (0x00 to 0x7F ∷ [])
