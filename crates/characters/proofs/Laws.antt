@@ -1,5 +1,5 @@
 -- Laws of a walk along a line: the classes, the states and their table, runs of ASCII, a turn.
-use Prim.Native.Nat.{ℕ, _+_, _≤_, _<_}
+use Prim.Native.Nat.{ℕ, _+_, _-_, _≤_, _<_}
 use native.Mathlib.Numerals.{add-one}
 use native.Mathlib.Omega.{arith}
 use mathlib.Core.Path.{_≡_, refl, sym, _∙_}
@@ -8,26 +8,43 @@ use mathlib.Core.List.{List, [], _∷_, _++_}
 use lib.Dec.{leb, ltb, eqb}
 use lib.ListN.{length, getD, drop}
 use lib.Seq.{drop-drop}
-use borrow.Author.Tests.{eqb-true, ltb-true, le-leb, lt-ltb, le-ltb}
+use borrow.Author.Tests.{leb-true, eqb-true, ltb-true, lt-ltb, le-ltb}
 use Rattle.meaning.specs.Characters.{Range, _to_, sequences, within, begun, awaited, awaitedAfter, wellFormed}
 use Rattle.meaning.specs.Refusals.{rule14}
 use Rattle.meaning.proofs.Computed.{is-true, allBelow, below-all}
 use Rattle.meaning.proofs.ListLaws.{both, and-both}
 use Rattle.meaning.proofs.Characters.{within-yes}
 use Rattle.text.proofs.Laws.{drop-next, drop-over}
-use Rattle.characters.specs.States.{states, awaits, classStarts, countTo, classOf, nextStates, toHigh}
+use Rattle.characters.specs.States.{states, awaits, classStarts, countTo, classOf, classLetters, nextStates, toHigh}
 
--- ---- classes: the byte's own one, where it stands between that one's first byte and the next one's
+-- ---- classes
 
--- does a byte have class k, where it stands so
-abbrev classed : ℕ → ℕ → Bool
-classed k b = cond (leb (getD (0 ∷ classStarts) k 0) b && ltb b (getD (classStarts ++ (256 ∷ [])) k 0)) (eqb (classOf b) k) true
+-- is the letter of the byte from 80 on with index i that of its class, one of fourteen
+lettered : ℕ → Bool
+lettered i = let n = getD classLetters i 0 - 97 in leb 97 (getD classLetters i 0) && (eqb n (classOf (i + 128)) && ltb n 14)
 
-pub class-is : (k b : ℕ) → k < 14 → b < 256 → getD (0 ∷ classStarts) k 0 ≤ b → b < getD (classStarts ++ (256 ∷ [])) k 0 → (k ≡ classOf b) × (k < 14)
+all-lettered : (i : ℕ) → i < 128 → lettered i ≡ true
+unfolding lettered classLetters classOf countTo classStarts
+all-lettered i h = is-true (lettered i) (below-all 128 lettered tt i h)
+
+pub record Lettered (b : ℕ) : Type 0 where
+  pub low : 97 ≤ getD classLetters (b - 128) 0
+  pub is : getD classLetters (b - 128) 0 - 97 ≡ classOf b
+  pub small : getD classLetters (b - 128) 0 - 97 < 14
+
+pub letter-is : (b : ℕ) → 128 ≤ b → b < 256 → Lettered b
+unfolding lettered
+letter-is b low high =
+    let n = getD classLetters (b - 128) 0 in
+    let e : b - 128 + 128 ≡ b = omega arith in
+    let p = and-both (leb 97 n) (eqb (n - 97) (classOf (b - 128 + 128)) && ltb (n - 97) 14) (all-lettered (b - 128) (omega arith)) in
+    let q = and-both (eqb (n - 97) (classOf (b - 128 + 128))) (ltb (n - 97) 14) (p .1) in
+    record { low = leb-true 97 n (p .0); is = rw e at (eqb-true (n - 97) (classOf (b - 128 + 128)) (q .0)); small = ltb-true (n - 97) 14 (q .1) }
+
+-- ASCII is the first class
+pub ascii-class : (b : ℕ) → b < 128 → (0 ≡ classOf b) × (0 < 14)
 unfolding classOf countTo classStarts
-class-is k b h i low high =
-    let t = is-true (classed k b) (below-all 256 (classed k) (below-all 14 (λ j. allBelow 256 (classed j)) tt k h) b i) in
-    (sym (eqb-true (classOf b) k (rw (le-leb _ _ low, lt-ltb _ _ high) at t)), h)
+ascii-class b h = (sym (eqb-true (classOf b) 0 (is-true (eqb (classOf b) 0) (below-all 128 (λ k. eqb (classOf k) 0) tt b h))), omega arith)
 
 -- ---- the table
 

@@ -4,6 +4,7 @@ use mathlib.Core.List.{List, [], _∷_}
 use mathlib.Core.Bool.{cond}
 use lib.Dec.{leb, ltb}
 use lib.ListN.{getD}
+use Rattle.meaning.specs.Lists.{ascii}
 use Rattle.meaning.specs.Characters.{Range, _to_, never}
 
 -- what each state awaits
@@ -35,6 +36,10 @@ countTo b (n ∷ r) = let k = countTo b r in cond (leb n b) (k + 1) k
 -- the class of a byte
 unfoldable pub classOf : ℕ → ℕ
 classOf b = countTo b classStarts
+
+-- the class of each byte from 80 on, by letters from a on
+unfoldable pub classLetters : List ℕ
+classLetters = ascii "bbbbbbbbbbbbbbbbccccccccccccccccddddddddddddddddddddddddddddddddeeffffffffffffffffffffffffffffffghhhhhhhhhhhhijjklllmnnnnnnnnnnn"
 
 -- the next state by state and class
 unfoldable pub nextStates : List (List ℕ)

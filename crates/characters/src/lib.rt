@@ -24,40 +24,9 @@ const NEXT: [[u8; 14]; 9] = [
     [8, 8, 8, 8, 8, 8, 8, 8, 8, 8, 8, 8, 8, 8],
 ];
 
-// The class of a byte that is no ASCII and no later byte of a character.
-fn lead_class(b: u8) -> usize
-    requires { ⌜ 0xC0 ≤ b ⌝ }
-    ensures { λ r. ⌜ (r ≡ classOf b) × (r < 14) ⌝ }
-{
-    if b < 0xC2 {
-        return 4;
-    }
-    if b < 0xE0 {
-        return 5;
-    }
-    if b < 0xE1 {
-        return 6;
-    }
-    if b < 0xED {
-        return 7;
-    }
-    if b < 0xEE {
-        return 8;
-    }
-    if b < 0xF0 {
-        return 9;
-    }
-    if b < 0xF1 {
-        return 10;
-    }
-    if b < 0xF4 {
-        return 11;
-    }
-    if b < 0xF5 {
-        return 12;
-    }
-    13
-}
+// The class of each byte from 80 on, a letter for each class: a is ASCII.
+const CLASSES: [u8; 128] =
+    *b"bbbbbbbbbbbbbbbbccccccccccccccccddddddddddddddddddddddddddddddddeeffffffffffffffffffffffffffffffghhhhhhhhhhhhijjklllmnnnnnnnnnnn";
 
 // The class of a byte.
 fn class_of(b: u8) -> usize
@@ -66,16 +35,9 @@ fn class_of(b: u8) -> usize
     if b < 0x80 {
         return 0;
     }
-    if b < 0x90 {
-        return 1;
-    }
-    if b < 0xA0 {
-        return 2;
-    }
-    if b < 0xC0 {
-        return 3;
-    }
-    lead_class(b)
+    let i = (b - 0x80) as usize;
+    let letter = CLASSES[i];
+    (letter - b'a') as usize
 }
 
 // The state after a byte.

@@ -1,33 +1,32 @@
 -- `characters::class_of` meets its contract.
-use Rattle.characters.proofs.Laws.{class-is}
-use Rattle.characters.specs.States.{classStarts}
+use Rattle.characters.proofs.Laws.{letter-is, ascii-class}
+use Rattle.characters.specs.States.{classLetters}
 use native.Mathlib.Omega.{arith}
 use borrow.Author.Needs.{needs}
 use Rattle.characters.proofs.class_of.Statement.{statement}
 use Rattle.characters.proofs.class_of.Tie as tie
 
 returns : tie.Need-returns
-unfolding classStarts
-returns c = class-is 0 _ (omega arith) (omega arith) (omega arith) (omega arith)
+returns c = ascii-class _ (c .if1 .taken)
+
+cast-i : tie.Need-cast-i
+cast-i c = search needs
+
+array-read-letter : tie.Need-array-read-letter
+array-read-letter c = search needs
+
+sub-result : tie.Need-sub-result
+unfolding classLetters
+sub-result c = letter-is (c .before .args .b) (c .if1 .left) (omega arith) .low
+
+cast-result : tie.Need-cast-result
+unfolding classLetters
+cast-result c = let l = letter-is (c .before .args .b) (c .if1 .left) (omega arith) in omega (arith, l .small)
 
 returns-2 : tie.Need-returns-2
-unfolding classStarts
-returns-2 c = class-is 1 _ (omega arith) (omega arith) (omega arith) (omega arith)
-
-returns-3 : tie.Need-returns-3
-unfolding classStarts
-returns-3 c = class-is 2 _ (omega arith) (omega arith) (omega arith) (omega arith)
-
-returns-4 : tie.Need-returns-4
-unfolding classStarts
-returns-4 c = class-is 3 _ (omega arith) (omega arith) (omega arith) (omega arith)
-
-lead-class-requires : tie.Need-lead-class-requires
-lead-class-requires c κs = search needs
-
-returns-5 : tie.Need-returns-5
-returns-5 c = search needs
+unfolding classLetters
+returns-2 c = let l = letter-is (c .before .args .b) (c .if1 .left) (omega arith) in (l .is, l .small)
 
 pub class-of-spec : {M : Type 1} → statement M
 class-of-spec =
-    tie.close (tie.spec returns returns-2 returns-3 returns-4 lead-class-requires returns-5)
+    tie.close (tie.spec returns cast-i array-read-letter sub-result cast-result returns-2)
