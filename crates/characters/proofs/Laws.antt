@@ -118,36 +118,48 @@ module _ (s : List ℕ) (i : ℕ) (k : ℕ) (inv : i + toHigh (drop i s) ≡ k) 
 
 -- ---- a turn along a line, and its end
 
-module _ (l : List ℕ) where
-  -- what is awaited at the end, from state q at byte i on, is what is awaited there from the line's start
+module _ (l : List ℕ) (w : List Range) where
+  -- w is awaited at the line's end, from state q at byte i on
   abbrev pub Awaiting : ℕ → ℕ → Type 0
-  Awaiting q i = awaitedAfter (awaits q) (drop i l) ≡ awaitedAfter [] l
+  Awaiting q i = awaitedAfter (awaits q) (drop i l) ≡ w
 
   -- a run of ASCII from byte i on, up to byte e
   pub passed : (q i e : ℕ) → q ≡ 0 → e ≡ i + toHigh (drop i l) → Awaiting q i → Awaiting q e
   unfolding awaits states
   passed q i e z h inv = rw z (rw (h, ← drop-drop (toHigh (drop i l)) i l) (sym (ascii-passed (drop i l)) ∙ rw z at inv))
 
-  pub started : Awaiting 0 0
-  unfolding awaits states
-  started = refl
-
   pub turned : (q p i : ℕ) → i < length l → awaits p ≡ awaited (awaits q) (getD l i 0) → Awaiting q i → Awaiting p (i + 1)
   unfolding awaitedAfter
   turned q p i more e inv = rw e (rw (drop-next l i more) at inv)
 
--- the first state awaits nothing, every other something
-alone : ℕ → Bool
-alone q = cond (eqb q 0) (eqb (length (awaits q)) 0) (not (eqb (length (awaits q)) 0))
+  -- the first state awaits nothing, every other something
+  alone : ℕ → Bool
+  alone q = cond (eqb q 0) (eqb (length (awaits q)) 0) (not (eqb (length (awaits q)) 0))
 
-pub ended : (l : List ℕ) (q i : ℕ) → q < 9 → length l ≤ i → Awaiting l q i → not (eqb q 0) ≡ rule14 l
-unfolding rule14 wellFormed awaitedAfter awaits states alone
-ended l q i h over inv =
-    let e : awaits q ≡ awaitedAfter [] l = rw (drop-over l i over) at inv in
-    rw (← e) (go (eqb q 0) (eqb (length (awaits q)) 0) (is-true (alone q) (below-all 9 alone tt q h)))
-  where
-    go : (t u : Bool) → cond t u (not u) ≡ true → not t ≡ not u
-    go true true z = refl
-    go true false z = z
-    go false true z = sym z
-    go false false z = refl
+  pub ended : (q i : ℕ) → q < 9 → length l ≤ i → Awaiting q i → not (eqb q 0) ≡ not (eqb (length w) 0)
+  unfolding awaitedAfter awaits states alone
+  ended q i h over inv =
+      let e : awaits q ≡ w = rw (drop-over l i over) at inv in
+      rw (← e) (go (eqb q 0) (eqb (length (awaits q)) 0) (is-true (alone q) (below-all 9 alone tt q h)))
+    where
+      go : (t u : Bool) → cond t u (not u) ≡ true → not t ≡ not u
+      go true true z = refl
+      go true false z = z
+      go false true z = sym z
+      go false false z = refl
+
+pub started : (s : List ℕ) → awaitedAfter (awaits 0) s ≡ awaitedAfter [] s
+unfolding awaits states
+started s = refl
+
+-- a line is told from its first byte on that is no ASCII
+module _ (l : List ℕ) (at : ℕ) (stands : at ≡ 0 + toHigh (drop 0 l)) where
+  pub told-from : not (eqb (length (awaitedAfter [] (drop at l))) 0) ≡ rule14 l
+  unfolding rule14 wellFormed
+  told-from =
+      let e : awaitedAfter [] (drop at l) ≡ awaitedAfter [] l = sym (started (drop at l)) ∙ passed l (awaitedAfter [] l) 0 0 at refl stands (started l) in
+      rw e
+
+  pub all-ascii : length l ≤ at → false ≡ rule14 l
+  unfolding awaitedAfter
+  all-ascii over = rw (drop-over l at over) at told-from

@@ -1,10 +1,13 @@
 // Characters: is a line well-formed UTF-8? One walk along it, by the Unicode standard's table of byte sequences.
 ghost use mathlib.Core.Path.{_≡_};
+ghost use mathlib.Core.Bool.{not};
+ghost use mathlib.Core.List.{[]};
 ghost use Prim.Native.Nat.{_+_, _<_, _≤_};
-ghost use lib.ListN.{drop};
-ghost use Rattle.meaning.specs.Characters.{awaited};
+ghost use lib.Dec.{eqb};
+ghost use lib.ListN.{length, drop};
+ghost use Rattle.meaning.specs.Characters.{awaited, awaitedAfter};
 ghost use Rattle.meaning.specs.Refusals.{rule14};
-ghost use Rattle.characters.specs.States.{awaits, classOf, toHigh};
+ghost use Rattle.characters.specs.States.{awaits, classOf, classLetters, nextStates, toHigh};
 
 // Between two characters a walk lacks nothing.
 const START: u8 = 0;
@@ -28,26 +31,26 @@ const NEXT: [[u8; 14]; 9] = [
 const CLASSES: [u8; 128] =
     *b"bbbbbbbbbbbbbbbbccccccccccccccccddddddddddddddddddddddddddddddddeeffffffffffffffffffffffffffffffghhhhhhhhhhhhijjklllmnnnnnnnnnnn";
 
-// The class of a byte.
-fn class_of(b: u8) -> usize
+// The class of a byte, by the letters above.
+fn class_of(letters: &[u8; 128], b: u8) -> usize
+    requires { ⌜ now letters ≡ classLetters ⌝ }
     ensures { λ r. ⌜ (r ≡ classOf b) × (r < 14) ⌝ }
 {
     if b < 0x80 {
         return 0;
     }
     let i = (b - 0x80) as usize;
-    let letter = CLASSES[i];
-    (letter - b'a') as usize
+    (letters[i] - b'a') as usize
 }
 
-// The state after a byte.
-fn next_state(q: u8, b: u8) -> u8
-    requires { ⌜ q < 9 ⌝ }
+// The state after a byte, by the table above.
+fn next_state(table: &[[u8; 14]; 9], letters: &[u8; 128], q: u8, b: u8) -> u8
+    requires { ⌜ (now table ≡ nextStates) × (now letters ≡ classLetters) × (q < 9) ⌝ }
     ensures { λ r. ⌜ (awaits r ≡ awaited (awaits q) b) × (r < 9) ⌝ }
 {
-    let c = class_of(b);
+    let c = class_of(letters, b);
     let k = q as usize;
-    NEXT[k][c]
+    table[k][c]
 }
 
 // Where the first byte from `at` on stands that is no ASCII; the line's end where there is none.
@@ -64,18 +67,32 @@ fn ascii_end(l: &[u8], at: usize) -> usize
     i
 }
 
-// Is a line not well-formed UTF-8? Between characters a run of ASCII is passed over, a test a byte.
-pub fn is_ill_formed(l: &[u8]) -> bool
-    ensures { λ r. ⌜ r ≡ rule14 (now (l .entry)) ⌝ }
+// Does a line await something at its end, from `at` on, where a character begins? Between characters a run of ASCII is passed over.
+fn awaits_more(l: &[u8], at: usize) -> bool
+    ensures { λ r. ⌜ r ≡ not (eqb (length (awaitedAfter [] (drop at (now (l .entry))))) 0) ⌝ }
 {
+    // Made once a line: a constant's array is written anew wherever it is named.
+    let table = NEXT;
+    let letters = CLASSES;
     let mut q = START;
-    let mut i = ascii_end(l, 0);
+    let mut i = at;
     while i < l.len() {
-        q = next_state(q, l[i]);
+        q = next_state(&table, &letters, q, l[i]);
         i += 1;
         if q == START {
             i = ascii_end(l, i);
         }
     }
     q != START
+}
+
+// Is a line not well-formed UTF-8? A line of ASCII is told by a test a byte.
+pub fn is_ill_formed(l: &[u8]) -> bool
+    ensures { λ r. ⌜ r ≡ rule14 (now (l .entry)) ⌝ }
+{
+    let at = ascii_end(l, 0);
+    if l.len() <= at {
+        return false;
+    }
+    awaits_more(l, at)
 }

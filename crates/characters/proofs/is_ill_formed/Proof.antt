@@ -1,72 +1,21 @@
 -- `characters::is_ill_formed` meets its contract.
-use Rattle.characters.proofs.Laws.{Awaiting, started, passed, turned, ended}
-use mathlib.Core.Path.{refl}
-use Prim.Native.Nat.{_<_, _-_}
-use native.Mathlib.Omega.{arith}
-use lib.ListN.{length}
+use Rattle.characters.proofs.Laws.{told-from, all-ascii}
+use mathlib.Core.Path.{_∙_}
 use borrow.Author.Needs.{needs}
 use Rattle.characters.proofs.is_ill_formed.Statement.{statement}
 use Rattle.characters.proofs.is_ill_formed.Tie as tie
 
-abbrev Inv-loop : tie.InvT-loop
-Inv-loop l q₀ i₀ q i = (q < 9) × Awaiting l q i
-
-abbrev μ-loop : tie.MeasureT-loop
-μ-loop l q₀ i₀ q i = length l - i
-
-ascii-end-requires : tie.Need-ascii-end-requires Inv-loop μ-loop
+ascii-end-requires : tie.Need-ascii-end-requires
 ascii-end-requires c κs = search needs
 
-loop-holds : tie.Need-loop-holds Inv-loop μ-loop
-loop-holds c = (omega arith, passed _ 0 0 _ refl (c .ascii-end .ensures .0) (started _))
+returns : tie.Need-returns
+returns c = all-ascii _ _ (c .before .ascii-end .ensures .0) (c .if1 .taken)
 
-shared-slice-read-next-state : tie.Need-shared-slice-read-next-state Inv-loop μ-loop
-shared-slice-read-next-state c = omega arith
+awaits-more-requires : tie.Need-awaits-more-requires
+awaits-more-requires c κs = search needs
 
-next-state-requires : tie.Need-next-state-requires Inv-loop μ-loop
-next-state-requires c κs = search needs
-
-add-i : tie.Need-add-i Inv-loop μ-loop
-add-i c = omega arith
-
-ascii-end-requires-2 : tie.Need-ascii-end-requires-2 Inv-loop μ-loop
-ascii-end-requires-2 c κs = search needs
-
-loop-less : tie.Need-loop-less Inv-loop μ-loop
-loop-less c = omega arith
-
-loop-again : tie.Need-loop-again Inv-loop μ-loop
-loop-again c =
-    let b = c .before .before in
-    let w = b .before .before in
-    (b .next-state .ensures .1, passed _ _ _ _ (c .before .if1 .taken) (c .ascii-end2 .ensures .0) (turned _ _ _ _ (w .loop-test .taken) (b .next-state .ensures .0) (w .before .loop .inv .1)))
-
-loop-less-2 : tie.Need-loop-less-2 Inv-loop μ-loop
-loop-less-2 c = omega arith
-
-loop-again-2 : tie.Need-loop-again-2 Inv-loop μ-loop
-loop-again-2 c =
-    let b = c .before in
-    let w = b .before .before in
-    (b .next-state .ensures .1, turned _ _ _ _ (w .loop-test .taken) (b .next-state .ensures .0) (w .before .loop .inv .1))
-
-returns : tie.Need-returns Inv-loop μ-loop
-returns c = ended _ _ _ (c .before .loop .inv .0) (c .loop-test .left) (c .before .loop .inv .1)
+returns-2 : tie.Need-returns-2
+returns-2 c = c .awaits-more .ensures ∙ told-from _ _ (c .before .before .ascii-end .ensures .0)
 
 pub is-ill-formed-spec : {M : Type 1} → statement M
-is-ill-formed-spec =
-    tie.close
-    (tie.spec
-    Inv-loop
-    μ-loop
-    ascii-end-requires
-    loop-holds
-    shared-slice-read-next-state
-    next-state-requires
-    add-i
-    ascii-end-requires-2
-    loop-less
-    loop-again
-    loop-less-2
-    loop-again-2
-    returns)
+is-ill-formed-spec = tie.close (tie.spec ascii-end-requires returns awaits-more-requires returns-2)

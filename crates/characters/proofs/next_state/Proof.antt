@@ -1,6 +1,5 @@
 -- `characters::next_state` meets its contract.
 use Rattle.characters.proofs.Laws.{next-at}
-use Rattle.characters.specs.States.{nextStates}
 use native.Mathlib.Omega.{arith}
 use borrow.Author.Needs.{needs}
 use Rattle.characters.proofs.next_state.Statement.{statement}
@@ -19,8 +18,9 @@ index-2-result : tie.Need-index-2-result
 index-2-result c = search needs
 
 returns : tie.Need-returns
-unfolding nextStates
-returns c = next-at (c .before .before .args .q) (c .before .before .args .b) _ (omega arith) (omega arith) (c .before .class-of .ensures .0)
+returns c =
+    let s = c .before .before in
+    rw (s .pre .0) (next-at (s .args .q) (s .args .b) _ (omega arith) (omega arith) (c .before .class-of .ensures .0))
 
 pub next-state-spec : {M : Type 1} → statement M
 next-state-spec =
