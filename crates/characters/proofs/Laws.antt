@@ -118,6 +118,10 @@ module _ (s : List ℕ) (i : ℕ) (k : ℕ) (inv : i + toHigh (drop i s) ≡ k) 
 
 -- ---- a turn along a line, and its end
 
+-- the first state awaits nothing, every other something
+alone : ℕ → Bool
+alone q = cond (eqb q 0) (eqb (length (awaits q)) 0) (not (eqb (length (awaits q)) 0))
+
 module _ (l : List ℕ) (w : List Range) where
   -- w is awaited at the line's end, from state q at byte i on
   abbrev pub Awaiting : ℕ → ℕ → Type 0
@@ -131,10 +135,6 @@ module _ (l : List ℕ) (w : List Range) where
   pub turned : (q p i : ℕ) → i < length l → awaits p ≡ awaited (awaits q) (getD l i 0) → Awaiting q i → Awaiting p (i + 1)
   unfolding awaitedAfter
   turned q p i more e inv = rw e (rw (drop-next l i more) at inv)
-
-  -- the first state awaits nothing, every other something
-  alone : ℕ → Bool
-  alone q = cond (eqb q 0) (eqb (length (awaits q)) 0) (not (eqb (length (awaits q)) 0))
 
   pub ended : (q i : ℕ) → q < 9 → length l ≤ i → Awaiting q i → not (eqb q 0) ≡ not (eqb (length w) 0)
   unfolding awaitedAfter awaits states alone

@@ -11,7 +11,7 @@ use lib.ListN.{length, getD, drop, set, replicate, length-drop, List·getD-eq-de
 use lib.Seq.{getD-drop, drop-drop}
 use borrow.Author.Tests.{eq-eqb, ne-eqb, eqb-true, eqb-false, lt-ltb, le-ltb, ltb-true, ltb-false}
 use Rattle.meaning.specs.declared.Bounds.{Bounds}
-use Rattle.meaning.specs.Lists.{same, some, find}
+use Rattle.meaning.specs.Lists.{same, some, place, find}
 use Rattle.meaning.specs.Bytes.{bounds, part, marked, content, undouble, value, fields, values}
 use Rattle.meaning.specs.Columns.{unknown, schema, knownAt, nameOf, columnOf, countOf, places, fieldAt, cell, rowOf}
 use Rattle.meaning.specs.Refusals.{standings, rule9}
@@ -23,11 +23,11 @@ use Rattle.columns.specs.Columns.{tab, placesOf, lacking, noted, startsO
 -- a turn along the fields of a header: the test of this field's value, and what is left
 module _ (name h : List ℕ) (at a e m : ℕ) (stands : FieldStands h at a e m) (t : Bool) (test : t ≡ same (value (part h (bounds a e))) name) (n r : ℕ) where
   pub find-here : find name n (valuesFrom h at) ≡ r → t ≡ true → n ≡ r
-  unfolding find
+  unfolding find place
   find-here inv q = rw (stands .values, ← test, q) at inv
 
   pub find-next : find name n (valuesFrom h at) ≡ r → t ≡ false → find name (n + 1) (valuesFrom h m) ≡ r
-  unfolding find
+  unfolding find place
   find-next inv q = rw (stands .values, ← test, q) at inv
 
   pub times-here : n + standings name (valuesFrom h at) ≡ r → t ≡ true → n + 1 + standings name (valuesFrom h m) ≡ r
@@ -41,7 +41,7 @@ module _ (name h : List ℕ) (at a e m : ℕ) (stands : FieldStands h at a e m) 
       let z : standings name (valuesFrom h at) ≡ standings name (valuesFrom h m) = rw (stands .values, ← test, q) in omega arith
 
 pub find-over : (name h : List ℕ) (at n r : ℕ) → length h < at → find name n (valuesFrom h at) ≡ r → 0 ≡ r
-unfolding find
+unfolding find place
 find-over name h at n r g inv = rw (values-over h at g) at inv
 
 pub times-over : (name h : List ℕ) (at n r : ℕ) → length h < at → n + standings name (valuesFrom h at) ≡ r → n ≡ r

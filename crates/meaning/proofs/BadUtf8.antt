@@ -8,12 +8,13 @@ use lib.IntN.{ℤ}
 use lib.ListN.{length, getD}
 use lib.Dec.{eqb}
 use borrow.Author.Tests.{not-false}
+use Rattle.meaning.specs.Lists.{place}
 use Rattle.meaning.specs.Bytes.{Line, linesOf}
 use Rattle.meaning.specs.Columns.{places, headerOf}
 use Rattle.meaning.specs.Characters.{wellFormed, Written}
 use Rattle.meaning.specs.Tables.{fileOf}
 use Rattle.meaning.specs.Refusals.{test, claim, claims, rule14, textTests, headTests, lineTests}
-use Rattle.meaning.specs.Promises.{lineOrder, placeFrom, turn, fieldCount, testsOn, noLine, speaksBefore}
+use Rattle.meaning.specs.Promises.{lineOrder, turn, fieldCount, testsOn, noLine, speaksBefore}
 use Rattle.meaning.specs.BadUtf8.{textOf, HasLine, BadUtf8}
 use Rattle.meaning.proofs.Laws.{sooner-same}
 use Rattle.meaning.proofs.Claims.{claim-of-line}
@@ -35,11 +36,11 @@ tested f ls n l = go (eqb n 1)
 -- two rules of one line, by their turns
 module _ (f n : ℕ) (b d : Bool) where
   after-5 : speaksBefore (claim 5 f n b) (claim 14 f n d) ≡ true
-  unfolding speaksBefore turn placeFrom lineOrder
+  unfolding speaksBefore turn place lineOrder
   after-5 = sooner-same f f _ refl (sooner-same n n _ refl refl)
 
   before-6 : speaksBefore (claim 14 f n b) (claim 6 f n d) ≡ true
-  unfolding speaksBefore turn placeFrom lineOrder
+  unfolding speaksBefore turn place lineOrder
   before-6 = sooner-same f f _ refl (sooner-same n n _ refl refl)
 
 module _ (files : List (List ℕ)) (tables : List (List ℤ)) where

@@ -11,7 +11,7 @@ use borrow.Author.Tests.{eq-eqb, ne-eqb, eqb-true}
 use Rattle.meaning.specs.declared.Place.{Place}
 use Rattle.meaning.specs.declared.Verdict.{Verdict}
 use Rattle.meaning.specs.declared.Verdict.the-variants.{Readable, Unreadable}
-use Rattle.meaning.specs.Lists.{same, empty, any, find, stands}
+use Rattle.meaning.specs.Lists.{same, empty, any, place, find, stands}
 use Rattle.meaning.specs.Tables.{Feed, feedOf, fileOf, refer, serviceIds, datedIds, exceptionService}
 use Rattle.meaning.specs.Refusals.{claim, claims, mayLack, ended, rule4, verdictOf}
 use Rattle.meaning.specs.Rules.{row, sameServiceAndDate, rule20·dates, dangling, inNeither}
@@ -65,7 +65,7 @@ module _ (files : List (List ℕ)) where
 -- ---- no line, no reference
 
 none-named : (v : List ℕ) (ids : List (List ℕ)) → ids ≡ [] → refer v ids ≡ 0
-unfolding refer find
+unfolding refer find place
 none-named v ids e = rw e (go (empty v))
   where
     go : (t : Bool) → _≡_ {A = ℕ} (cond t 0 0) 0

@@ -4,7 +4,7 @@ use native.Mathlib.Omega.{arith}
 use mathlib.Core.Path.{_≡_, refl, ap, _∙_}
 use mathlib.Core.Logic.{_↔_, _⊎_, inl, inr}
 use mathlib.Core.Bool.{Bool, true, false, cond, _&&_}
-use mathlib.Core.List.{List, [], _∷_, _++_, List·Memᴰ, List·Memᴰ·head, List·Memᴰ·tail, List·Memᴰ·not-nil, List·Memᴰ·cases-cons}
+use mathlib.Core.List.{List, [], _∷_, _++_, List·Memᴰ, List·Memᴰ·head, List·Memᴰ·tail, List·Memᴰ·not-nil}
 use lib.Dec.{leb, ltb}
 use lib.ListN.{length, getD}
 use borrow.Author.Tests.{leb-true, le-leb, lt-leb, ltb-true, ltb-false, eqb-true}
@@ -13,7 +13,8 @@ use Rattle.meaning.specs.Characters.{Range, _to_, sequences, within, fit
 use Rattle.meaning.specs.Promises.{Each}
 use Rattle.meaning.proofs.ListLaws.{both, and-both, nothing}
 use Rattle.meaning.proofs.Tests.{Standing, below, level, over, standing}
-use Rattle.meaning.proofs.Laws.{each-cons, getD-mem}
+use Rattle.meaning.proofs.Laws.{each-cons}
+use Rattle.meaning.proofs.References.{any-yes}
 
 -- ---- a byte in a range
 
@@ -258,16 +259,6 @@ row-found c (g ∷ rows) e each = go (fits g c) refl e (λ h. row-found c rows h
 
 -- ---- every character by its number is allowed by a row
 
-row-allows : (c : List ℕ) (row : List Range) (rows : List (List Range)) → List·Memᴰ row rows → fits row c ≡ true → any (λ r. fits r c) rows ≡ true
-unfolding any
-row-allows c row [] m e = absurd (List·Memᴰ·not-nil m)
-row-allows c row (g ∷ rows) m e = go (fits g c) refl (List·Memᴰ·cases-cons m) (λ k. row-allows c row rows k e)
-  where
-    go : (t : Bool) → fits g c ≡ t → (row ≡ g) ⊎ List·Memᴰ row rows → (List·Memᴰ row rows → any (λ r. fits r c) rows ≡ true) → cond t true (any (λ r. fits r c) rows) ≡ true
-    go true q k rest = refl
-    go false q (inl k) rest = let z : fits g c ≡ true = rw k at e in both (fits g c) z q
-    go false q (inr k) rest = rest k
-
 -- bytes that stand in a row's ranges
 abbrev Inside : List Range → List ℕ → Type 0
 Inside [] [] = Unit {0}
@@ -285,7 +276,7 @@ inside-fits (g ∷ row) (b ∷ c) h = rw (within-yes g b (h .0) (h .1)) (inside-
 -- the row with index k allows them
 allowed-by : (k : ℕ) → k < length sequences → (c : List ℕ) → Inside (getD sequences k []) c → isCharacter c ≡ true
 unfolding isCharacter
-allowed-by k h c i = row-allows c (getD sequences k []) sequences (getD-mem sequences k [] h) (inside-fits (getD sequences k []) c i)
+allowed-by k h c i = any-yes (λ row. fits row c) [] sequences k h (inside-fits (getD sequences k []) c i)
 
 two-allowed : (a b : ℕ) → a < 32 → b < 64 → 0x80 ≤ a * 64 + b → isCharacter ((0xC0 + a) ∷ (0x80 + b) ∷ []) ≡ true
 unfolding sequences

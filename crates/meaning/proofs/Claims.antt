@@ -10,11 +10,12 @@ use lib.Dec.{T, ltb, leb, eqb}
 use borrow.Author.Tests.{lt-ltb, le-ltb, leb-true, eqb-true, ne-eqb}
 use Rattle.meaning.specs.declared.Refusal.{Refusal}
 use Rattle.meaning.specs.declared.Verdict.the-variants.{Unreadable}
+use Rattle.meaning.specs.Lists.{place}
 use Rattle.meaning.specs.Bytes.{Line, linesOf, fields}
 use Rattle.meaning.specs.Columns.{places, headerOf}
 use Rattle.meaning.specs.Tables.{fileOf}
 use Rattle.meaning.specs.Refusals.{Test, test, Claim, claim, rule1, rule2, rule3, rule4, textTests, headTests, rowTests, lineTests, onLines, inFile, inFiles, overFiles, claims, refusal, verdictOf}
-use Rattle.meaning.specs.Promises.{Ordered, Each, fileTests, fieldCount, testsOn, noLine, testOf, FileClaim, LineClaim, lineOrder, placeFrom, turn, speaksBefore, noClaim, FirstBroken, Sayable}
+use Rattle.meaning.specs.Promises.{Ordered, Each, fileTests, fieldCount, testsOn, noLine, testOf, FileClaim, LineClaim, lineOrder, turn, speaksBefore, noClaim, FirstBroken, Sayable}
 use Rattle.meaning.proofs.Computed.{all, and-left, and-right, is-true}
 use Rattle.meaning.proofs.ListLaws.{and-both}
 use Rattle.meaning.proofs.Laws.{sooner-less, sooner-same, each-append, getD-mem, ordered-append, ordered-by, along, Along, along-in, along-of, along-ordered}
@@ -129,7 +130,7 @@ unfolding rising fileTests
 file-rising files f s room = refl
 
 tests-rising : (f : ℕ) (ls : List Line) (n : ℕ) (l : Line) → rising turn 0 11 (testsOn f ls n l) ≡ true
-unfolding rising turn placeFrom lineOrder testsOn headTests lineTests textTests rowTests
+unfolding rising turn place lineOrder testsOn headTests lineTests textTests rowTests
 tests-rising f ls n l = go (eqb n 1)
   where
     go : (first : Bool) → rising turn 0 11 (cond first (headTests f (l .text)) (lineTests f (places f (headerOf ls)) (fieldCount ls) (l .text))) ≡ true
@@ -166,13 +167,13 @@ file-number files rooms p t =
     let room = getD rooms (p .file - 1) 0 in
     rising-within byNumber 0 5 (fileTests files (p .file) s room) (file-rising files (p .file) s room) (testOf p) (t .rule)
 
--- a number that has a turn is one of those counted
-placed : (P : ℕ → Bool) (k : ℕ) (l : List ℕ) (n : ℕ) → T (all P l) → 0 < placeFrom k l n → P n ≡ true
-unfolding placeFrom
+-- a number that has a place among numbers has what each of them has
+placed : (P : ℕ → Bool) (k : ℕ) (l : List ℕ) (n : ℕ) → T (all P l) → 0 < place (λ m. eqb m n) k l → P n ≡ true
+unfolding place
 placed P k [] n t h = absurd (omega arith)
 placed P k (m ∷ r) n t h = go (eqb m n) refl (placed P (k + 1) r n (and-right (P m) (all P r) t))
   where
-    go : (y : Bool) → eqb m n ≡ y → (0 < placeFrom (k + 1) r n → P n ≡ true) → P n ≡ true
+    go : (y : Bool) → eqb m n ≡ y → (0 < place (λ m. eqb m n) (k + 1) r → P n ≡ true) → P n ≡ true
     go true e rest = rw (← eqb-true m n e) (is-true (P m) (and-left (P m) (all P r) t))
     go false e rest = rest (rw e at h)
 

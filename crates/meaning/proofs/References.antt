@@ -8,14 +8,14 @@ use lib.ListN.{length, getD, take}
 use lib.Seq.{getD-take, length-take-le}
 use lib.Dec.{ltb, eqb}
 use borrow.Author.Tests.{eq-eqb, ne-eqb, lt-ltb, le-ltb, ltb-true, ltb-false}
-use Rattle.meaning.specs.Lists.{same, empty, any, find, stands}
+use Rattle.meaning.specs.Lists.{same, empty, any, place, find, stands}
 use Rattle.meaning.specs.Tables.{refer}
 use Rattle.meaning.specs.Rules.{rule20, dangling}
 pub use Rattle.meaning.specs.Promises.{First, absent, found}
 use Rattle.meaning.proofs.ListLaws.{both, same-equal, same-self}
 
 pub find-first : (v : List ℕ) (n : ℕ) (vs : List (List ℕ)) → First v n vs (find v n vs)
-unfolding find
+unfolding find place
 find-first v n [] = absent refl (λ j h. absurd (omega arith))
 find-first v n (w ∷ vs) = go (same w v) refl (find-first v (n + 1) vs)
   where

@@ -54,10 +54,14 @@ flat (l ∷ r) = l ++ flat r
 unfoldable pub laid : {A : Type 0} → List A → List A → List A
 laid xs lent = xs ++ drop (length xs) lent
 
+-- where the first element of which a test holds stands, counted from n; 0 where it holds of none
+unfoldable pub place : {A : Type 0} → (A → Bool) → ℕ → List A → ℕ
+place P n [] = 0
+place P n (x ∷ r) = let k = place P (n + 1) r in cond (P x) n k
+
 -- where a value stands first among values that are counted from n; 0 where it doesn't
 unfoldable pub find : List ℕ → ℕ → List (List ℕ) → ℕ
-find v n [] = 0
-find v n (w ∷ r) = let k = find v (n + 1) r in cond (same w v) n k
+find v n vs = place (λ w. same w v) n vs
 
 -- does a value stand among values
 unfoldable pub stands : List ℕ → List (List ℕ) → Bool

@@ -11,7 +11,7 @@ use Rattle.meaning.specs.declared.Column.{Column}
 use Rattle.meaning.specs.declared.Refusal.{Refusal}
 use Rattle.meaning.specs.declared.Verdict.the-variants.{Unreadable}
 use Rattle.meaning.specs.declared.Place.{Place}
-use Rattle.meaning.specs.Lists.{same, keep, laid}
+use Rattle.meaning.specs.Lists.{same, keep, laid, place}
 use Rattle.meaning.specs.Bytes.{Line, linesOf, countLf, fields}
 use Rattle.meaning.specs.Columns.{places, headerOf}
 use Rattle.meaning.specs.Tables.{Feed, fileOf, timeTrip, widthOf}
@@ -104,14 +104,9 @@ pub record LineClaim (files : List (List ℕ)) (p : Claim) : Type 0 where
 unfoldable pub lineOrder : List ℕ
 lineOrder = 5 ∷ 14 ∷ 6 ∷ 7 ∷ 8 ∷ 9 ∷ 10 ∷ 11 ∷ 12 ∷ 13 ∷ []
 
--- where a number stands first among numbers, counted from k; 0 where it doesn't
-unfoldable pub placeFrom : ℕ → List ℕ → ℕ → ℕ
-placeFrom k [] n = 0
-placeFrom k (m ∷ r) n = let j = placeFrom (k + 1) r n in cond (eqb m n) k j
-
 -- a rule's turn on a line
 unfoldable pub turn : ℕ → ℕ
-turn n = placeFrom 1 lineOrder n
+turn n = place (λ m. eqb m n) 1 lineOrder
 
 -- which of two claims speaks first: rules 1 to 4 rule by rule over the files; then file, line, turn
 unfoldable pub speaksBefore : Claim → Claim → Bool
