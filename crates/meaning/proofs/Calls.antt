@@ -21,10 +21,10 @@ use Rattle.meaning.specs.Outcome.{Outcome, outcome, readOutcome}
 use Rattle.meaning.specs.Promises.{Each, beginning, writtenIn, totalIn, fileTests, testOf, FileClaim, NoneBroken, WholeKept}
 use Rattle.meaning.specs.Calls.{Lending, again, anew, lentTables, lentList, written, handsNone, lastPlace, calls, LongEnough, Enough, CallsJoin}
 use Rattle.meaning.proofs.ListLaws.{both, keep-all, nothing}
-use Rattle.meaning.proofs.Laws.{each-cons}
+use Rattle.meaning.proofs.Laws.{each-cons, getD-map-in}
 use Rattle.meaning.proofs.FirstBroken.{readable-exactly}
 use Rattle.meaning.proofs.Claims.{claims-exactly}
-use Rattle.meaning.proofs.Readable.{whole-kept, getD-map-in}
+use Rattle.meaning.proofs.Readable.{whole-kept}
 use Rattle.meaning.proofs.Pages.{Left, page-is, left-page, total-told}
 use Rattle.meaning.proofs.TheList.{list-ordered, findings-from-beginning}
 use Rattle.meaning.proofs.Held.{triples-length, tables-long, list-long}

@@ -8,19 +8,16 @@ use mathlib.Core.List.{List, [], _∷_, _++_, List·Memᴰ, List·Memᴰ·head, 
 use lib.ListN.{length, getD}
 use lib.Dec.{T, ltb, leb, eqb}
 use borrow.Author.Tests.{lt-ltb, le-ltb, leb-true, eqb-true, ne-eqb}
-use Rattle.meaning.specs.declared.Refusal.{Refusal}
-use Rattle.meaning.specs.declared.Verdict.the-variants.{Unreadable}
 use Rattle.meaning.specs.Lists.{place}
 use Rattle.meaning.specs.Bytes.{Line, linesOf, fields}
 use Rattle.meaning.specs.Columns.{places, headerOf}
 use Rattle.meaning.specs.Tables.{fileOf}
-use Rattle.meaning.specs.Refusals.{Test, test, Claim, claim, rule1, rule2, rule3, rule4, textTests, headTests, rowTests, lineTests, onLines, inFile, inFiles, overFiles, claims, refusal, verdictOf}
-use Rattle.meaning.specs.Promises.{Ordered, Each, fileTests, fieldCount, testsOn, noLine, testOf, FileClaim, LineClaim, lineOrder, turn, speaksBefore, noClaim, FirstBroken, Sayable}
+use Rattle.meaning.specs.Refusals.{Test, test, Claim, claimOf, claim, rule1, rule2, rule3, rule4, textTests, headTests, valueTests, lineTests, onLines, inFile, inFiles, overFiles, claims}
+use Rattle.meaning.specs.Promises.{Ordered, Each, fileTests, fieldCount, testsOn, noLine, testOf, FileClaim, LineClaim, lineOrder, turn, speaksBefore}
 use Rattle.meaning.proofs.Computed.{all, and-left, and-right, is-true}
 use Rattle.meaning.proofs.ListLaws.{and-both}
-use Rattle.meaning.proofs.Laws.{sooner-less, sooner-same, each-append, getD-mem, ordered-append, ordered-by, along, Along, along-in, along-of, along-ordered}
+use Rattle.meaning.proofs.Laws.{sooner-less, sooner-same, each-append, ordered-append, ordered-by, along, Along, along-in, along-of, along-ordered}
 use Rattle.meaning.proofs.Lines.{rising, Within, rising-within, rank, rank-file, byNumber, linewise, Linewise, linewise-exactly, linewise-ordered}
-use Rattle.meaning.proofs.FirstBroken.{first-broken}
 
 -- two lists side by side, as far as both go
 abbrev pairs : List (List ℕ) → List ℕ → List (List ℕ × ℕ)
@@ -43,6 +40,7 @@ pairs-at (s ∷ r) (m ∷ rooms) (suc k) h = pairs-at r rooms k (omega arith)
 pub record OverFiles (n : ℕ) (P : ℕ → List ℕ → ℕ → Bool) (files : List (List ℕ)) (rooms : List ℕ) (p : Claim) : Type 0 where
   pub number : p .number ≡ n
   pub line : p .line ≡ 0
+  pub column : p .column ≡ 0
   pub from : 1 ≤ p .file
   pub to : p .file ≤ length files
   pub room : p .file ≤ length rooms
@@ -70,6 +68,7 @@ module _ (n : ℕ) (P : ℕ → List ℕ → ℕ → Bool) where
           record {
             number = ap (λ (q : Claim). q .number) e;
             line = ap (λ (q : Claim). q .line) e;
+            column = ap (λ (q : Claim). q .column) e;
             from = omega arith;
             to = omega arith;
             room = omega arith;
@@ -84,7 +83,7 @@ module _ (n : ℕ) (P : ℕ → List ℕ → ℕ → Bool) where
             number = p .file;
             from = t .from;
             to = omega arith;
-            here = rw (pairs-at files rooms (p .file - 1) within) (List·Memᴰ·head (λ i. claim (t .number i) (p .file) (t .line i) (t .broken i)));
+            here = rw (pairs-at files rooms (p .file - 1) within) (List·Memᴰ·head (λ i. claimOf (p .file) (t .line i) (record { number = t .number i; column = t .column i; broken = t .broken i })));
           })
 
 lines-along : (head : Line → List Test) (f : ℕ) (ps : List ℕ) (count n : ℕ) (ls : List Line) → 2 ≤ n
@@ -130,7 +129,7 @@ unfolding rising fileTests
 file-rising files f s room = refl
 
 tests-rising : (f : ℕ) (ls : List Line) (n : ℕ) (l : Line) → rising turn 0 11 (testsOn f ls n l) ≡ true
-unfolding rising turn place lineOrder testsOn headTests lineTests textTests rowTests
+unfolding rising turn place lineOrder testsOn headTests lineTests textTests valueTests
 tests-rising f ls n l = go (eqb n 1)
   where
     go : (first : Bool) → rising turn 0 11 (cond first (headTests f (l .text)) (lineTests f (places f (headerOf ls)) (fieldCount ls) (l .text))) ≡ true
@@ -257,7 +256,7 @@ module _ (files : List (List ℕ)) (rooms : List ℕ) (p : Claim) where
         from = t .from;
         to = t .to;
         room = t .room;
-        rule = Memᴰ·cast (λ i. test (t .number i) (t .broken i)) (among (p .file) (fileOf files (p .file)) (getD rooms (p .file - 1) 0));
+        rule = Memᴰ·cast (λ i. record { number = t .number i; column = t .column i; broken = t .broken i }) (among (p .file) (fileOf files (p .file)) (getD rooms (p .file - 1) 0));
       }
 
   over-of : (n : ℕ) (P : ℕ → List ℕ → ℕ → Bool) (ts : List Test) (l : List Claim) → FileClaim files rooms p → (List·Memᴰ (testOf p) ts → List·Memᴰ p l)
@@ -269,6 +268,7 @@ module _ (files : List (List ℕ)) (rooms : List ℕ) (p : Claim) where
           Memᴰ·append-left l (over-exactly n P files rooms p .1 (record {
             number = ap (λ (q : Test). q .number) e;
             line = t .line;
+            column = ap (λ (q : Test). q .column) e;
             from = t .from;
             to = t .to;
             room = t .room;
@@ -310,22 +310,3 @@ module _ (files : List (List ℕ)) (rooms : List ℕ) (p : Claim) where
   -- Of a line the tests of rules 5 to 14 are claimed, and nothing else.
   pub claim-of-line : 1 ≤ p .line → List·Memᴰ p (claims files rooms) ↔ LineClaim files p
   claim-of-line h = (λ m. ⊎-elim (λ t. absurd (omega arith)) (λ t. t) (claims-exactly .0 m), λ t. claims-exactly .1 (inr t))
-
--- A refusal's number is 1 to 14, its file one of the files, its line one of that file's, or 0 exactly for rules 1 to 4.
-pub refusal-numbers : (files : List (List ℕ)) (rooms : List ℕ) (r : Refusal) → verdictOf files rooms ≡ Unreadable r → Sayable files r
-refusal-numbers files rooms r e = go (first-broken files rooms r .0 e)
-  where
-    ofFile : (p : Claim) → FileClaim files rooms p → Sayable files (refusal p)
-    ofFile p t =
-        let n = file-number files rooms p t in
-        record { lowest = n .0; highest = omega arith; file = (t .from, t .to); line = (λ z. omega arith, λ z. t .line); last = omega arith; column = refl }
-
-    ofLine : (p : Claim) → LineClaim files p → Sayable files (refusal p)
-    ofLine p t =
-        let n = line-number files p t in
-        record { lowest = omega arith; highest = omega arith; file = (t .from, t .to); line = (λ z. absurd (omega arith), λ z. absurd (omega arith)); last = t .last; column = refl }
-
-    go : FirstBroken (claims files rooms) r → Sayable files r
-    go f =
-        let p = getD (claims files rooms) (f .at) noClaim in
-        rw (f .spoken) at (⊎-elim (ofFile p) (ofLine p) (claims-exactly files rooms p .0 (getD-mem (claims files rooms) (f .at) noClaim (f .inside))))

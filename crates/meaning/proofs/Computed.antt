@@ -4,7 +4,8 @@ use native.Mathlib.Omega.{arith}
 use native.Mathlib.Nat.{not-suc-le-zero}
 use mathlib.Core.Path.{_≡_, refl}
 use mathlib.Core.Bool.{Bool, true, false, _&&_}
-use mathlib.Core.List.{List, [], _∷_}
+use mathlib.Core.Logic.{⊎-elim}
+use mathlib.Core.List.{List, [], _∷_, List·Memᴰ, List·Memᴰ·not-nil, List·Memᴰ·cases-cons}
 use lib.Dec.{T, eqb}
 use lib.ListN.{getD}
 use borrow.Author.Tests.{eqb-true, eqb-false}
@@ -30,6 +31,12 @@ pub getD-all {ℓ} : {A : Type ℓ} (P : A → Bool) (d : A) → T (P d) → (l 
 getD-all P d k [] t i = k
 getD-all P d k (x ∷ r) t zero = and-left (P x) (all P r) t
 getD-all P d k (x ∷ r) t (suc i) = getD-all P d k r (and-right (P x) (all P r) t) i
+
+-- and of each element that stands in the table
+pub mem-all : {A : Type 0} (P : A → Bool) (l : List A) → T (all P l) → (x : A) → List·Memᴰ x l → P x ≡ true
+mem-all P [] t x m = absurd (List·Memᴰ·not-nil m)
+mem-all P (y ∷ r) t x m =
+    ⊎-elim (λ (e : x ≡ y). rw e (is-true (P y) (and-left (P y) (all P r) t))) (mem-all P r (and-right (P y) (all P r) t) x) (List·Memᴰ·cases-cons m)
 
 -- a test computed for every number below a bound
 abbrev pub allBelow : ℕ → (ℕ → Bool) → Bool

@@ -4,14 +4,18 @@ use native.Mathlib.Omega.{arith}
 use mathlib.Core.Path.{_≡_, refl, sym, ap, _∙_}
 use mathlib.Core.Logic.{_↔_}
 use mathlib.Core.Bool.{Bool, true, false}
-use mathlib.Core.List.{List, [], _∷_, List·Memᴰ·head, List·Memᴰ·tail, List·Memᴰ·not-nil}
+use mathlib.Core.List.{List, [], _∷_, List·Memᴰ, List·Memᴰ·head, List·Memᴰ·tail, List·Memᴰ·not-nil}
+use native.Mathlib.Decide.{ℕ-discrete}
 use lib.ListN.{length, getD}
+use lib.Dec.{ltb}
+use borrow.Author.Tests.{ltb-true, ltb-false}
 use Rattle.meaning.specs.declared.Refusal.{Refusal}
 use Rattle.meaning.specs.declared.Verdict.{Verdict}
 use Rattle.meaning.specs.declared.Verdict.the-variants.{Readable, Unreadable}
 use Rattle.meaning.specs.Refusals.{Claim, claims, refusal, speaks, verdictOf}
-use Rattle.meaning.specs.Promises.{noClaim, FirstBroken, NoneBroken, SomeBroken, RefusedBy}
-use Rattle.meaning.proofs.Laws.{each-cons, getD-mem}
+use Rattle.meaning.specs.Promises.{Ordered, speaksBefore, noClaim, FirstBroken, NoneBroken, SomeBroken, RefusedBy}
+use Rattle.meaning.proofs.ListLaws.{both}
+use Rattle.meaning.proofs.Laws.{each-cons, getD-mem, At, place-of, in-order}
 
 speaks-yes : (p : Claim) (r : List Claim) → p .broken ≡ true → speaks (p ∷ r) ≡ Unreadable (refusal p)
 unfolding speaks
@@ -68,6 +72,22 @@ silent-none cs = (none-of cs, of-none cs)
 -- at most one refusal is first
 pub first-unique : (cs : List Claim) (r s : Refusal) → FirstBroken cs r → FirstBroken cs s → r ≡ s
 first-unique cs r s f g = cc (spoken-first cs r .1 f, spoken-first cs s .1 g)
+
+-- a claim that does not come after the first broken one, and is another, is not broken
+pub earlier-kept : (cs : List Claim) (r : Refusal) → FirstBroken cs r → Ordered speaksBefore cs → (p : Claim) → List·Memᴰ p cs
+    → ((q : Claim) → refusal q ≡ r → speaksBefore q p ≡ false) → ((q : Claim) → refusal q ≡ r → q ≡ p → ⊥) → p .broken ≡ false
+earlier-kept cs r b o p m not-after other = go (ltb (k .index) (b .at)) refl (ℕ-discrete (k .index) (b .at))
+  where
+    k : At cs noClaim p
+    k = place-of cs noClaim p m
+
+    go : (t : Bool) → ltb (k .index) (b .at) ≡ t → Dec (k .index ≡ b .at) → p .broken ≡ false
+    go true e d = rw (k .here) at (b .silent (k .index) (ltb-true _ _ e))
+    go false e (yes d) = absurd (other (getD cs (b .at) noClaim) (b .spoken) (rw d at (k .here)))
+    go false e (no d) =
+        let i : b .at < k .index = omega (arith, d, ltb-false (k .index) (b .at) e) in
+        let z : speaksBefore (getD cs (b .at) noClaim) p ≡ true = rw (k .here) at (in-order speaksBefore cs noClaim (b .at) (k .index) o i (k .inside)) in
+        both (speaksBefore (getD cs (b .at) noClaim) p) z (not-after (getD cs (b .at) noClaim) (b .spoken))
 
 module _ (files : List (List ℕ)) (rooms : List ℕ) where
   -- The refusal is the first broken claim, and the first broken claim is the refusal.

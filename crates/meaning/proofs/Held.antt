@@ -21,7 +21,8 @@ use Rattle.meaning.specs.Outcome.{outcome, readOutcome, refusedOr, fille
 use Rattle.meaning.specs.Promises.{WholeKept}
 use Rattle.meaning.specs.Held.{Names, lineAt, StopHeld, RouteHeld, mark, ServiceHeld, TripHeld, TimeHeld, ExceptionHeld, TableHeld, TablesHeld}
 use Rattle.meaning.proofs.References.{find-first}
-use Rattle.meaning.proofs.Readable.{whole-kept, getD-map-in}
+use Rattle.meaning.proofs.Laws.{getD-map-in}
+use Rattle.meaning.proofs.Readable.{whole-kept}
 use Rattle.meaning.proofs.Records.{laid-length, rows-count, zero-held, rest-held, length-held, number-held, row-held}
 
 -- a reference is stored as the first line with that id, or 0

@@ -2,10 +2,10 @@
 use Prim.Native.Nat.{ℕ, zero, suc, _+_, _-_, _≤_, _<_}
 use native.Mathlib.Omega.{arith}
 use native.Mathlib.Nat.{sub-self}
-use mathlib.Core.Path.{_≡_, refl}
+use mathlib.Core.Path.{_≡_, refl, sym}
 use mathlib.Core.Logic.{⊎-elim}
 use mathlib.Core.Bool.{Bool, true, false, _&&_, _||_}
-use mathlib.Core.List.{List, [], _∷_, _++_, List·Memᴰ, List·Memᴰ·head, List·Memᴰ·tail, List·Memᴰ·not-nil, List·Memᴰ·cases-cons, List·Memᴰ·append-cases, Memᴰ·append-left, Memᴰ·append-right}
+use mathlib.Core.List.{List, [], _∷_, _++_, map, List·Memᴰ, List·Memᴰ·head, List·Memᴰ·tail, List·Memᴰ·not-nil, List·Memᴰ·cases-cons, List·Memᴰ·append-cases, Memᴰ·append-left, Memᴰ·append-right}
 use lib.ListN.{length, getD}
 use lib.Dec.{ltb, eqb}
 use borrow.Author.Tests.{ltb-true, ltb-false, lt-ltb, eq-eqb}
@@ -32,6 +32,11 @@ pub getD-mem : {A : Type 0} (l : List A) (k : ℕ) (d : A) → k < length l → 
 getD-mem [] k d h = absurd (omega arith)
 getD-mem (x ∷ r) zero d h = List·Memᴰ·head refl
 getD-mem (x ∷ r) (suc k) d h = List·Memᴰ·tail (getD-mem r k d (omega arith))
+
+pub getD-map-in : {A B : Type 0} (g : A → B) (l : List A) (i : ℕ) (d : A) (e : B) → i < length l → getD (map g l) i e ≡ g (getD l i d)
+getD-map-in g [] i d e h = absurd (omega arith)
+getD-map-in g (x ∷ l) zero d e h = refl
+getD-map-in g (x ∷ l) (suc i) d e h = getD-map-in g l i d e (omega arith)
 
 module _ {A : Type 0} (less : A → A → Bool) where
   -- two ordered lists, all of the first before all of the second
@@ -94,3 +99,20 @@ module _ {A B : Type 0} (d : B) (g : ℕ → B → List A) where
     where
       apart : (x y : A) → List·Memᴰ x (g n b) → List·Memᴰ y (along g (n + 1) r) → less x y ≡ true
       apart x y m t = let k = along-in (n + 1) r y t in between n (k .number) b (getD r (k .number - (n + 1)) d) x y (omega arith) m (k .here)
+
+-- where an element stands
+pub record At {A : Type 0} (l : List A) (d x : A) : Type 0 where
+  pub index : ℕ
+  pub inside : index < length l
+  pub here : getD l index d ≡ x
+
+pub place-of : {A : Type 0} (l : List A) (d x : A) → List·Memᴰ x l → At l d x
+place-of (y ∷ l) d x (List·Memᴰ·head e) = record { index = 0; inside = omega arith; here = sym e }
+place-of (y ∷ l) d x (List·Memᴰ·tail m) = let p = place-of l d x m in record { index = suc (p .index); inside = omega (arith, p .inside); here = p .here }
+
+-- of two elements of an ordered list the earlier comes first
+pub in-order : {A : Type 0} (less : A → A → Bool) (l : List A) (d : A) (j k : ℕ) → Ordered less l → j < k → k < length l → less (getD l j d) (getD l k d) ≡ true
+in-order less [] d j k o h g = absurd (omega arith)
+in-order less (x ∷ l) d j zero o h g = absurd (omega arith)
+in-order less (x ∷ l) d zero (suc k) o h g = o .0 (getD l k d) (getD-mem l k d (omega arith))
+in-order less (x ∷ l) d (suc j) (suc k) o h g = in-order less l d j k (o .1) (omega arith) (omega arith)

@@ -7,6 +7,8 @@ pub mod Lines
 pub mod References
 pub mod FirstBroken
 pub mod Claims
+pub mod Columns
+pub mod Sayable
 pub mod Readable
 pub mod TheList
 pub mod Pages
@@ -18,4 +20,5 @@ pub mod Demands
 pub mod ByDate
 pub mod Characters
 pub mod BadUtf8
+pub mod WhichColumn
 pub mod Starred

@@ -8,7 +8,7 @@ use mathlib.Core.List.{List, [], _∷_, List·Memᴰ, List·Memᴰ·head, List·
 use lib.ListN.{length, getD}
 use lib.Dec.{ltb}
 use borrow.Author.Tests.{ltb-true, lt-ltb}
-use Rattle.meaning.specs.Refusals.{Test, Claim, claim, onLine}
+use Rattle.meaning.specs.Refusals.{Test, Claim, claimOf, onLine}
 use Rattle.meaning.specs.Promises.{Ordered, Each, sooner2, sooner3, testOf}
 use Rattle.meaning.proofs.ListLaws.{and-both}
 use Rattle.meaning.proofs.Laws.{sooner-less, sooner-same, each-cons, along, Along, along-in, along-of, along-ordered}
@@ -25,7 +25,7 @@ module _ (f n : ℕ) where
   line-in [] p m = absurd (List·Memᴰ·not-nil m)
   line-in (t ∷ r) p m = ⊎-elim first (λ k. rest (line-in r p k)) (List·Memᴰ·cases-cons m)
     where
-      first : p ≡ claim (t .number) f n (t .broken) → OnLine f n (t ∷ r) p
+      first : p ≡ claimOf f n t → OnLine f n (t ∷ r) p
       first e = record { file = ap (λ (q : Claim). q .file) e; line = ap (λ (q : Claim). q .line) e; rule = List·Memᴰ·head (ap testOf e) }
 
       rest : OnLine f n r p → OnLine f n (t ∷ r) p
@@ -36,7 +36,7 @@ module _ (f n : ℕ) where
   line-of [] p k = absurd (List·Memᴰ·not-nil (k .rule))
   line-of (t ∷ r) p k =
       ⊎-elim
-      (λ (e : testOf p ≡ t). List·Memᴰ·head (λ i. claim (e i .number) (k .file i) (k .line i) (e i .broken)))
+      (λ (e : testOf p ≡ t). List·Memᴰ·head (λ i. claimOf (k .file i) (k .line i) (e i)))
       (λ (m : List·Memᴰ (testOf p) r). List·Memᴰ·tail (line-of r p (record { file = k .file; line = k .line; rule = m })))
       (List·Memᴰ·cases-cons (k .rule))
 
@@ -100,8 +100,8 @@ module _ (turn : ℕ → ℕ) where
       let q = and-both (ltb k z) (rising k z r) (p .1) in
       (λ y m. first y (line-in f n r y m) (q .1), line-ordered f n k z r (q .1))
     where
-      first : (y : Claim) → OnLine f n r y → rising (turn (t .number)) z r ≡ true → rank (claim (t .number) f n (t .broken)) y ≡ true
-      first y k up = rank-turn (claim (t .number) f n (t .broken)) y (sym (k .file)) (sym (k .line)) (rising-within (turn (t .number)) z r up (testOf y) (k .rule) .0)
+      first : (y : Claim) → OnLine f n r y → rising (turn (t .number)) z r ≡ true → rank (claimOf f n t) y ≡ true
+      first y k up = rank-turn (claimOf f n t) y (sym (k .file)) (sym (k .line)) (rising-within (turn (t .number)) z r up (testOf y) (k .rule) .0)
 
 -- a rule's turn where the lowest number speaks
 abbrev pub byNumber : ℕ → ℕ

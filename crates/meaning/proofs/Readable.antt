@@ -6,28 +6,26 @@ use mathlib.Core.Bool.{false}
 use native.Mathlib.Omega.{arith}
 use lib.ListN.{length, getD, drop, length-map, length-drop}
 use lib.Seq.{getD-drop}
-use borrow.Author.Tests.{ne-eqb, ltb-false}
+use lib.Dec.{eqb}
+use borrow.Author.Tests.{ne-eqb, eqb-true, not-false, ltb-false}
 use Rattle.meaning.specs.declared.Verdict.the-variants.{Readable}
-use Rattle.meaning.specs.Bytes.{linesOf}
+use Rattle.meaning.specs.Bytes.{linesOf, values}
 use Rattle.meaning.specs.Columns.{columnOf, countOf, places, rowOf, headerOf, rowsOf}
 use Rattle.meaning.specs.Tables.{fileOf}
-use Rattle.meaning.specs.Refusals.{Test, test, claim, rule1, rule2, rule3, rule4, rule11, rule12, rule13, long, blank, formless, overRow, textTests, rowTests, lineTests, verdictOf}
+use Rattle.meaning.specs.Refusals.{Test, test, testAt, claimOf, rule1, rule2, rule3, rule4, rule9, rule11, rule12, rule13, textTests, headTests, valueTests, lineTests, verdictOf}
 use Rattle.meaning.specs.Promises.{fileTests, testsOn, noLine, ValueKept}
 pub use Rattle.meaning.specs.Promises.{WholeKept}
-use Rattle.meaning.proofs.Tests.{some-none}
+use Rattle.meaning.proofs.Laws.{getD-map-in}
 use Rattle.meaning.proofs.FirstBroken.{readable-exactly}
 use Rattle.meaning.proofs.Claims.{claim-of-file, claim-of-line}
-
-pub getD-map-in : {A B : Type 0} (g : A → B) (l : List A) (i : ℕ) (d : A) (e : B) → i < length l → getD (map g l) i e ≡ g (getD l i d)
-getD-map-in g [] i d e h = absurd (omega arith)
-getD-map-in g (x ∷ l) zero d e h = refl
-getD-map-in g (x ∷ l) (suc i) d e h = getD-map-in g l i d e (omega arith)
+use Rattle.meaning.proofs.Columns.{kept-11, kept-12, kept-13}
+use Rattle.meaning.proofs.Sayable.{first-line}
 
 module _ (files : List (List ℕ)) (rooms : List ℕ) (read : verdictOf files rooms ≡ Readable) (f : ℕ) (from : 1 ≤ f) (to : f ≤ length files) where
   none-whole : (room : f ≤ length rooms) (t : Test) → List·Memᴰ t (fileTests files f (fileOf files f) (getD rooms (f - 1) 0)) → t .broken ≡ false
   none-whole room t m =
-      readable-exactly files rooms .0 read (claim (t .number) f 0 (t .broken))
-      (claim-of-file files rooms (claim (t .number) f 0 (t .broken)) refl .1 (record { line = refl; from = from; to = to; room = room; rule = m }))
+      readable-exactly files rooms .0 read (claimOf f 0 t)
+      (claim-of-file files rooms (claimOf f 0 t) refl .1 (record { line = refl; from = from; to = to; room = room; rule = m }))
 
   pub whole-kept : f ≤ length rooms → WholeKept files f (fileOf files f) (getD rooms (f - 1) 0)
   unfolding fileTests rule1 rule2 rule3
@@ -51,28 +49,40 @@ module _ (files : List (List ℕ)) (rooms : List ℕ) (read : verdictOf files ro
         getD-map-in (λ l. rowOf (places f (headerOf ls)) (l .text)) (drop 1 ls) i noLine [] (simp length-drop (omega (arith, line-in)))
         ∙ rw (getD-drop 1 ls i noLine, e)
 
-    none-on-row : (t : Test) → List·Memᴰ t (rowTests f (getD (rowsOf f (fileOf files f)) i [])) → t .broken ≡ false
-    unfolding testsOn lineTests
-    none-on-row t m =
-        let p = claim (t .number) f (i + 2) (t .broken) in
+    abbrev header : List (List ℕ)
+    header = headerOf (linesOf (fileOf files f))
+
+    abbrev text : List ℕ
+    text = getD (linesOf (fileOf files f)) (i + 2 - 1) noLine .text
+
+    -- no test of a line is broken
+    none-on-line : (n : ℕ) → 1 ≤ n → n ≤ length (linesOf (fileOf files f)) → (t : Test)
+        → List·Memᴰ t (testsOn f (linesOf (fileOf files f)) n (getD (linesOf (fileOf files f)) (n - 1) noLine)) → t .broken ≡ false
+    none-on-line n first last t m =
+        readable-exactly files rooms .0 read (claimOf f n t)
+        (claim-of-line files rooms (claimOf f n t) first .1 (record { from = from; to = to; first = first; last = last; rule = m }))
+
+    lacks-nothing : rule9 f header ≡ false
+    unfolding testsOn headTests
+    lacks-nothing =
         let ls = linesOf (fileOf files f) in
-        let l = getD ls (i + 2 - 1) noLine in
-        readable-exactly files rooms .0 read p
-        (claim-of-line files rooms p (omega arith) .1 (record {
-          from = from;
-          to = to;
-          first = omega arith;
-          last = line-in;
-          rule = rw (ne-eqb (i + 2) 1 (λ z. omega arith)) (Memᴰ·append-right (textTests (l .text)) (List·Memᴰ·tail (rw row-is at m)));
-        }))
+        let h = getD ls 0 noLine .text in
+        rw (first-line ls (omega (arith, line-in))) at
+        (none-on-line 1 (omega arith) (omega (arith, line-in)) (test 9 (rule9 f (values h))) (Memᴰ·append-right (textTests h) (List·Memᴰ·tail (List·Memᴰ·head refl))))
+
+    none-on-row : (n c : ℕ) → List·Memᴰ (testAt n c) (valueTests f (places f header) text) → c ≡ 0
+    unfolding testsOn lineTests
+    none-on-row n c m =
+        eqb-true c 0
+        (not-false (eqb c 0)
+        (none-on-line (i + 2) (omega arith) line-in (testAt n c) (rw (ne-eqb (i + 2) 1 (λ z. omega arith)) (Memᴰ·append-right (textTests text) (List·Memᴰ·tail m)))))
 
     -- In a readable feed every value is there where it is needed, short where it is an id, and of its form.
     pub values-kept : (k : ℕ) → k < countOf f → ValueKept (columnOf f k) (getD (getD (rowsOf f (fileOf files f)) i []) k [])
-    unfolding rowTests rule11 rule12 rule13 overRow
+    unfolding valueTests
     values-kept k g =
-        let r = getD (rowsOf f (fileOf files f)) i [] in
-        record {
-          short = some-none (λ j. long (columnOf f j) (getD r j [])) 0 (countOf f) (none-on-row (test 11 (rule11 f r)) (List·Memᴰ·head refl)) k (omega arith) (omega arith);
-          there = some-none (λ j. blank (columnOf f j) (getD r j [])) 0 (countOf f) (none-on-row (test 12 (rule12 f r)) (List·Memᴰ·tail (List·Memᴰ·head refl))) k (omega arith) (omega arith);
-          formed = some-none (λ j. formless (columnOf f j) (getD r j [])) 0 (countOf f) (none-on-row (test 13 (rule13 f r)) (List·Memᴰ·tail (List·Memᴰ·tail (List·Memᴰ·head refl)))) k (omega arith) (omega arith);
-        }
+        rw row-is (record {
+          short = kept-11 f header lacks-nothing text .0 (none-on-row 11 (rule11 f (places f header) text) (List·Memᴰ·head refl)) k g;
+          there = kept-12 f header lacks-nothing text .0 (none-on-row 12 (rule12 f (places f header) text) (List·Memᴰ·tail (List·Memᴰ·head refl))) k g;
+          formed = kept-13 f header lacks-nothing text .0 (none-on-row 13 (rule13 f (places f header) text) (List·Memᴰ·tail (List·Memᴰ·tail (List·Memᴰ·head refl)))) k g;
+        })

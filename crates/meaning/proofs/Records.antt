@@ -17,7 +17,7 @@ use Rattle.meaning.specs.Tables.{Feed, stopNumbers, routeNumbers, servic
 use Rattle.meaning.specs.Refusals.{mayLack, ended, rule4}
 use Rattle.meaning.specs.Promises.{noLine}
 use Rattle.meaning.proofs.ListLaws.{both}
-use Rattle.meaning.proofs.Readable.{getD-map-in}
+use Rattle.meaning.proofs.Laws.{getD-map-in}
 
 -- ---- records of one width, laid one after the other
 

@@ -8,8 +8,8 @@ use mathlib.Core.Bool.{Bool, true, false, cond}
 use mathlib.Core.List.{List, [], _∷_, map, List·Memᴰ, List·Memᴰ·head, List·Memᴰ·tail, List·Memᴰ·not-nil, List·Memᴰ·cases-cons}
 use lib.IntN.{ℤ}
 use lib.ListN.{length, getD, replicate, length-replicate, length-append, List·getD-eq-default}
-use lib.Dec.{ltb, eqb}
-use borrow.Author.Tests.{lt-ltb, ltb-true, ltb-false}
+use lib.Dec.{T, ltb, eqb}
+use borrow.Author.Tests.{eqb-true, lt-ltb, ltb-true, ltb-false}
 use Rattle.meaning.specs.declared.Refusal.{Refusal}
 use Rattle.meaning.specs.declared.Place.{Place}
 use Rattle.meaning.specs.declared.Verdict.{Verdict}
@@ -17,13 +17,14 @@ use Rattle.meaning.specs.declared.Verdict.the-variants.{Readable, Unread
 use Rattle.meaning.specs.declared.Answer.the-variants.{Accepted, Findings}
 use Rattle.meaning.specs.Lists.{flat}
 use Rattle.meaning.specs.Tables.{Feed, feedOf, rowsIn}
-use Rattle.meaning.specs.Refusals.{Test, test, Claim, claim, onLine, verdictOf}
+use Rattle.meaning.specs.Refusals.{Test, test, Claim, claimOf, claim, onLine, verdictOf}
 use Rattle.meaning.specs.Rules.{stopRules, routeRules, serviceRules, tripRules, timeRules, dateRules, recordCount, rulesOf, onRecords, bindingsOf, bindings}
 use Rattle.meaning.specs.Findings.{Finding, finding, listed, findingsOf, above, after, page, roomOf, answerOf, answerNumbers}
 use Rattle.meaning.specs.Outcome.{readOutcome, refusedOr, outcome}
-use Rattle.meaning.specs.Promises.{Ordered, Each, saysAccepted, saysFindings, saysRefused, Ends, accepted, findings, refused, BrokenAt, Findable, comesBefore, beginning}
+use Rattle.meaning.specs.Promises.{Ordered, Each, saysAccepted, saysFindings, saysRefused, Ends, accepted, findings, refused, testOf, BrokenAt, Findable, comesBefore, beginning}
+use Rattle.meaning.proofs.Computed.{all, mem-all}
 use Rattle.meaning.proofs.Pages.{told}
-use Rattle.meaning.proofs.Claims.{refusal-numbers}
+use Rattle.meaning.proofs.Sayable.{refusal-numbers}
 use Rattle.meaning.proofs.Laws.{along, Along, along-in, along-of, along-ordered}
 use Rattle.meaning.proofs.Lines.{rising, rising-within, rank, rank-file, byNumber, linewise, Linewise, linewise-exactly, linewise-ordered}
 
@@ -39,16 +40,20 @@ listed-no : (p : Claim) (cs : List Claim) → p .broken ≡ false → listed (p 
 unfolding listed
 listed-no p cs e = rw e
 
+-- a claim that names no column: binding rules name none
+abbrev Plain : Claim → Type 0
+Plain p = p .column ≡ 0
+
 -- what is listed is what is broken
-listed-in : (f n r : ℕ) (cs : List Claim) → List·Memᴰ (finding f n r) (listed cs) → List·Memᴰ (claim r f n true) cs
+listed-in : (f n r : ℕ) (cs : List Claim) → Each Plain cs → List·Memᴰ (finding f n r) (listed cs) → List·Memᴰ (claim r f n true) cs
 unfolding listed
-listed-in f n r [] m = absurd (List·Memᴰ·not-nil m)
-listed-in f n r (p ∷ cs) m = go (p .broken) refl (listed-in f n r cs)
+listed-in f n r [] plain m = absurd (List·Memᴰ·not-nil m)
+listed-in f n r (p ∷ cs) plain m = go (p .broken) refl (listed-in f n r cs (λ q k. plain q (List·Memᴰ·tail k)))
   where
     go : (t : Bool) → p .broken ≡ t → (List·Memᴰ (finding f n r) (listed cs) → List·Memᴰ (claim r f n true) cs) → List·Memᴰ (claim r f n true) (p ∷ cs)
     go true e rest =
         ⊎-elim
-        (λ (d : finding f n r ≡ toFinding p). List·Memᴰ·head (λ i. claim (d i .rule) (d i .file) (d i .line) (sym e i)))
+        (λ (d : finding f n r ≡ toFinding p). List·Memᴰ·head (λ i. claimOf (d i .file) (d i .line) (record { number = d i .rule; column = sym (plain p (List·Memᴰ·head refl)) i; broken = sym e i })))
         (λ (k : List·Memᴰ (finding f n r) (listed cs)). List·Memᴰ·tail (rest k))
         (List·Memᴰ·cases-cons (rw (listed-yes p cs e) at m))
     go false e rest = List·Memᴰ·tail (rest (rw (listed-no p cs e) at m))
@@ -64,13 +69,13 @@ listed-of f n r (p ∷ cs) m = ⊎-elim here (λ k. later (p .broken) refl (list
     later true e k = rw (listed-yes p cs e) (List·Memᴰ·tail k)
     later false e k = rw (listed-no p cs e) k
 
-listed-ordered : (cs : List Claim) → Ordered (rank byNumber) cs → Ordered comesBefore (listed cs)
+listed-ordered : (cs : List Claim) → Each Plain cs → Ordered (rank byNumber) cs → Ordered comesBefore (listed cs)
 unfolding listed rank comesBefore
-listed-ordered [] o = tt
-listed-ordered (p ∷ cs) o = go (p .broken) refl (listed-ordered cs (o .1))
+listed-ordered [] plain o = tt
+listed-ordered (p ∷ cs) plain o = go (p .broken) refl (listed-ordered cs (λ q k. plain q (List·Memᴰ·tail k)) (o .1))
   where
     before : (e : Finding) → List·Memᴰ e (listed cs) → comesBefore (toFinding p) e ≡ true
-    before e m = o .0 (claim (e .rule) (e .file) (e .line) true) (listed-in (e .file) (e .line) (e .rule) cs m)
+    before e m = o .0 (claim (e .rule) (e .file) (e .line) true) (listed-in (e .file) (e .line) (e .rule) cs (λ q k. plain q (List·Memᴰ·tail k)) m)
 
     go : (t : Bool) → p .broken ≡ t → Ordered comesBefore (listed cs) → Ordered comesBefore (listed (p ∷ cs))
     go true e rest = rw (listed-yes p cs e) (before, rest)
@@ -96,16 +101,17 @@ records-along f rules i (suc n) =
     let e : i + 1 + 2 ≡ i + 2 + 1 = omega arith in
     rw (records-along f rules (i + 1) n, e, add-sub-cancel i 2)
 
-rules-rising : (w : Feed) (f i : ℕ) → rising byNumber 19 32 (rulesOf w f i) ≡ true
+-- the rules of a line rise, and none of them names a column
+rules-computed : (w : Feed) (f i : ℕ) → (rising byNumber 19 32 (rulesOf w f i) ≡ true) × T (all (λ t. eqb (t .column) 0) (rulesOf w f i))
 unfolding rising rulesOf stopRules routeRules serviceRules tripRules timeRules dateRules
-rules-rising w zero i = refl
-rules-rising w (suc zero) i = refl
-rules-rising w (suc (suc zero)) i = refl
-rules-rising w (suc (suc (suc zero))) i = refl
-rules-rising w (suc (suc (suc (suc zero)))) i = refl
-rules-rising w (suc (suc (suc (suc (suc zero))))) i = refl
-rules-rising w (suc (suc (suc (suc (suc (suc zero)))))) i = refl
-rules-rising w (suc (suc (suc (suc (suc (suc (suc f))))))) i = refl
+rules-computed w zero i = (refl, tt)
+rules-computed w (suc zero) i = (refl, tt)
+rules-computed w (suc (suc zero)) i = (refl, tt)
+rules-computed w (suc (suc (suc zero))) i = (refl, tt)
+rules-computed w (suc (suc (suc (suc zero)))) i = (refl, tt)
+rules-computed w (suc (suc (suc (suc (suc zero))))) i = (refl, tt)
+rules-computed w (suc (suc (suc (suc (suc (suc zero)))))) i = (refl, tt)
+rules-computed w (suc (suc (suc (suc (suc (suc (suc f))))))) i = (refl, tt)
 
 -- the files with records are 1 to 6
 counted-files : (w : Feed) (f : ℕ) → 0 < recordCount w f → (1 ≤ f) × (f < 7)
@@ -153,13 +159,20 @@ module _ (w : Feed) where
   bindings-ordered = rw bindings-along (along-ordered tt ofNumber (rank byNumber) own apart 1 six)
     where
       own : (f : ℕ) (u : Unit {0}) → Ordered (rank byNumber) (bindingsOf w f)
-      own f u = rw (file-along f) (linewise-ordered tt f (ruled f) 2 (records f) byNumber 19 32 (λ k b. rules-rising w f (k - 2)))
+      own f u = rw (file-along f) (linewise-ordered tt f (ruled f) 2 (records f) byNumber 19 32 (λ k b. rules-computed w f (k - 2) .0))
 
       apart : (j k : ℕ) (b c : Unit {0}) (x y : Claim) → j < k → List·Memᴰ x (bindingsOf w j) → List·Memᴰ y (bindingsOf w k) → rank byNumber x y ≡ true
       apart j k b c x y h m t =
           let u = file-exactly j x .0 m .file in
           let v = file-exactly k y .0 t .file in
           rank-file byNumber x y (omega arith)
+
+  bindings-plain : Each Plain (bindings w)
+  bindings-plain p m =
+      let t = along-in tt ofNumber 1 six p (rw bindings-along at m) in
+      let u = file-exactly (t .number) p .0 (t .here) in
+      let i = p .line - 2 in
+      eqb-true (p .column) 0 (mem-all (λ t. eqb (t .column) 0) (rulesOf w (t .number) i) (rules-computed w (t .number) i .1) (testOf p) (u .rule))
 
   module _ (f n r : ℕ) where
     broken-in : Along tt ofNumber 1 six (claim r f n true) → BrokenAt w f n r
@@ -178,21 +191,21 @@ module _ (w : Feed) where
     pub listed-exactly : List·Memᴰ (finding f n r) (findingsOf w) ↔ BrokenAt w f n r
     unfolding findingsOf
     listed-exactly = (
-      λ m. broken-in (along-in tt ofNumber 1 six (claim r f n true) (rw bindings-along at (listed-in f n r (bindings w) m))),
+      λ m. broken-in (along-in tt ofNumber 1 six (claim r f n true) (rw bindings-along at (listed-in f n r (bindings w) bindings-plain m))),
       λ b. listed-of f n r (bindings w) (rw bindings-along (along-of tt ofNumber 1 six (claim r f n true) (broken-of b))),
     )
 
   -- The list rises strictly by file, line, rule, so each finding stands once.
   pub list-ordered : Ordered comesBefore (findingsOf w)
   unfolding findingsOf
-  list-ordered = listed-ordered (bindings w) bindings-ordered
+  list-ordered = listed-ordered (bindings w) bindings-plain bindings-ordered
 
 -- A finding's file is 1 to 6, its line one of that file's records, its rule 20 to 31.
 pub finding-numbers : (w : Feed) → Each (Findable w) (findingsOf w)
 finding-numbers w d m =
     let b = listed-exactly w (d .file) (d .line) (d .rule) .0 m in
     let file = counted-files w (d .file) (omega arith) in
-    let rule = rising-within byNumber 19 32 (rulesOf w (d .file) (d .line - 2)) (rules-rising w (d .file) (d .line - 2)) (test (d .rule) true) (b .rule) in
+    let rule = rising-within byNumber 19 32 (rulesOf w (d .file) (d .line - 2)) (rules-computed w (d .file) (d .line - 2) .0) (test (d .rule) true) (b .rule) in
     record { file = omega arith; line = omega arith; rule = omega arith }
 
 -- Every finding comes after the list's beginning.

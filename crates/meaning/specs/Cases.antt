@@ -201,15 +201,19 @@ acceptedCall =
     })
 
 -- a refusal's number, file and line
+abbrev pub refusedIn : ℕ → ℕ → ℕ → ℕ → Refusal
+refusedIn n f l c = record { number = n; file = f; line = l; column = c }
+
+-- without a column
 abbrev pub refusedAs : ℕ → ℕ → ℕ → Refusal
-refusedAs n f l = record { number = n; file = f; line = l; column = 0 }
+refusedAs n f l = refusedIn n f l 0
 
 -- Refused, for a minute 60: the answer is number, file, line; every table and the list stay as lent.
 abbrev pub refusedCall : Case
 refusedCall =
     let times : String = "trip_id,arrival_time,departure_time,stop_id,stop_sequence\nT,8:00:00,8:00:00,A,1\nT,9:60:00,9:60:00,A,2\n" in
     let tables : List (List ℤ) = sevens 12 ∷ sevens 6 ∷ sevens 10 ∷ sevens 16 ∷ sevens 24 ∷ sevens 3 ∷ [] in
-    call (around oneStop oneTrip times) tables (sevens 4) beginning (record { answer = Refused (refusedAs 13 5 3); tables = tables; list = sevens 4 })
+    call (around oneStop oneTrip times) tables (sevens 4) beginning (record { answer = Refused (refusedIn 13 5 3 2); tables = tables; list = sevens 4 })
 
 -- The feed in full, from its first finding on, with room for two: its second and its third, and the total of five.
 abbrev pub secondPage : Case
@@ -321,7 +325,7 @@ id64 =
 
 abbrev pub id65 : Case
 id65 =
-    read (around "stop_id,stop_name,stop_lat,stop_lon\n12345678901234567890123456789012345678901234567890123456789012345,Alder,1.5,2\n" oneTrip twoTimes) (Unreadable (refusedAs 11 1 2))
+    read (around "stop_id,stop_name,stop_lat,stop_lon\n12345678901234567890123456789012345678901234567890123456789012345,Alder,1.5,2\n" oneTrip twoTimes) (Unreadable (refusedIn 11 1 2 1))
 
 -- ---- services by date, from document 02's words
 
@@ -391,13 +395,13 @@ datesHeaderOnly = found (serviced "" "service_id,date,exception_type\n") (findin
 -- 13: exception_type is 1 or 2
 abbrev pub exceptionZero : Case
 exceptionZero =
-    read (serviced oneService "service_id,date,exception_type\nW,20240101,0\n") (Unreadable (refusedAs 13 6 2))
+    read (serviced oneService "service_id,date,exception_type\nW,20240101,0\n") (Unreadable (refusedIn 13 6 2 3))
 
 -- files are read in order: file 5 speaks before file 6
 abbrev pub timesBeforeDates : Case
 timesBeforeDates =
     let times : String = "trip_id,arrival_time,departure_time,stop_id,stop_sequence\nT,9:60:00,9:60:00,A,2\n" in
-    read (oneStop ∷ "route_id,route_short_name,route_type\nR,7,3\n" ∷ oneService ∷ oneTrip ∷ times ∷ "service_id\n" ∷ []) (Unreadable (refusedAs 13 5 2))
+    read (oneStop ∷ "route_id,route_short_name,route_type\nR,7,3\n" ∷ oneService ∷ oneTrip ∷ times ∷ "service_id\n" ∷ []) (Unreadable (refusedIn 13 5 2 2))
 
 -- 20: the same service and date, whatever the type; the service alone may stand again, and so may the date.
 abbrev pub datesTwice : Case
@@ -458,12 +462,34 @@ badAndMark =
 -- lines keep their order: 13 on line 2 speaks before 14 on line 3
 abbrev pub badLater : Case
 badLater =
-    read (around "stop_id,stop_name,stop_lat,stop_lon\nA,Alder,x,2\nB,é,1.5,2\n" oneTrip twoTimes) (Unreadable (refusedAs 13 1 2))
+    read (around "stop_id,stop_name,stop_lat,stop_lon\nA,Alder,x,2\nB,é,1.5,2\n" oneTrip twoTimes) (Unreadable (refusedIn 13 1 2 3))
 
 -- The mark at the start is dropped once; a second one is a character, and part of the first name.
 abbrev pub markTwice : Case
 markTwice =
     read (around "ï»¿ï»¿stop_id,stop_name,stop_lat,stop_lon\nA,Alder,1.5,2\n" oneTrip twoTimes) (Unreadable (refusedAs 9 1 1))
+
+-- ---- which column, from document 02's words
+
+-- of two names that stand twice, the second standing further left: neither a first standing nor the first name's
+abbrev pub standsAgain : Case
+standsAgain =
+    read (around "stop_id,stop_name,stop_name,stop_id,stop_lat,stop_lon\n" oneTrip twoTimes) (Unreadable (refusedIn 8 1 1 3))
+
+-- a third standing is never it; a name that nobody reads may stand twice, and its columns count
+abbrev pub thirdStanding : Case
+thirdStanding =
+    read (around "stop_lat,stop_id,note,note,\"stop_id\",stop_id,stop_name,stop_lon\n" oneTrip twoTimes) (Unreadable (refusedIn 8 1 1 5))
+
+-- the leftmost in the line, whatever the order of the known columns, unread columns counted
+abbrev pub headersOrder : Case
+headersOrder =
+    read (around "note,stop_lon,stop_lat,stop_name,stop_id\n,2,1.5,Alder,A\n,x,y,Birch,B\n" oneTrip twoTimes) (Unreadable (refusedIn 13 1 3 2))
+
+-- of the named rule: 12 speaks before 13, though a value to the left breaks 13
+abbrev pub namedRule : Case
+namedRule =
+    read (around "stop_lat,stop_id,stop_name,stop_lon\nx,A,,\n" oneTrip twoTimes) (Unreadable (refusedIn 12 1 2 3))
 
 abbrev pub worked : List Case
 worked =
@@ -504,6 +530,10 @@ worked =
     ∷ badAndMark
     ∷ badLater
     ∷ markTwice
+    ∷ standsAgain
+    ∷ thirdStanding
+    ∷ headersOrder
+    ∷ namedRule
     ∷ longitude "180" (TenMillionths (pos 1800000000))
     ∷ time "9:60:00" NoTime
     ∷ []

@@ -15,4 +15,5 @@ pub mod Calls
 pub mod Demands
 pub mod ByDate
 pub mod BadUtf8
+pub mod WhichColumn
 pub mod Cases

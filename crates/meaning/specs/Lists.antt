@@ -6,7 +6,7 @@ use Prim.Native.String.{String}
 use mathlib.Core.List.{List, [], _∷_, _++_}
 use mathlib.Core.Bool.{Bool, true, false, cond}
 use lib.ListN.{length, drop}
-use lib.Dec.{eqb}
+use lib.Dec.{ltb, eqb}
 
 -- the bytes of a text of characters up to U+00FF, each the byte with its number
 abbrev pub ascii : String → List ℕ
@@ -62,6 +62,20 @@ place P n (x ∷ r) = let k = place P (n + 1) r in cond (P x) n k
 -- where a value stands first among values that are counted from n; 0 where it doesn't
 unfoldable pub find : List ℕ → ℕ → List (List ℕ) → ℕ
 find v n vs = place (λ w. same w v) n vs
+
+-- where a value stands for the second time among values that are counted from n; 0 where it doesn't
+unfoldable pub findAgain : List ℕ → ℕ → List (List ℕ) → ℕ
+findAgain v n [] = 0
+findAgain v n (w ∷ r) = let k = findAgain v (n + 1) r in cond (same w v) (find v (n + 1) r) k
+
+-- the lesser of two numbers, 0 being none
+unfoldable pub lesser : ℕ → ℕ → ℕ
+lesser a b = cond (eqb a 0) b (cond (eqb b 0) a (cond (ltb b a) b a))
+
+-- the least of g 0, g 1, .., n of them, 0 being none
+unfoldable pub least : (ℕ → ℕ) → ℕ → ℕ
+least g zero = 0
+least g (suc n) = lesser (least g n) (g n)
 
 -- does a value stand among values
 unfoldable pub stands : List ℕ → List (List ℕ) → Bool

@@ -80,7 +80,7 @@ noLine = record { start = 0; text = [] }
 
 -- the test that a claim makes of its place
 abbrev pub testOf : Claim → Test
-testOf p = test (p .number) (p .broken)
+testOf p = record { number = p .number; column = p .column; broken = p .broken }
 
 -- a claim of rules 1 to 4
 pub record FileClaim (files : List (List ℕ)) (rooms : List ℕ) (p : Claim) : Type 0 where
@@ -141,14 +141,14 @@ pub record RefusedBy (files : List (List ℕ)) (rooms : List ℕ) : Type 0 where
   pub told : Refusal
   pub verdict : verdictOf files rooms ≡ Unreadable told
 
--- what a refusal can say: a number from 1 to 14, its file, its line, or line 0 exactly for a whole file
+-- what a refusal can say: a number from 1 to 14, its file, its line, or line 0 exactly for a whole file, and one of at most 32 columns
 pub record Sayable (files : List (List ℕ)) (r : Refusal) : Type 0 where
   pub lowest : 1 ≤ r .number
   pub highest : r .number ≤ 14
   pub file : (1 ≤ r .file) × (r .file ≤ length files)
   pub line : r .line ≡ 0 ↔ r .number ≤ 4
   pub last : r .line ≤ length (linesOf (fileOf files (r .file)))
-  pub column : r .column ≡ 0
+  pub column : r .column ≤ 32
 
 -- an answer, by its numbers: accepted, findings, or a refusal
 pub data Ends (files : List (List ℕ)) (ns : List ℕ) : Type 0 where

@@ -8,35 +8,46 @@ use Rattle.meaning.specs.declared.Column.{Column}
 use Rattle.meaning.specs.declared.Refusal.{Refusal}
 use Rattle.meaning.specs.declared.Verdict.{Verdict}
 use Rattle.meaning.specs.declared.Verdict.the-variants.{Readable, Unreadable}
-use Rattle.meaning.specs.Lists.{same, empty, some}
+use Rattle.meaning.specs.Lists.{empty, some, findAgain, least}
 use Rattle.meaning.specs.Bytes.{Line, linesOf, countLf, good, fields, values}
 use Rattle.meaning.specs.Characters.{wellFormed}
-use Rattle.meaning.specs.Columns.{Row, nameOf, columnOf, countOf, places, rowOf}
+use Rattle.meaning.specs.Columns.{nameOf, columnOf, countOf, places, cell}
 use Rattle.meaning.specs.Forms.{shape}
 use Rattle.meaning.specs.Tables.{fileOf, widthOf}
 
--- a rule by its number, and whether it is broken at the place that is looked at
+-- a rule by its number, whether it is broken at the place that is looked at, and in which column of the line: 0 where it names none
 pub record Test : Type 0 where
   pub number : ℕ
+  pub column : ℕ
   pub broken : Bool
 
+-- a rule that names no column
 abbrev pub test : ℕ → Bool → Test
-test n b = record { number = n; broken = b }
+test n b = record { number = n; column = 0; broken = b }
+
+-- a rule that names a column, counted from 1 over the line's own fields, unread ones included: 0 where it is kept
+abbrev pub testAt : ℕ → ℕ → Test
+testAt n c = record { number = n; column = c; broken = not (eqb c 0) }
 
 -- a rule, a place, and whether it is broken there
 pub record Claim : Type 0 where
   pub number : ℕ
   pub file : ℕ
   pub line : ℕ
+  pub column : ℕ
   pub broken : Bool
 
+-- the claim of a test at line n of file f
+abbrev pub claimOf : ℕ → ℕ → Test → Claim
+claimOf f n t = record { number = t .number; file = f; line = n; column = t .column; broken = t .broken }
+
 abbrev pub claim : ℕ → ℕ → ℕ → Bool → Claim
-claim n f l b = record { number = n; file = f; line = l; broken = b }
+claim r f n b = claimOf f n (test r b)
 
 -- the tests of line n of file f
 unfoldable pub onLine : ℕ → ℕ → List Test → List Claim
 onLine f n [] = []
-onLine f n (t ∷ r) = claim (t .number) f n (t .broken) ∷ onLine f n r
+onLine f n (t ∷ r) = claimOf f n t ∷ onLine f n r
 
 -- the limits of rules 1 and 2: every size that follows from them names these two
 abbrev pub maxBytes : ℕ
@@ -82,14 +93,9 @@ rule6 l = not (good l)
 unfoldable pub rule7 : List ℕ → Bool
 rule7 l = ltb 32 (length (fields l))
 
--- how often a name stands among a header's values
-unfoldable pub standings : List ℕ → List (List ℕ) → ℕ
-standings name [] = 0
-standings name (v ∷ r) = let k = standings name r in cond (same v name) (k + 1) k
-
--- 8: a known name stands twice in the header
-unfoldable pub rule8 : ℕ → List (List ℕ) → Bool
-rule8 f header = some (λ k. ltb 1 (standings (nameOf f k) header)) 0 (countOf f)
+-- 8: a known name stands twice in the header: the column is its second standing, the leftmost if several
+unfoldable pub rule8 : ℕ → List (List ℕ) → ℕ
+rule8 f header = least (λ k. findAgain (nameOf f k) 1 header) (countOf f)
 
 -- 9: a must-be-present name is missing
 unfoldable pub rule9 : ℕ → List (List ℕ) → Bool
@@ -111,21 +117,21 @@ blank c v = c .need && empty v
 unfoldable pub formless : Column → List ℕ → Bool
 formless c v = not (empty v) && not (shape (c .form) v)
 
--- does a test hold of the value under some of the first n known columns of file f
-unfoldable pub overRow : (Column → List ℕ → Bool) → ℕ → Row → ℕ → Bool
-overRow P f r n = some (λ k. P (columnOf f k) (getD r k [])) 0 n
+-- the leftmost column whose value breaks a test, among those in which the first n known names of file f stand
+unfoldable pub leftmost : (Column → List ℕ → Bool) → ℕ → List ℕ → List ℕ → ℕ → ℕ
+leftmost P f ps l n = least (λ k. let p = getD ps k 0 in cond (P (columnOf f k) (cell l p)) p 0) n
 
 -- 11: a value under a known column named `..._id`, or parent_station, longer than 64 bytes
-unfoldable pub rule11 : ℕ → Row → Bool
-rule11 f r = overRow long f r (countOf f)
+unfoldable pub rule11 : ℕ → List ℕ → List ℕ → ℕ
+rule11 f ps l = leftmost long f ps l (countOf f)
 
 -- 12: an empty value where one is needed
-unfoldable pub rule12 : ℕ → Row → Bool
-rule12 f r = overRow blank f r (countOf f)
+unfoldable pub rule12 : ℕ → List ℕ → List ℕ → ℕ
+rule12 f ps l = leftmost blank f ps l (countOf f)
 
 -- 13: a value not of its form
-unfoldable pub rule13 : ℕ → Row → Bool
-rule13 f r = overRow formless f r (countOf f)
+unfoldable pub rule13 : ℕ → List ℕ → List ℕ → ℕ
+rule13 f ps l = leftmost formless f ps l (countOf f)
 
 -- 14: not well-formed UTF-8 (a line's text has no leading mark and no ending)
 unfoldable pub rule14 : List ℕ → Bool
@@ -137,15 +143,15 @@ textTests l = test 5 (rule5 l) ∷ test 14 (rule14 l) ∷ test 6 (rule6 l) ∷ t
 
 -- the tests of a header
 unfoldable pub headTests : ℕ → List ℕ → List Test
-headTests f h = textTests h ++ (test 8 (rule8 f (values h)) ∷ test 9 (rule9 f (values h)) ∷ [])
+headTests f h = textTests h ++ (testAt 8 (rule8 f (values h)) ∷ test 9 (rule9 f (values h)) ∷ [])
 
--- the tests of what a line says
-unfoldable pub rowTests : ℕ → Row → List Test
-rowTests f r = test 11 (rule11 f r) ∷ test 12 (rule12 f r) ∷ test 13 (rule13 f r) ∷ []
+-- the tests of a line's values, where a header's known names stand in the columns ps
+unfoldable pub valueTests : ℕ → List ℕ → List ℕ → List Test
+valueTests f ps l = testAt 11 (rule11 f ps l) ∷ testAt 12 (rule12 f ps l) ∷ testAt 13 (rule13 f ps l) ∷ []
 
--- the tests of a line after the header, whose names stand in the columns ps and whose fields are count
+-- the tests of a line after the header, whose known names stand in the columns ps and whose fields are count
 unfoldable pub lineTests : ℕ → List ℕ → ℕ → List ℕ → List Test
-lineTests f ps count l = textTests l ++ (test 10 (rule10 count l) ∷ rowTests f (rowOf ps l))
+lineTests f ps count l = textTests l ++ (test 10 (rule10 count l) ∷ valueTests f ps l)
 
 -- lines in order, from line n
 unfoldable pub onLines : ℕ → List ℕ → ℕ → ℕ → List Line → List Claim
@@ -180,7 +186,7 @@ claims files rooms =
     ++ inFiles 1 files)))
 
 abbrev pub refusal : Claim → Refusal
-refusal p = record { number = p .number; file = p .file; line = p .line; column = 0 }
+refusal p = record { number = p .number; file = p .file; line = p .line; column = p .column }
 
 -- the first that is broken speaks
 unfoldable pub speaks : List Claim → Verdict

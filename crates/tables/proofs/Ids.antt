@@ -17,7 +17,7 @@ use Rattle.text.specs.Lines.{LineStands, lineAt}
 use Rattle.text.proofs.Laws.{part-length, part-part}
 use Rattle.text.proofs.Lines.{lines-all, line-found, line-none}
 use Rattle.text.proofs.Fields.{field-inside}
-use Rattle.meaning.proofs.Readable.{getD-map-in}
+use Rattle.meaning.proofs.Laws.{getD-map-in}
 use Rattle.rows.proofs.Records.{flat-length, laid-cell}
 use Rattle.columns.proofs.Laws.{row-at}
 use Rattle.seeking.specs.First.{IdAt, Held}

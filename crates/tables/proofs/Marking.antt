@@ -15,7 +15,7 @@ use Rattle.meaning.specs.Tables.{Feed, feedOf, fileOf, rowsIn, under, idColumn,
 use Rattle.meaning.specs.Rules.{row, exceptionDay, sameServiceAndDate, rule20, rule20·dates, rule25, recordCount}
 use Rattle.meaning.specs.Refusals.{maxLines}
 use Rattle.meaning.proofs.ListLaws.{both}
-use Rattle.meaning.proofs.Readable.{getD-map-in}
+use Rattle.meaning.proofs.Laws.{getD-map-in}
 use Rattle.marks.specs.Marks.{marked, Blank, parentMark, namelessMark, MarkedIf}
 use Rattle.marks.specs.Noted.{idsIn, Noted}
 use Rattle.repeats.specs.Repeats.{Unmarked, Marking as Repeated}

@@ -20,7 +20,7 @@ use Rattle.text.proofs.Walk.{header-is, header-past, line-inside, line-here, li
 use Rattle.columns.specs.Columns.{placesOf}
 use Rattle.columns.proofs.Laws.{places-at}
 use Rattle.rows.specs.Cells.{putAt}
-use Rattle.meaning.proofs.Readable.{getD-map-in}
+use Rattle.meaning.proofs.Laws.{getD-map-in}
 use Rattle.rows.proofs.Records.{Wide, wide-map, rows-first, rows-turn}
 use Rattle.records.specs.Line.{line}
 use Rattle.tables.specs.Fill.{Heading, Room}

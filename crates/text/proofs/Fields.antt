@@ -258,33 +258,3 @@ field-inside l p = go (eqb p 0)
     go : (t : Bool) → Inside (length l) (cond t (bounds 0 0) (getD (fields l) (p - 1) (bounds 0 0)))
     go true = record { ordered = omega arith; within = omega arith }
     go false = fields-inside l (p - 1)
-
--- as many values as fields
-values-of-count : (l : List ℕ) (ps : List Bounds) → length (valuesOf l ps) ≡ length ps
-unfolding valuesOf
-values-of-count l [] = refl
-values-of-count l (p ∷ r) = ap suc (values-of-count l r)
-
-pub values-count : (l : List ℕ) → length (values l) ≡ length (fields l)
-unfolding values
-values-count l = values-of-count l (fields l)
-
--- each value is that of its field, and so is the default
-values-of-at : (l : List ℕ) (ps : List Bounds) (j : ℕ) → getD (valuesOf l ps) j [] ≡ value (part l (getD ps j (bounds 0 0)))
-unfolding valuesOf part value marked content undouble
-values-of-at l [] j = refl
-values-of-at l (p ∷ r) zero = refl
-values-of-at l (p ∷ r) (suc j) = values-of-at l r j
-
-pub values-at : (l : List ℕ) (j : ℕ) → getD (values l) j [] ≡ value (part l (getD (fields l) j (bounds 0 0)))
-unfolding values
-values-at l j = values-of-at l (fields l) j
-
--- the value in a column, from the line's values
-pub cell-at : (l : List ℕ) (p : ℕ) → cell l p ≡ cond (eqb p 0) [] (getD (values l) (p - 1) [])
-unfolding cell fieldAt part value marked content undouble
-cell-at l p = go (eqb p 0)
-  where
-    go : (t : Bool) → value (part l (cond t (bounds 0 0) (getD (fields l) (p - 1) (bounds 0 0)))) ≡ cond t [] (getD (values l) (p - 1) [])
-    go true = refl
-    go false = sym (values-at l (p - 1))

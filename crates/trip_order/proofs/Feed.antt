@@ -18,7 +18,7 @@ use Rattle.meaning.specs.Rules.{row, rule20, timeRow, sequenceAt, isOf, timed, 
 use Rattle.meaning.proofs.ListLaws.{both, same-self, keep-append}
 use Rattle.meaning.proofs.Tests.{from-one}
 use Rattle.meaning.proofs.References.{First, absent, found, find-first, twentieth, refer-same}
-use Rattle.meaning.proofs.Readable.{getD-map-in}
+use Rattle.meaning.proofs.Laws.{getD-map-in}
 use Rattle.trip_order.specs.Lines.{Lines, rule28, rule29, rule30, rule31, count, ahead, beyond, isFirst, isLast}
 use Rattle.trip_order.specs.Feed.{linesOf, Agree}
 

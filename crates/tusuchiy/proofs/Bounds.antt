@@ -29,39 +29,6 @@ use Rattle.listing.specs.declared.Sink.{Sink}
 use Rattle.listing.specs.Handing.{State, state, handedOut}
 use Rattle.tusuchiy.specs.Small.{Small}
 
--- where an element stands
-record At {A : Type 0} (l : List A) (d x : A) : Type 0 where
-  index : ℕ
-  inside : index < length l
-  here : getD l index d ≡ x
-
-place-of : {A : Type 0} (l : List A) (d x : A) → List·Memᴰ x l → At l d x
-place-of (y ∷ l) d x (List·Memᴰ·head e) = record { index = 0; inside = omega arith; here = sym e }
-place-of (y ∷ l) d x (List·Memᴰ·tail m) = let p = place-of l d x m in record { index = suc (p .index); inside = omega (arith, p .inside); here = p .here }
-
--- of two elements of an ordered list the earlier comes first
-in-order : {A : Type 0} (less : A → A → Bool) (l : List A) (d : A) (j k : ℕ) → Ordered less l → j < k → k < length l → less (getD l j d) (getD l k d) ≡ true
-in-order less [] d j k o h g = absurd (omega arith)
-in-order less (x ∷ l) d j zero o h g = absurd (omega arith)
-in-order less (x ∷ l) d zero (suc k) o h g = o .0 (getD l k d) (getD-mem l k d (omega arith))
-in-order less (x ∷ l) d (suc j) (suc k) o h g = in-order less l d j k (o .1) (omega arith) (omega arith)
-
--- a claim that does not come after the first broken one, and is another, is not broken
-earlier-kept : (cs : List Claim) (r : Refusal) → FirstBroken cs r → Ordered speaksBefore cs → (p : Claim) → List·Memᴰ p cs
-    → ((q : Claim) → refusal q ≡ r → speaksBefore q p ≡ false) → ((q : Claim) → refusal q ≡ r → q ≡ p → ⊥) → p .broken ≡ false
-earlier-kept cs r b o p m not-after other = go (ltb (k .index) (b .at)) refl (ℕ-discrete (k .index) (b .at))
-  where
-    k : At cs noClaim p
-    k = place-of cs noClaim p m
-
-    go : (t : Bool) → ltb (k .index) (b .at) ≡ t → Dec (k .index ≡ b .at) → p .broken ≡ false
-    go true e d = rw (k .here) at (b .silent (k .index) (ltb-true _ _ e))
-    go false e (yes d) = absurd (other (getD cs (b .at) noClaim) (b .spoken) (rw d at (k .here)))
-    go false e (no d) =
-        let i : b .at < k .index = omega (arith, d, ltb-false (k .index) (b .at) e) in
-        let z : speaksBefore (getD cs (b .at) noClaim) p ≡ true = rw (k .here) at (in-order speaksBefore cs noClaim (b .at) (k .index) o i (k .inside)) in
-        both (speaksBefore (getD cs (b .at) noClaim) p) z (not-after (getD cs (b .at) noClaim) (b .spoken))
-
 module _ (files : List (List ℕ)) (rooms : List ℕ) (r : Refusal) (e : verdictOf files rooms ≡ Unreadable r) (enough : length files ≤ length rooms) where
   said : Sayable files r
   said = refusal-numbers files rooms r e

@@ -19,7 +19,8 @@ use Rattle.meaning.specs.Refusals.{verdictOf, mayLack, blank, maxLines}
 use Rattle.meaning.specs.Findings.{findingsOf, answerOf, handed, page, roomOf}
 use Rattle.meaning.specs.Outcome.{Outcome, readOutcome, filledFrom, outcome}
 use Rattle.meaning.specs.Promises.{WholeKept}
-use Rattle.meaning.proofs.Readable.{getD-map-in, whole-kept, values-kept}
+use Rattle.meaning.proofs.Laws.{getD-map-in}
+use Rattle.meaning.proofs.Readable.{whole-kept, values-kept}
 use Rattle.meaning.proofs.Held.{filled-at}
 use Rattle.marks.specs.Noted.{Noted, TripsNoted}
 use Rattle.tables.specs.Fill.{Room, Fits}
