@@ -11,10 +11,11 @@ use lib.ListN.{length, getD, drop, set, replicate, length-drop, List·getD-eq-de
 use lib.Seq.{getD-drop, drop-drop}
 use borrow.Author.Tests.{eq-eqb, ne-eqb, eqb-true, eqb-false, lt-ltb, le-ltb, ltb-true, ltb-false}
 use Rattle.meaning.specs.declared.Bounds.{Bounds}
-use Rattle.meaning.specs.Lists.{same, some, place, find}
+use Rattle.meaning.specs.Lists.{same, some, place, find, findAgain, lesser, least}
 use Rattle.meaning.specs.Bytes.{bounds, part, marked, content, undouble, value, fields, values}
 use Rattle.meaning.specs.Columns.{unknown, schema, knownAt, nameOf, columnOf, countOf, places, fieldAt, cell, rowOf}
-use Rattle.meaning.specs.Refusals.{standings, rule9}
+use Rattle.meaning.specs.Refusals.{rule9}
+use Rattle.meaning.proofs.Columns.{row-at}
 use Rattle.text.specs.Fields.{fieldsFrom, valuesFrom, FieldStands}
 use Rattle.text.proofs.Fields.{from-over, from-start, values-over, values-start, field-inside}
 use Rattle.schema.proofs.Laws.{count-le}
@@ -30,29 +31,35 @@ module _ (name h : List ℕ) (at a e m : ℕ) (stands : FieldStands h at a e m) 
   unfolding find place
   find-next inv q = rw (stands .values, ← test, q) at inv
 
-  pub times-here : n + standings name (valuesFrom h at) ≡ r → t ≡ true → n + 1 + standings name (valuesFrom h m) ≡ r
-  unfolding standings
-  times-here inv q =
-      let z : standings name (valuesFrom h at) ≡ standings name (valuesFrom h m) + 1 = rw (stands .values, ← test, q) in omega arith
+  pub again-here : findAgain name n (valuesFrom h at) ≡ r → t ≡ true → find name (n + 1) (valuesFrom h m) ≡ r
+  unfolding findAgain
+  again-here inv q = rw (stands .values, ← test, q) at inv
 
-  pub times-next : n + standings name (valuesFrom h at) ≡ r → t ≡ false → n + standings name (valuesFrom h m) ≡ r
-  unfolding standings
-  times-next inv q =
-      let z : standings name (valuesFrom h at) ≡ standings name (valuesFrom h m) = rw (stands .values, ← test, q) in omega arith
+  pub again-next : findAgain name n (valuesFrom h at) ≡ r → t ≡ false → findAgain name (n + 1) (valuesFrom h m) ≡ r
+  unfolding findAgain
+  again-next inv q = rw (stands .values, ← test, q) at inv
 
 pub find-over : (name h : List ℕ) (at n r : ℕ) → length h < at → find name n (valuesFrom h at) ≡ r → 0 ≡ r
 unfolding find place
 find-over name h at n r g inv = rw (values-over h at g) at inv
 
-pub times-over : (name h : List ℕ) (at n r : ℕ) → length h < at → n + standings name (valuesFrom h at) ≡ r → n ≡ r
-unfolding standings
-times-over name h at n r g inv = let z : standings name (valuesFrom h at) ≡ 0 = rw (values-over h at g) in omega arith
+pub again-over : (name h : List ℕ) (at n r : ℕ) → length h < at → findAgain name n (valuesFrom h at) ≡ r → 0 ≡ r
+unfolding findAgain
+again-over name h at n r g inv = rw (values-over h at g) at inv
 
 pub find-first : (name h : List ℕ) (at : ℕ) → at ≡ 0 → find name 1 (valuesFrom h at) ≡ find name 1 (values h)
 find-first name h at e = rw (e, values-start h)
 
-pub times-first : (name h : List ℕ) (at : ℕ) → at ≡ 0 → 0 + standings name (valuesFrom h at) ≡ standings name (values h)
-times-first name h at e = rw e (omega (arith, ap (standings name) (values-start h)))
+pub again-first : (name h : List ℕ) (at : ℕ) → at ≡ 0 → findAgain name 1 (valuesFrom h at) ≡ findAgain name 1 (values h)
+again-first name h at e = rw (e, values-start h)
+
+-- one number more
+pub least-next : (g : ℕ → ℕ) (k c x r : ℕ) → c ≡ least g k → x ≡ g k → r ≡ lesser c x → r ≡ least g (k + 1)
+unfolding least
+least-next g k c x r e p q = rw (add-one k, q, e, p)
+
+pub least-last : (g : ℕ → ℕ) (k c n : ℕ) → c ≡ least g k → k ≡ n → c ≡ least g n
+least-last g k c n e p = rw (← p) e
 
 -- a loop over numbers, for a test that holds of some
 module _ (P : ℕ → Bool) (k n : ℕ) (r : Bool) (inv : some P k (n - k) ≡ r) where
@@ -106,16 +113,6 @@ tab-at g j (suc n) (suc w) zero h e = let z : j + 0 ≡ j = omega arith in rw z
 tab-at g j (suc n) (suc w) (suc k) h e =
     let z : j + suc k ≡ j + 1 + k = omega arith in
     rw z (tab-at g (j + 1) n w k (omega arith) (λ i b. let y : j + 1 + i ≡ j + suc i = omega arith in rw y (e (suc i) (omega arith))))
-
--- the column of a known name
-map-at : {A B : Type 0} (g : A → B) (l : List A) (k : ℕ) (d : B) (x : A) → k < length l → getD (map g l) k d ≡ g (getD l k x)
-map-at g [] k d x h = absurd (not-suc-le-zero h)
-map-at g (y ∷ l) zero d x h = refl
-map-at g (y ∷ l) (suc k) d x h = map-at g l k d x (omega arith)
-
-pub place-at : (f k : ℕ) (header : List (List ℕ)) → k < countOf f → find (nameOf f k) 1 header ≡ getD (places f header) k 0
-unfolding places countOf nameOf knownAt
-place-at f k header h = sym (map-at (λ x. find (x .name) 1 header) (schema f) k 0 unknown h)
 
 pub place-none : (f k : ℕ) (header : List (List ℕ)) → countOf f ≤ k → getD (places f header) k 0 ≡ 0
 unfolding places countOf
@@ -245,10 +242,6 @@ module _ (l ps : List ℕ) (k : ℕ) where
   pub cell-of : value (part l (bounds (getD (startsOf l ps) k 0) (getD (endsOf l ps) k 0))) ≡ cell l (getD ps k 0)
   unfolding cell
   cell-of = rw (start-at, end-at)
-
-pub row-at : (ps l : List ℕ) (k : ℕ) → getD (rowOf ps l) k [] ≡ cell l (getD ps k 0)
-unfolding rowOf cell fieldAt part value marked content undouble
-row-at ps l k = List·getD-map (cell l) ps k 0
 
 pub row-in : (l ps : List ℕ) → rowIn l (startsOf l ps) (endsOf l ps) ≡ rowOf ps l
 unfolding rowIn startsOf endsOf rowOf cell

@@ -3,13 +3,14 @@ use text::Cursor;
 use text::Step;
 ghost use mathlib.Core.Path.{_≡_};
 ghost use mathlib.Core.Bool.{_&&_};
-ghost use Prim.Native.Nat.{_<_};
+ghost use Prim.Native.Nat.{_+_, _≤_, _<_};
 ghost use lib.Dec.{eqb};
 ghost use lib.ListN.{length};
-ghost use Rattle.meaning.specs.Lists.{find};
+ghost use Rattle.meaning.specs.Lists.{find, findAgain, lesser};
 ghost use Rattle.meaning.specs.Bytes.{fields, values};
 ghost use Rattle.meaning.specs.Columns.{nameOf, columnOf};
-ghost use Rattle.meaning.specs.Refusals.{standings, rule8};
+ghost use Rattle.meaning.specs.Refusals.{rule8};
+ghost use Rattle.text.specs.Fields.{valuesFrom};
 ghost use Rattle.columns.specs.Columns.{placesOf, lacking, noted, startsOf, endsOf};
 
 // The column of each known name in a header, counted from 1, 0 where it is absent; and how many fields the header has.
@@ -18,13 +19,13 @@ pub struct Columns {
     pub count: usize,
 }
 
-// The column in which the name of known column k stands first.
-fn place(f: usize, k: usize, h: &[u8]) -> usize
-    requires { ⌜ (f < 7) × (k < 10) ⌝ }
-    ensures { λ r. ⌜ r ≡ find (nameOf f k) 1 (values (now (h .entry))) ⌝ }
+// The column in which the name of known column k stands next, from a field on that is column `first`.
+fn next_place(f: usize, k: usize, h: &[u8], from: Cursor, first: usize) -> usize
+    requires { ⌜ (f < 7) × (k < 10) × (from .at ≤ length (now h) + 1) × (first ≤ from .at + 1) ⌝ }
+    ensures { λ r. ⌜ r ≡ find (nameOf f k) first (valuesFrom (now (h .entry)) (from .at)) ⌝ }
 {
-    let mut c = Cursor::new();
-    let mut n: usize = 1;
+    let mut c = from;
+    let mut n = first;
     loop {
         match c.next(h) {
             Step::Field { start, end, next } => {
@@ -41,42 +42,66 @@ fn place(f: usize, k: usize, h: &[u8]) -> usize
     }
 }
 
-// How often the name of known column k stands in a header.
-fn times(f: usize, k: usize, h: &[u8]) -> usize
+// The column in which the name of known column k stands first.
+fn place(f: usize, k: usize, h: &[u8]) -> usize
     requires { ⌜ (f < 7) × (k < 10) ⌝ }
-    ensures { λ r. ⌜ r ≡ standings (nameOf f k) (values (now (h .entry))) ⌝ }
+    ensures { λ r. ⌜ r ≡ find (nameOf f k) 1 (values (now (h .entry))) ⌝ }
+{
+    next_place(f, k, h, Cursor::new(), 1)
+}
+
+// The column in which the name of known column k stands for the second time.
+fn place_again(f: usize, k: usize, h: &[u8]) -> usize
+    requires { ⌜ (f < 7) × (k < 10) ⌝ }
+    ensures { λ r. ⌜ r ≡ findAgain (nameOf f k) 1 (values (now (h .entry))) ⌝ }
 {
     let mut c = Cursor::new();
-    let mut n: usize = 0;
+    let mut n: usize = 1;
     loop {
         match c.next(h) {
             Step::Field { start, end, next } => {
                 if schema::is_named(f, k, &h[start..end]) {
-                    n += 1;
+                    return next_place(f, k, h, next, n + 1);
                 }
+                n += 1;
                 c = next;
             }
             Step::Done => {
-                return n;
+                return 0;
             }
         }
     }
 }
 
-// Does a known name stand twice in a header?
-pub fn repeats(f: usize, h: &[u8]) -> bool
+// The column further left, 0 being none.
+fn lesser_of(a: usize, b: usize) -> usize
+    ensures { λ r. ⌜ r ≡ lesser a b ⌝ }
+{
+    if a == 0 {
+        return b;
+    }
+    if b == 0 {
+        return a;
+    }
+    if b < a {
+        return b;
+    }
+    a
+}
+
+// The leftmost column in which a known name stands for the second time; 0 where none does.
+pub fn repeated(f: usize, h: &[u8]) -> usize
     requires { ⌜ f < 7 ⌝ }
     ensures { λ r. ⌜ r ≡ rule8 f (values (now (h .entry))) ⌝ }
 {
     let m = schema::count(f);
+    let mut column: usize = 0;
     let mut k = 0;
     while k < m {
-        if 1 < times(f, k, h) {
-            return true;
-        }
+        column = lesser_of(column, place_again(f, k, h));
         k += 1;
     }
-    false
+    column
 }
 
 // The columns of a header.

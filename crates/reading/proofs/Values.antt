@@ -13,7 +13,7 @@ use Rattle.meaning.specs.Bytes.{good, fields}
 use Rattle.meaning.specs.Columns.{columnOf, countOf, rowOf, cell}
 use Rattle.meaning.specs.Forms.{shapes, shape}
 use Rattle.meaning.specs.Refusals.{rule6, rule7, rule10, rule11, rule12, rule13, long, blank, formless, overRow, rowTests, lineTests}
-use Rattle.columns.proofs.Laws.{some-same, row-at}
+use Rattle.columns.proofs.Laws.{some-same}
 
 -- a value of n bytes under a column
 module _ (c : Column) (v : List ℕ) (n : ℕ) (e : n ≡ length v) where

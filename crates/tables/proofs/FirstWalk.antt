@@ -14,7 +14,7 @@ use Rattle.meaning.specs.Forms.{dateOf}
 use Rattle.meaning.specs.Tables.{under, exceptionDate, widths, widthOf}
 use Rattle.meaning.specs.Rules.{row, exceptionDay}
 use Rattle.text.proofs.Lines.{lines-all}
-use Rattle.columns.proofs.Laws.{row-at}
+use Rattle.meaning.proofs.Columns.{row-at}
 use Rattle.rows.specs.Cells.{boundsAt}
 use Rattle.rows.proofs.Records.{flat-length}
 use Rattle.rows.proofs.Stored.{day-stored}

@@ -19,7 +19,7 @@ use Rattle.text.proofs.Lines.{lines-all, line-found, line-none}
 use Rattle.text.proofs.Fields.{field-inside}
 use Rattle.meaning.proofs.Laws.{getD-map-in}
 use Rattle.rows.proofs.Records.{flat-length, laid-cell}
-use Rattle.columns.proofs.Laws.{row-at}
+use Rattle.meaning.proofs.Columns.{row-at}
 use Rattle.seeking.specs.First.{IdAt, Held}
 use Rattle.records.specs.Line.{line}
 use Rattle.tables.specs.Walk.{placeOf, tabled}

@@ -19,7 +19,7 @@ use Rattle.meaning.specs.Rules.{timeRow, sequenceAt, sequence, isOf, valueOf, s
 use Rattle.meaning.proofs.ListLaws.{both, same-self, same-equal}
 use Rattle.meaning.proofs.References.{refer-same}
 use Rattle.text.proofs.Lines.{lines-all}
-use Rattle.columns.proofs.Laws.{row-at}
+use Rattle.meaning.proofs.Columns.{row-at}
 use Rattle.rows.specs.Cells.{boundsAt, timeIn}
 use Rattle.rows.proofs.Stored.{number-stored, given-stored, seconds-stored}
 use Rattle.ordering.specs.Ids.{tripOf, keyOf, strayId}

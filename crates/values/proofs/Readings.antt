@@ -14,7 +14,7 @@ use Rattle.meaning.specs.Bytes.{value}
 use Rattle.meaning.specs.Columns.{cell, rowOf}
 use Rattle.meaning.specs.Forms.{choiceOf}
 use Rattle.meaning.specs.Tables.{picked, oneIf, choiceOr, packFrom, packedDays}
-use Rattle.columns.proofs.Laws.{row-at}
+use Rattle.meaning.proofs.Columns.{row-at}
 use Rattle.values.specs.Located.{valueIn, Located}
 
 -- the value under a column is the row's

@@ -1,5 +1,6 @@
 -- `columns::columns_of` meets its contract.
-use Rattle.columns.proofs.Laws.{tab-more, place-at}
+use Rattle.columns.proofs.Laws.{tab-more}
+use Rattle.meaning.proofs.Columns.{place-at}
 use Rattle.columns.specs.Columns.{tab, placesOf}
 use Rattle.meaning.specs.Bytes.{values}
 use Rattle.meaning.specs.Columns.{countOf, places}

@@ -1,29 +1,26 @@
--- `columns::times` meets its contract.
-use Rattle.columns.proofs.Laws.{times-first, times-here, times-next, times-over}
+-- `columns::next_place` meets its contract.
+use Rattle.columns.proofs.Laws.{find-here, find-next, find-over}
 use Rattle.text.specs.Fields.{valuesFrom}
 use Rattle.text.proofs.Fields.{field-found, field-none}
-use Rattle.meaning.specs.Bytes.{values, part}
+use Rattle.meaning.specs.Lists.{find}
+use Rattle.meaning.specs.Bytes.{part}
 use Rattle.meaning.specs.Columns.{nameOf}
-use Rattle.meaning.specs.Refusals.{standings}
-use mathlib.Core.Path.{_≡_, sym, _∙_}
+use mathlib.Core.Path.{_≡_, refl, sym, _∙_}
 use Prim.Native.Nat.{_≤_, _-_, _+_}
 use native.Mathlib.Omega.{arith}
 use lib.ListN.{length}
 use borrow.Author.Needs.{needs}
-use Rattle.columns.proofs.times.Statement.{statement}
-use Rattle.columns.proofs.times.Tie as tie
+use Rattle.columns.proofs.next_place.Statement.{statement}
+use Rattle.columns.proofs.next_place.Tie as tie
 
 abbrev Inv-loop : tie.InvT-loop
-Inv-loop f k h c₀ n₀ c n = (c .at ≤ length h + 1) × (n ≤ c .at) × (n + standings (nameOf f k) (valuesFrom h (c .at)) ≡ standings (nameOf f k) (values h))
+Inv-loop f k h first c₀ n₀ c n = (c .at ≤ length h + 1) × (n ≤ c .at + 1) × (find (nameOf f k) n (valuesFrom h (c .at)) ≡ find (nameOf f k) first (valuesFrom h (c₀ .at)))
 
 abbrev μ-loop : tie.MeasureT-loop
-μ-loop f k h c₀ n₀ c n = length h + 1 - c .at
-
-new-requires : tie.Need-new-requires Inv-loop μ-loop
-new-requires c κs = search needs
+μ-loop f k h first c₀ n₀ c n = length h + 1 - c .at
 
 loop-holds : tie.Need-loop-holds Inv-loop μ-loop
-loop-holds c = (omega arith, omega arith, times-first _ _ _ (c .new .ensures))
+loop-holds c = (omega arith, omega arith, refl)
 
 next-requires : tie.Need-next-requires Inv-loop μ-loop
 next-requires c κs = search needs
@@ -49,6 +46,13 @@ part-is-named-end c =
 is-named-requires : tie.Need-is-named-requires Inv-loop μ-loop
 is-named-requires c κs = search needs
 
+returns : tie.Need-returns Inv-loop μ-loop
+unfolding part
+returns c =
+    let b = c .before .before .before .before in
+    let s = field-found _ _ _ _ _ (sym (b .before .before .next .ensures) ∙ b .start .given .1) in
+    find-here _ _ _ _ _ _ s _ (c .before .is-named .ensures) _ _ (b .before .before .before .loop .inv .2) (c .if1 .taken)
+
 add-n : tie.Need-add-n Inv-loop μ-loop
 add-n c =
     let b = c .before .before .before .before in
@@ -66,34 +70,20 @@ unfolding part
 loop-again c =
     let b = c .before .before .before .before in
     let s = field-found _ _ _ _ _ (sym (b .before .before .next .ensures) ∙ b .start .given .1) in
-    (omega (arith, b .before .before .before), omega (arith, b .before .before .before), times-here _ _ _ _ _ _ s _ (c .before .is-named .ensures) _ _ (b .before .before .before .loop .inv .2) (c .if1 .taken))
-
-loop-less-2 : tie.Need-loop-less-2 Inv-loop μ-loop
-loop-less-2 c =
-    let b = c .before .before .before .before in
-    let s = field-found _ _ _ _ _ (sym (b .before .before .next .ensures) ∙ b .start .given .1) in
-    omega (arith, b .before .before .before)
-
-loop-again-2 : tie.Need-loop-again-2 Inv-loop μ-loop
-unfolding part
-loop-again-2 c =
-    let b = c .before .before .before .before in
-    let s = field-found _ _ _ _ _ (sym (b .before .before .next .ensures) ∙ b .start .given .1) in
-    (omega (arith, b .before .before .before), omega (arith, b .before .before .before), times-next _ _ _ _ _ _ s _ (c .before .is-named .ensures) _ _ (b .before .before .before .loop .inv .2) (c .if1 .left))
+    (omega (arith, b .before .before .before), omega (arith, b .before .before .before), find-next _ _ _ _ _ _ s _ (c .before .is-named .ensures) _ _ (b .before .before .before .loop .inv .2) (c .if1 .left))
 
 enum-told : tie.Need-enum-told Inv-loop μ-loop
 enum-told c = search needs
 
-returns : tie.Need-returns Inv-loop μ-loop
-returns c = times-over _ _ _ _ _ (field-none _ _ (sym (c .before .before .next .ensures) ∙ c .enum-told .given .1)) (c .before .before .before .loop .inv .2)
+returns-2 : tie.Need-returns-2 Inv-loop μ-loop
+returns-2 c = find-over _ _ _ _ _ (field-none _ _ (sym (c .before .before .next .ensures) ∙ c .enum-told .given .1)) (c .before .before .before .loop .inv .2)
 
-pub times-spec : {M : Type 1} → statement M
-times-spec =
+pub next-place-spec : {M : Type 1} → statement M
+next-place-spec =
     tie.close
     (tie.spec
     Inv-loop
     μ-loop
-    new-requires
     loop-holds
     next-requires
     enum-known-start
@@ -101,10 +91,9 @@ times-spec =
     part-is-named-start
     part-is-named-end
     is-named-requires
+    returns
     add-n
     loop-less
     loop-again
-    loop-less-2
-    loop-again-2
     enum-told
-    returns)
+    returns-2)
