@@ -253,6 +253,9 @@ module _ (l ps ss es : List ℕ) (s : ss ≡ startsOf l ps) (e : es ≡ endsOf l
   pub located-inside : (getD ss k 0 ≤ getD es k 0) × (getD es k 0 ≤ length l)
   located-inside = rw (s, e) (cells-inside l ps k)
 
+  pub located-cell : value (part l (bounds (getD ss k 0) (getD es k 0))) ≡ cell l (getD ps k 0)
+  located-cell = rw (s, e) (cell-of l ps k)
+
   pub located-value : value (part l (bounds (getD ss k 0) (getD es k 0))) ≡ getD (rowIn l ss es) k []
   located-value = rw (s, e, row-in l ps, row-at ps l k) (cell-of l ps k)
 

@@ -13,11 +13,12 @@ use Rattle.meaning.specs.declared.Verdict.the-variants.{Readable}
 use Rattle.meaning.specs.Bytes.{Line, bounds, part, linesFrom, linesOf, startOf, fields, values}
 use Rattle.meaning.specs.Columns.{places}
 use Rattle.meaning.specs.Tables.{widths, widthOf}
-use Rattle.meaning.specs.Refusals.{textTests, headTests, rowTests, lineTests, onLines, inFile, inFiles, speaks, verdictOf}
+use Rattle.meaning.specs.Refusals.{textTests, headTests, valueTests, lineTests, onLines, inFile, inFiles, speaks, verdictOf}
 use Rattle.text.specs.Lines.{LineStands}
 use Rattle.meaning.proofs.Computed.{all, below-all}
 use Rattle.columns.specs.Columns.{placesOf}
 use Rattle.columns.proofs.Laws.{places-at}
+use Rattle.reading.specs.declared.Fault.{Fault}
 use Rattle.reading.specs.Tests.{first}
 use Rattle.reading.specs.Wholes.{wholesOf, wholeClaims, orElse}
 use Rattle.reading.proofs.First.{positive}
@@ -31,7 +32,7 @@ unfolding headTests textTests
 head-positive f h = tt
 
 line-positive : (f : ℕ) (ps : List ℕ) (count : ℕ) (l : List ℕ) → T (all positive (lineTests f ps count l))
-unfolding lineTests textTests rowTests
+unfolding lineTests textTests valueTests
 line-positive f ps count l = tt
 
 -- a turn along the lines after the header
@@ -40,12 +41,12 @@ module _ (f : ℕ) (ps : List ℕ) (count : ℕ) (s : List ℕ) (at n : ℕ) (r 
   unfolding onLines speaks
   lines-over e = rw e at inv
 
-  module _ (a e m : ℕ) (stands : LineStands s at a e m) (t : ℕ) (test : t ≡ first (lineTests f ps count (part s (bounds a e)))) where
-    pub lines-stop : (v : Verdict) → v ≡ refused t f n → (t ≡ 0 → ⊥) → v ≡ r
+  module _ (a e m : ℕ) (stands : LineStands s at a e m) (t : Fault) (test : t ≡ first (lineTests f ps count (part s (bounds a e)))) where
+    pub lines-stop : (v : Verdict) → v ≡ refused t f n → (t .rule ≡ 0 → ⊥) → v ≡ r
     unfolding onLines
     lines-stop v p z = p ∙ (sym (then-stop _ _ _ (line-stop f n _ t test z)) ∙ rw (stands .lines) at inv)
 
-    pub lines-next : t ≡ 0 → speaks (onLines f ps count (n + 1) (linesFrom s m)) ≡ r
+    pub lines-next : t .rule ≡ 0 → speaks (onLines f ps count (n + 1) (linesFrom s m)) ≡ r
     unfolding onLines
     lines-next z = sym (then-on _ _ (line-on f n _ (line-positive f ps count _) t test z)) ∙ rw (stands .lines) at inv
 
@@ -61,12 +62,12 @@ module _ (f : ℕ) (s : List ℕ) (at : ℕ) (start : at ≡ startOf s) where
   unfolding linesOf inFile speaks
   file-none e = rw (← start, e)
 
-  module _ (a e m : ℕ) (stands : LineStands s at a e m) (t : ℕ) (test : t ≡ first (headTests f (part s (bounds a e)))) where
-    pub file-stop : (v : Verdict) → v ≡ refused t f 1 → (t ≡ 0 → ⊥) → v ≡ speaks (inFile f (linesOf s))
+  module _ (a e m : ℕ) (stands : LineStands s at a e m) (t : Fault) (test : t ≡ first (headTests f (part s (bounds a e)))) where
+    pub file-stop : (v : Verdict) → v ≡ refused t f 1 → (t .rule ≡ 0 → ⊥) → v ≡ speaks (inFile f (linesOf s))
     unfolding linesOf inFile
     file-stop v p z = p ∙ rw (← start, stands .lines) (sym (then-stop _ _ _ (line-stop f 1 _ t test z)))
 
-    pub file-next : t ≡ 0 → (ps : List ℕ) → ps ≡ placesOf f (values (part s (bounds a e))) → (count : ℕ) → count ≡ length (fields (part s (bounds a e)))
+    pub file-next : t .rule ≡ 0 → (ps : List ℕ) → ps ≡ placesOf f (values (part s (bounds a e))) → (count : ℕ) → count ≡ length (fields (part s (bounds a e)))
         → (v : Verdict) → v ≡ speaks (onLines f ps count 2 (linesFrom s m)) → v ≡ speaks (inFile f (linesOf s))
     unfolding linesOf inFile
     file-next z ps p count q v h =

@@ -4,4 +4,3 @@ pub mod Values
 pub mod Speaks
 pub mod Wholes
 pub mod Files
-pub mod Bounds

@@ -10,12 +10,13 @@ use Rattle.meaning.specs.declared.Refusal.{Refusal}
 use Rattle.meaning.specs.declared.Verdict.{Verdict}
 use Rattle.meaning.specs.declared.Verdict.the-variants.{Readable, Unreadable}
 use Rattle.meaning.specs.Refusals.{Test, Claim, refusal, speaks, onLine}
-use Rattle.reading.specs.Tests.{first}
+use Rattle.reading.specs.declared.Fault.{Fault}
+use Rattle.reading.specs.Tests.{fault, first}
 use Rattle.reading.specs.Wholes.{firstTrue, marked, orElse}
 use Rattle.reading.proofs.First.{positive}
 
-abbrev pub refused : ℕ → ℕ → ℕ → Verdict
-refused number file line = Unreadable (record { number = number; file = file; line = line; column = 0 })
+abbrev pub refused : Fault → ℕ → ℕ → Verdict
+refused t file line = Unreadable (record { number = t .rule; file = file; line = line; column = t .column })
 
 -- one list after the other: the first speaks, or else the second
 pub speaks-then : (a b : List Claim) → speaks (a ++ b) ≡ orElse (speaks a) (speaks b)
@@ -50,32 +51,35 @@ or-none (Unreadable r) = refl
 
 -- the tests of a line
 module _ (f n : ℕ) where
-  pub line-stop : (ts : List Test) → (t : ℕ) → t ≡ first ts → (t ≡ 0 → ⊥) → speaks (onLine f n ts) ≡ refused t f n
+  pub line-stop : (ts : List Test) → (t : Fault) → t ≡ first ts → (t .rule ≡ 0 → ⊥) → speaks (onLine f n ts) ≡ refused t f n
   unfolding speaks onLine first
-  line-stop [] t e z = absurd (z e)
+  line-stop [] t e z = absurd (z (ap (λ (x : Fault). x .rule) e))
   line-stop (u ∷ ts) t e z = go (u .broken) refl (line-stop ts t)
     where
-      go : (b : Bool) → u .broken ≡ b → (t ≡ first ts → (t ≡ 0 → ⊥) → speaks (onLine f n ts) ≡ refused t f n)
+      go : (b : Bool) → u .broken ≡ b → (t ≡ first ts → (t .rule ≡ 0 → ⊥) → speaks (onLine f n ts) ≡ refused t f n)
           → speaks (onLine f n (u ∷ ts)) ≡ refused t f n
-      go true q ih = rw q (rw (← (rw q at e)))
+      go true q ih =
+          let w : t ≡ fault (u .number) (u .column) = rw q at e in
+          rw (q, w)
       go false q ih = rw q (ih (rw q at e) z)
 
-  pub line-on : (ts : List Test) → T (all positive ts) → (t : ℕ) → t ≡ first ts → t ≡ 0 → speaks (onLine f n ts) ≡ Readable
+  pub line-on : (ts : List Test) → T (all positive ts) → (t : Fault) → t ≡ first ts → t .rule ≡ 0 → speaks (onLine f n ts) ≡ Readable
   unfolding speaks onLine first
   line-on [] p t e z = refl
   line-on (u ∷ ts) p t e z = go (u .broken) refl (line-on ts (and-right (positive u) (all positive ts) p) t)
     where
-      go : (b : Bool) → u .broken ≡ b → (t ≡ first ts → t ≡ 0 → speaks (onLine f n ts) ≡ Readable)
+      go : (b : Bool) → u .broken ≡ b → (t ≡ first ts → t .rule ≡ 0 → speaks (onLine f n ts) ≡ Readable)
           → speaks (onLine f n (u ∷ ts)) ≡ Readable
       go true q ih =
-          let y : t ≡ u .number = rw q at e in
+          let w : t ≡ fault (u .number) (u .column) = rw q at e in
+          let y : t .rule ≡ u .number = ap (λ (x : Fault). x .rule) w in
           let x : 1 ≤ u .number = leb→le 1 (u .number) (and-left (positive u) (all positive ts) p) in
           absurd (omega arith)
       go false q ih = rw q (ih (rw q at e) z)
 
 -- one rule over whole files
 module _ (number : ℕ) where
-  pub marks-stop : (f : ℕ) (bs : List Bool) (x : ℕ) → x ≡ firstTrue f bs → (x ≡ 0 → ⊥) → speaks (marked number f bs) ≡ refused number x 0
+  pub marks-stop : (f : ℕ) (bs : List Bool) (x : ℕ) → x ≡ firstTrue f bs → (x ≡ 0 → ⊥) → speaks (marked number f bs) ≡ refused (fault number 0) x 0
   unfolding speaks marked firstTrue
   marks-stop f [] x e z = absurd (z e)
   marks-stop f (true ∷ bs) x e z = rw e
@@ -88,7 +92,7 @@ module _ (number : ℕ) where
   marks-on f h (false ∷ bs) x e z = marks-on (f + 1) (omega arith) bs x e z
 
   module _ (bs : List Bool) (x : ℕ) (e : x ≡ firstTrue 1 bs) (rest : List Claim) (v : Verdict) where
-    pub whole-stop : (x ≡ 0 → ⊥) → v ≡ refused number x 0 → v ≡ speaks (marked number 1 bs ++ rest)
+    pub whole-stop : (x ≡ 0 → ⊥) → v ≡ refused (fault number 0) x 0 → v ≡ speaks (marked number 1 bs ++ rest)
     whole-stop z h = h ∙ sym (then-stop rest (marked number 1 bs) _ (marks-stop 1 bs x e z))
 
     pub whole-on : x ≡ 0 → v ≡ speaks rest → v ≡ speaks (marked number 1 bs ++ rest)

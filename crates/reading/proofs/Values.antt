@@ -1,19 +1,18 @@
 -- Rules 5 to 14 on a line: what the callees say of each test.
-use mathlib.Core.Path.{_≡_, refl, sym, ap, _∙_}
-use mathlib.Core.Bool.{Bool, true, false, not, _&&_}
+use mathlib.Core.Path.{_≡_, refl, sym, ap}
+use mathlib.Core.Bool.{Bool, true, false, cond, not, _&&_}
 use mathlib.Core.List.{List}
-use Prim.Native.Nat.{ℕ, _+_, _≤_, _<_}
+use Prim.Native.Nat.{ℕ, zero, suc, _+_, _≤_, _<_}
 use native.Mathlib.Omega.{arith}
 use lib.Dec.{ltb}
 use lib.ListN.{length, getD, List·getD-eq-default}
 use borrow.Author.Tests.{eq-eqb, ne-eqb, lt-ltb, le-ltb}
 use Rattle.meaning.specs.declared.Column.{Column}
-use Rattle.meaning.specs.Lists.{empty}
+use Rattle.meaning.specs.Lists.{empty, least}
 use Rattle.meaning.specs.Bytes.{good, fields}
-use Rattle.meaning.specs.Columns.{columnOf, countOf, rowOf, cell}
+use Rattle.meaning.specs.Columns.{columnOf, countOf, cell}
 use Rattle.meaning.specs.Forms.{shapes, shape}
-use Rattle.meaning.specs.Refusals.{rule6, rule7, rule10, rule11, rule12, rule13, long, blank, formless, overRow, rowTests, lineTests}
-use Rattle.columns.proofs.Laws.{some-same}
+use Rattle.meaning.specs.Refusals.{rule6, rule7, rule10, rule11, rule12, rule13, long, blank, formless, leftmost, valueTests, lineTests}
 
 -- a value of n bytes under a column
 module _ (c : Column) (v : List ℕ) (n : ℕ) (e : n ≡ length v) where
@@ -67,14 +66,18 @@ module _ (l : List ℕ) where
 
 -- two tables that read alike give the same tests of a line
 module _ (ps qs : List ℕ) (alike : (k : ℕ) → getD ps k 0 ≡ getD qs k 0) where
-  over-same : (P : Column → List ℕ → Bool) (f : ℕ) (l : List ℕ) (n : ℕ) → overRow P f (rowOf ps l) n ≡ overRow P f (rowOf qs l) n
-  unfolding overRow
-  over-same P f l n =
-      some-same _ _ (λ k. ap (λ (v : List ℕ). P (columnOf f k) v) (row-at ps l k ∙ (ap (cell l) (alike k) ∙ sym (row-at qs l k)))) 0 n
+  least-same : (g h : ℕ → ℕ) → ((k : ℕ) → g k ≡ h k) → (n : ℕ) → least g n ≡ least h n
+  unfolding least
+  least-same g h e zero = refl
+  least-same g h e (suc n) = rw (e n, least-same g h e n)
+
+  leftmost-same : (P : Column → List ℕ → Bool) (f : ℕ) (l : List ℕ) (n : ℕ) → leftmost P f ps l n ≡ leftmost P f qs l n
+  unfolding leftmost
+  leftmost-same P f l n = least-same _ _ (λ k. ap (λ (p : ℕ). cond (P (columnOf f k) (cell l p)) p 0) (alike k)) n
 
   pub line-same : (f count : ℕ) (l : List ℕ) → lineTests f ps count l ≡ lineTests f qs count l
-  unfolding lineTests rowTests rule11 rule12 rule13
-  line-same f count l = rw (over-same long f l (countOf f), over-same blank f l (countOf f), over-same formless f l (countOf f))
+  unfolding lineTests valueTests rule11 rule12 rule13
+  line-same f count l = rw (leftmost-same long f l (countOf f), leftmost-same blank f l (countOf f), leftmost-same formless f l (countOf f))
 
 -- a number that is none of the first k
 pub past : (n k : ℕ) → k ≤ n → (n ≡ k → ⊥) → k + 1 ≤ n

@@ -10,6 +10,7 @@ use lib.Seq.{drop-cons}
 use Rattle.meaning.specs.declared.Verdict.{Verdict}
 use Rattle.meaning.specs.declared.Verdict.the-variants.{Readable}
 use Rattle.meaning.specs.Refusals.{inFiles, overFiles, claims, speaks, rule1, rule2, rule3, rule4}
+use Rattle.reading.specs.Tests.{fault}
 use Rattle.reading.specs.Wholes.{wholeOf, wholesFrom, wholesOf, ruleMarks, firstTrue, marked, rulesFrom, wholeClaims}
 use Rattle.reading.proofs.Speaks.{refused, whole-stop, whole-on}
 
@@ -33,7 +34,7 @@ module _ (ws : List (List Bool)) (k : ℕ) (v : Verdict) (inv : speaks (rulesFro
     left : 4 - k ≡ suc (4 - (k + 1))
     left = omega arith
 
-    pub rule-stop : (f ≡ 0 → ⊥) → (u : Verdict) → u ≡ refused (k + 1) f 0 → u ≡ v
+    pub rule-stop : (f ≡ 0 → ⊥) → (u : Verdict) → u ≡ refused (fault (k + 1) 0) f 0 → u ≡ v
     unfolding rulesFrom
     rule-stop z u h = whole-stop (k + 1) (ruleMarks k ws) f first _ u z h ∙ rw left at inv
 

@@ -1,4 +1,3 @@
 -- What the functions between a value and a feed answer.
 pub mod Tests
 pub mod Wholes
-pub mod Named

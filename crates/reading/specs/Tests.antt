@@ -1,25 +1,34 @@
--- The first broken rule of an ordered list of tests, and the tests of values one column at a time.
+-- The first broken rule of an ordered list of tests with its column, and the tests of values one column at a time.
 use Prim.Native.Nat.{ℕ}
 use mathlib.Core.List.{List, [], _∷_}
 use mathlib.Core.Bool.{cond}
 use lib.Dec.{ltb, eqb}
 use Rattle.meaning.specs.declared.Column.{Column}
-use Rattle.meaning.specs.Columns.{Row}
-use Rattle.meaning.specs.Refusals.{Test, test, long, blank, formless, overRow}
+use Rattle.meaning.specs.Refusals.{Test, testAt, long, blank, formless, leftmost}
+use Rattle.reading.specs.declared.Fault.{Fault}
 
--- the number of the first broken one; 0 where none is
-unfoldable pub first : List Test → ℕ
-first [] = 0
-first (t ∷ r) = let k = first r in cond (t .broken) (t .number) k
+abbrev pub fault : ℕ → ℕ → Fault
+fault n c = record { rule = n; column = c }
 
--- rules 11 to 13 of the value under one column
-unfoldable pub valueTests : Column → List ℕ → List Test
-valueTests c v = test 11 (long c v) ∷ test 12 (blank c v) ∷ test 13 (formless c v) ∷ []
+-- the first broken one; rule 0 where none is
+unfoldable pub first : List Test → Fault
+first [] = fault 0 0
+first (t ∷ r) = let k = first r in cond (t .broken) (fault (t .number) (t .column)) k
+
+-- rules 11 to 13 of the value under a known column that stands in column p
+unfoldable pub columnTests : Column → ℕ → List ℕ → List Test
+columnTests c p v =
+    testAt 11 (cond (long c v) p 0) ∷ testAt 12 (cond (blank c v) p 0) ∷ testAt 13 (cond (formless c v) p 0) ∷ []
 
 -- rules 11 to 13 of the values under the first n known columns
-unfoldable pub rowTestsTo : ℕ → Row → ℕ → List Test
-rowTestsTo f r n = test 11 (overRow long f r n) ∷ test 12 (overRow blank f r n) ∷ test 13 (overRow formless f r n) ∷ []
+unfoldable pub valueTestsTo : ℕ → List ℕ → List ℕ → ℕ → List Test
+valueTestsTo f ps l n = testAt 11 (leftmost long f ps l n) ∷ testAt 12 (leftmost blank f ps l n) ∷ testAt 13 (leftmost formless f ps l n) ∷ []
 
--- the lower of two rules, 0 being none
-unfoldable pub lowerOf : ℕ → ℕ → ℕ
-lowerOf a b = cond (eqb a 0) b (cond (eqb b 0) a (cond (ltb b a) b a))
+-- the fault of the lower rule; of two of one rule the one further left
+unfoldable pub earlierOf : Fault → Fault → Fault
+earlierOf a b =
+    cond (eqb (a .rule) 0) b
+    (cond (eqb (b .rule) 0) a
+    (cond (ltb (a .rule) (b .rule)) a
+    (cond (ltb (b .rule) (a .rule)) b
+    (cond (ltb (b .column) (a .column)) b a))))

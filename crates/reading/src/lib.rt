@@ -22,12 +22,11 @@ ghost use lib.Dec.{ltb};
 ghost use lib.ListN.{length};
 ghost use Rattle.meaning.specs.Lists.{empty};
 ghost use Rattle.meaning.specs.Bytes.{linesFrom, linesOf, good, fields, value, values};
-ghost use Rattle.meaning.specs.Columns.{rowOf};
 ghost use Rattle.meaning.specs.Forms.{timeOf, dateOf, latitudeOf, longitudeOf, sequenceOf, choiceOf, routeTypeOf, exceptionOf, isTime, isDate, isDegrees, isNumber, isChoice, shape};
 ghost use Rattle.meaning.specs.Tables.{fileOf, widthOf};
-ghost use Rattle.meaning.specs.Refusals.{textTests, headTests, rowTests, lineTests, onLines, inFile, mayLack, rule4, speaks, verdictOf};
+ghost use Rattle.meaning.specs.Refusals.{textTests, headTests, valueTests, lineTests, onLines, inFile, mayLack, rule4, speaks, verdictOf};
 ghost use Rattle.columns.specs.Columns.{placesOf};
-ghost use Rattle.reading.specs.Tests.{first, valueTests, lowerOf};
+ghost use Rattle.reading.specs.Tests.{fault, first, columnTests, earlierOf};
 ghost use Rattle.reading.specs.Wholes.{wholeOf, wholesOf, ruleMarks, firstTrue, wholeClaims, orElse};
 
 // Is the value of a raw field a time, or empty?
@@ -149,66 +148,90 @@ fn is_long(c: Column, n: usize) -> bool
     ident && 64 < n
 }
 
-// The first of rules 11 to 13 that the value of a raw field breaks under a column; 0 where it breaks none.
-fn value_rule(c: Column, raw: &[u8]) -> usize
-    ensures { λ r. ⌜ r ≡ first (valueTests c (value (now (raw .entry)))) ⌝ }
+// A broken rule, and the column in which it is broken, 0 where it names none. Rule 0: none is broken.
+struct Fault {
+    rule: usize,
+    column: usize,
+}
+
+// The first of rules 11 to 13 that the value of a raw field breaks under a known column that stands in column p; an absent one breaks none.
+fn value_fault(c: Column, p: usize, raw: &[u8]) -> Fault
+    ensures { λ r. ⌜ r ≡ first (columnTests c p (value (now (raw .entry)))) ⌝ }
 {
+    if p == 0 {
+        return Fault { rule: 0, column: 0 };
+    }
     let n = text::value_length(raw);
     if is_long(c, n) {
-        return 11;
+        return Fault {
+            rule: 11,
+            column: p,
+        };
     }
     if n == 0 {
         if c.need {
-            return 12;
+            return Fault {
+                rule: 12,
+                column: p,
+            };
         }
-        return 0;
+        return Fault { rule: 0, column: 0 };
     }
     if is_of_form(c.form, raw) {
-        return 0;
+        return Fault { rule: 0, column: 0 };
     }
-    13
+    Fault {
+        rule: 13,
+        column: p,
+    }
 }
 
-// The lower of two rules, 0 being none.
-fn lower(a: usize, b: usize) -> usize
-    ensures { λ r. ⌜ r ≡ lowerOf a b ⌝ }
+// The fault of the lower rule; of two of one rule the one further left.
+fn earlier(a: Fault, b: Fault) -> Fault
+    ensures { λ r. ⌜ r ≡ earlierOf a b ⌝ }
 {
-    if a == 0 {
+    if a.rule == 0 {
         return b;
     }
-    if b == 0 {
+    if b.rule == 0 {
         return a;
     }
-    if b < a {
+    if a.rule < b.rule {
+        return a;
+    }
+    if b.rule < a.rule {
+        return b;
+    }
+    if b.column < a.column {
         return b;
     }
     a
 }
 
-// The first of rules 11 to 13 that the values of a line break, whose known columns stand at `at`.
-fn row_rule(f: usize, at: [usize; 10], l: &[u8]) -> usize
+// The first of rules 11 to 13 that the values of a line break, whose known columns stand at `at`, and the leftmost column that breaks it.
+fn row_fault(f: usize, at: [usize; 10], l: &[u8]) -> Fault
     requires { ⌜ f < 7 ⌝ }
-    ensures { λ r. ⌜ r ≡ first (rowTests f (rowOf at (now (l .entry)))) ⌝ }
+    ensures { λ r. ⌜ r ≡ first (valueTests f at (now (l .entry))) ⌝ }
 {
     let cells = columns::locate(l, at);
     let start = cells.start;
     let end = cells.end;
     let m = schema::count(f);
-    let mut rule: usize = 0;
+    let mut fault = Fault { rule: 0, column: 0 };
     let mut k = 0;
     while k < m {
         let a = start[k];
         let e = end[k];
-        rule = lower(rule, value_rule(schema::known(f, k), &l[a..e]));
+        fault = earlier(fault, value_fault(schema::known(f, k), at[k], &l[a..e]));
         k += 1;
     }
-    rule
+    fault
 }
 
 // The first of rules 5, 14, 6 and 7 that a line breaks, by what a walk along it told.
 fn text_rule(l: &[u8], m: Measured) -> usize
     requires { ⌜ (m .good ≡ good (now l)) × (m .fields ≡ length (fields (now l))) ⌝ }
-    ensures { λ r. ⌜ r ≡ first (textTests (now (l .entry))) ⌝ }
+    ensures { λ r. ⌜ fault r 0 ≡ first (textTests (now (l .entry))) ⌝ }
 {
     if text::has_stray(l) {
         return 5;
@@ -225,50 +248,54 @@ fn text_rule(l: &[u8], m: Measured) -> usize
     6
 }
 
-// The first rule that a header breaks.
-fn header_rule(f: usize, c: Columns, h: &[u8]) -> usize
+// The first rule that a header breaks, and its column.
+fn header_fault(f: usize, c: Columns, h: &[u8]) -> Fault
     requires { ⌜ (f < 7) × (c .at ≡ placesOf f (values (now h))) ⌝ }
     ensures { λ r. ⌜ r ≡ first (headTests f (now (h .entry))) ⌝ }
 {
     let t = text_rule(h, text::measure(h));
     if t != 0 {
-        return t;
+        return Fault { rule: t, column: 0 };
     }
-    if columns::repeats(f, h) {
-        return 8;
+    let p = columns::repeated(f, h);
+    if p != 0 {
+        return Fault { rule: 8, column: p };
     }
     if columns::lacks(f, c) {
-        return 9;
+        return Fault { rule: 9, column: 0 };
     }
-    0
+    Fault { rule: 0, column: 0 }
 }
 
-// The first rule that a line after the header breaks.
-fn line_rule(f: usize, c: Columns, l: &[u8]) -> usize
+// The first rule that a line after the header breaks, and its column.
+fn line_fault(f: usize, c: Columns, l: &[u8]) -> Fault
     requires { ⌜ f < 7 ⌝ }
     ensures { λ r. ⌜ r ≡ first (lineTests f (c .at) (c .count) (now (l .entry))) ⌝ }
 {
     let m = text::measure(l);
     let t = text_rule(l, m);
     if t != 0 {
-        return t;
+        return Fault { rule: t, column: 0 };
     }
     if m.fields != c.count {
-        return 10;
+        return Fault {
+            rule: 10,
+            column: 0,
+        };
     }
     let at = c.at;
-    row_rule(f, at, l)
+    row_fault(f, at, l)
 }
 
-// The refusal of a place.
-fn refuse(number: usize, file: usize, line: usize) -> Verdict
-    ensures { λ r. ⌜ r ≡ Verdict.Unreadable (record { number = number; file = file; line = line; column = 0 }) ⌝ }
+// The refusal of a fault at a place.
+fn refuse(t: Fault, file: usize, line: usize) -> Verdict
+    ensures { λ r. ⌜ r ≡ Verdict.Unreadable (record { number = t .rule; file = file; line = line; column = t .column }) ⌝ }
 {
     Verdict::Unreadable(Refusal {
-        number,
+        number: t.rule,
         file,
         line,
-        column: 0,
+        column: t.column,
     })
 }
 
@@ -282,8 +309,8 @@ fn read_lines(f: usize, c: Columns, s: &[u8], from: usize) -> Verdict
     loop {
         match text::next_line(s, at) {
             LineStep::Line { start, end, next } => {
-                let t = line_rule(f, c, &s[start..end]);
-                if t != 0 {
+                let t = line_fault(f, c, &s[start..end]);
+                if t.rule != 0 {
                     return refuse(t, f, n);
                 }
                 n += 1;
@@ -304,8 +331,8 @@ fn read_file(f: usize, s: &[u8]) -> Verdict
     match text::next_line(s, text::body_start(s)) {
         LineStep::Line { start, end, next } => {
             let c = columns::columns_of(f, &s[start..end]);
-            let t = header_rule(f, c, &s[start..end]);
-            if t != 0 {
+            let t = header_fault(f, c, &s[start..end]);
+            if t.rule != 0 {
                 return refuse(t, f, 1);
             }
             read_lines(f, c, s, next)
@@ -385,7 +412,11 @@ fn order(wholes: [[bool; 4]; 6]) -> Verdict
     while k < 4 {
         let f = first_true(wholes, k);
         if f != 0 {
-            return refuse(k + 1, f, 0);
+            let t = Fault {
+                rule: k + 1,
+                column: 0,
+            };
+            return refuse(t, f, 0);
         }
         k += 1;
     }
@@ -415,7 +446,7 @@ fn read_wholes(
     ])
 }
 
-// Can the six files be read into tables of these lengths? If not, the first broken rule with its file and line.
+// Can the six files be read into tables of these lengths? If not, the first broken rule with its file, line and column.
 pub fn verdict(
     stops: &[u8],
     routes: &[u8],

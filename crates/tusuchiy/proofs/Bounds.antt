@@ -1,10 +1,9 @@
 -- Laws: the numbers of an answer are small.
 use Prim.Native.Nat.{ℕ, zero, suc, _-_, _*_, _≤_, _<_}
 use mathlib.Core.Path.{_≡_, refl, sym, ap, _∙_}
-use mathlib.Core.List.{List, [], _∷_, List·Memᴰ, List·Memᴰ·head, List·Memᴰ·tail}
+use mathlib.Core.List.{List, [], _∷_, List·Memᴰ·head, List·Memᴰ·tail}
 use mathlib.Core.Bool.{Bool, true, false, cond}
 use native.Mathlib.Omega.{arith}
-use native.Mathlib.Decide.{ℕ-discrete}
 use lib.IntN.{ℤ}
 use lib.ListN.{length, getD, length-take}
 use lib.Dec.{ltb, eqb}
@@ -17,13 +16,12 @@ use Rattle.meaning.specs.declared.Answer.the-variants.{Accepted, Findings, Refu
 use Rattle.meaning.specs.Lists.{keep}
 use Rattle.meaning.specs.Bytes.{countLf}
 use Rattle.meaning.specs.Tables.{fileOf}
-use Rattle.meaning.specs.Refusals.{Claim, claim, refusal, rule2, claims, verdictOf, maxLines}
+use Rattle.meaning.specs.Refusals.{Claim, claim, rule2, claims, verdictOf, maxLines}
 use Rattle.meaning.specs.Findings.{Finding, after, page, roomOf}
-use Rattle.meaning.specs.Promises.{Ordered, fileTests, speaksBefore, noClaim, FirstBroken, Sayable}
-use Rattle.meaning.proofs.Laws.{getD-mem}
-use Rattle.meaning.proofs.ListLaws.{both}
-use Rattle.meaning.proofs.FirstBroken.{first-broken}
-use Rattle.meaning.proofs.Claims.{refusal-numbers, claim-of-file, claims-ordered}
+use Rattle.meaning.specs.Promises.{fileTests, speaksBefore, Sayable}
+use Rattle.meaning.proofs.FirstBroken.{first-broken, earlier-kept}
+use Rattle.meaning.proofs.Claims.{claim-of-file, claims-ordered}
+use Rattle.meaning.proofs.Sayable.{refusal-numbers}
 use Rattle.text.proofs.Lines.{lines-all}
 use Rattle.listing.specs.declared.Sink.{Sink}
 use Rattle.listing.specs.Handing.{State, state, handedOut}
@@ -52,7 +50,7 @@ module _ (files : List (List ℕ)) (rooms : List ℕ) (r : Refusal) (e : verdict
       go false h = omega (arith, said .last, lines-all (fileOf files (r .file)), few-lines (ltb-false (r .number) 5 h))
 
   pub small-refusal : length files ≤ 6 → Small (Refused r)
-  small-refusal h = (said .highest, (omega (arith, said .file .1), (small-line, omega (arith, said .column))))
+  small-refusal h = (said .highest, (omega (arith, said .file .1), (small-line, said .column)))
 
 kept-fewer : {A : Type 0} (P : A → Bool) (l : List A) → length (keep P l) ≤ length l
 unfolding keep

@@ -1,4 +1,4 @@
--- The three demands, services by date and what is said of bad UTF-8 hold of every call of `check`: of each outcome that its contract names.
+-- The three demands, services by date, what is said of bad UTF-8 and which column a refusal says hold of every call of `check`: of each outcome that its contract names.
 use Prim.Native.Nat.{ℕ}
 use mathlib.Core.Path.{_≡_, refl}
 use mathlib.Core.List.{List, [], _∷_}
@@ -8,9 +8,11 @@ use Rattle.meaning.specs.Outcome.{Outcome, outcome}
 use Rattle.meaning.specs.Demands.{Demand1, Demand2, Demand3}
 use Rattle.meaning.specs.ByDate.{ByDate}
 use Rattle.meaning.specs.BadUtf8.{BadUtf8}
+use Rattle.meaning.specs.WhichColumn.{WhichColumn}
 use Rattle.meaning.proofs.Demands as D
 use Rattle.meaning.proofs.ByDate as E
 use Rattle.meaning.proofs.BadUtf8 as U
+use Rattle.meaning.proofs.WhichColumn as W
 
 module _ (s₁ s₂ s₃ s₄ s₅ s₆ : List ℕ) (t₁ t₂ t₃ t₄ t₅ t₆ list : List ℤ) (p : Place) where
   abbrev files : List (List ℕ)
@@ -34,3 +36,6 @@ module _ (s₁ s₂ s₃ s₄ s₅ s₆ : List ℕ) (t₁ t₂ t₃ t₄ t₅ t�
 
   pub bad-utf8 : BadUtf8 files tables
   bad-utf8 = U.bad-utf8 files tables
+
+  pub which-column : WhichColumn files tables
+  which-column = W.which-column files tables

@@ -22,8 +22,8 @@ loop-holds c = (omega arith, refl)
 first-true-requires : tie.Need-first-true-requires Inv-loop μ-loop
 first-true-requires c κs = omega arith
 
-add-refuse : tie.Need-add-refuse Inv-loop μ-loop
-add-refuse c = omega arith
+add-t6 : tie.Need-add-t6 Inv-loop μ-loop
+add-t6 c = omega arith
 
 refuse-requires : tie.Need-refuse-requires Inv-loop μ-loop
 refuse-requires c κs = search needs
@@ -55,7 +55,7 @@ order-spec =
     μ-loop
     loop-holds
     first-true-requires
-    add-refuse
+    add-t6
     refuse-requires
     returns
     add-k

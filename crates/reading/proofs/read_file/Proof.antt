@@ -35,26 +35,26 @@ part-columns-of-end c =
 columns-of-requires : tie.Need-columns-of-requires
 columns-of-requires c κs = search needs
 
-sub-header-rule : tie.Need-sub-header-rule
-sub-header-rule c =
+sub-header-fault : tie.Need-sub-header-fault
+sub-header-fault c =
     let b = c .before .before .before in
     let s = line-found _ _ _ _ _ (sym (b .before .before .next-line .ensures) ∙ b .start .given .1) in
     omega arith
 
-part-header-rule-start : tie.Need-part-header-rule-start
-part-header-rule-start c =
+part-header-fault-start : tie.Need-part-header-fault-start
+part-header-fault-start c =
     let b = c .before .before .before in
     let s = line-found _ _ _ _ _ (sym (b .before .before .next-line .ensures) ∙ b .start .given .1) in
     omega arith
 
-part-header-rule-end : tie.Need-part-header-rule-end
-part-header-rule-end c =
+part-header-fault-end : tie.Need-part-header-fault-end
+part-header-fault-end c =
     let b = c .before .before .before in
     let s = line-found _ _ _ _ _ (sym (b .before .before .next-line .ensures) ∙ b .start .given .1) in
     omega arith
 
-header-rule-requires : tie.Need-header-rule-requires
-header-rule-requires c κs = (c .before .before .before .before .before .before .before .before .before .pre, c .before .columns-of .ensures .0)
+header-fault-requires : tie.Need-header-fault-requires
+header-fault-requires c κs = (c .before .before .before .before .before .before .before .before .before .pre, c .before .columns-of .ensures .0)
 
 refuse-requires : tie.Need-refuse-requires
 refuse-requires c κs = search needs
@@ -62,9 +62,9 @@ refuse-requires c κs = search needs
 returns : tie.Need-returns
 unfolding part
 returns c =
-    let b = c .before .before .before .before .before .before .before in
+    let b = c .before .before .before .before .before .before .before .before in
     let s = line-found _ _ _ _ _ (sym (b .before .before .next-line .ensures) ∙ b .start .given .1) in
-    file-stop _ _ _ (b .before .before .before .body-start .ensures .0) _ _ _ s _ (c .before .before .header-rule .ensures) _ (c .refuse .ensures) (c .before .if1 .taken)
+    file-stop _ _ _ (b .before .before .before .body-start .ensures .0) _ _ _ s _ (c .before .before .before .header-fault .ensures) _ (c .refuse .ensures) (c .before .if1 .taken)
 
 read-lines-requires : tie.Need-read-lines-requires
 read-lines-requires c κs = search needs
@@ -75,10 +75,10 @@ enum-told c = search needs
 returns-2 : tie.Need-returns-2
 unfolding part
 returns-2 c =
-    let b = c .before .before .before .before .before .before .before in
+    let b = c .before .before .before .before .before .before .before .before in
     let s = line-found _ _ _ _ _ (sym (b .before .before .next-line .ensures) ∙ b .start .given .1) in
-    let o = c .before .before .before .before .columns-of .ensures in
-    file-next _ _ _ (b .before .before .before .body-start .ensures .0) _ _ _ s _ (c .before .before .header-rule .ensures) (c .before .if1 .left) _ (o .0) _ (o .1) _ (c .read-lines .ensures)
+    let o = c .before .before .before .before .before .columns-of .ensures in
+    file-next _ _ _ (b .before .before .before .body-start .ensures .0) _ _ _ s _ (c .before .before .before .header-fault .ensures) (c .before .if1 .left) _ (o .0) _ (o .1) _ (c .read-lines .ensures)
 
 returns-3 : tie.Need-returns-3
 returns-3 c = file-none _ _ _ (c .before .before .before .body-start .ensures .0) (line-none _ _ (sym (c .before .before .next-line .ensures) ∙ c .enum-told .given .1))
@@ -94,10 +94,10 @@ read-file-spec =
     part-columns-of-start
     part-columns-of-end
     columns-of-requires
-    sub-header-rule
-    part-header-rule-start
-    part-header-rule-end
-    header-rule-requires
+    sub-header-fault
+    part-header-fault-start
+    part-header-fault-end
+    header-fault-requires
     refuse-requires
     returns
     read-lines-requires

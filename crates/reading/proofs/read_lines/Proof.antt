@@ -26,23 +26,23 @@ next-line-requires c κs = search needs
 enum-known-start : tie.Need-enum-known-start Inv-loop μ-loop
 enum-known-start c = search needs
 
-sub-line-rule : tie.Need-sub-line-rule Inv-loop μ-loop
-sub-line-rule c =
+sub-line-fault : tie.Need-sub-line-fault Inv-loop μ-loop
+sub-line-fault c =
     let s = line-found _ _ _ _ _ (sym (c .before .before .before .next-line .ensures) ∙ c .before .start .given .1) in
     omega arith
 
-part-line-rule-start : tie.Need-part-line-rule-start Inv-loop μ-loop
-part-line-rule-start c =
+part-line-fault-start : tie.Need-part-line-fault-start Inv-loop μ-loop
+part-line-fault-start c =
     let s = line-found _ _ _ _ _ (sym (c .before .before .before .next-line .ensures) ∙ c .before .start .given .1) in
     omega arith
 
-part-line-rule-end : tie.Need-part-line-rule-end Inv-loop μ-loop
-part-line-rule-end c =
+part-line-fault-end : tie.Need-part-line-fault-end Inv-loop μ-loop
+part-line-fault-end c =
     let s = line-found _ _ _ _ _ (sym (c .before .before .before .next-line .ensures) ∙ c .before .start .given .1) in
     omega arith
 
-line-rule-requires : tie.Need-line-rule-requires Inv-loop μ-loop
-line-rule-requires c κs = search needs
+line-fault-requires : tie.Need-line-fault-requires Inv-loop μ-loop
+line-fault-requires c κs = search needs
 
 refuse-requires : tie.Need-refuse-requires Inv-loop μ-loop
 refuse-requires c κs = search needs
@@ -50,28 +50,28 @@ refuse-requires c κs = search needs
 returns : tie.Need-returns Inv-loop μ-loop
 unfolding part
 returns c =
-    let b = c .before .before .before .before .before in
+    let b = c .before .before .before .before .before .before in
     let s = line-found _ _ _ _ _ (sym (b .before .before .next-line .ensures) ∙ b .start .given .1) in
-    lines-stop _ _ _ _ _ _ _ (b .before .before .before .loop .inv .1) _ _ _ s _ (c .before .before .line-rule .ensures) _ (c .refuse .ensures) (c .before .if1 .taken)
+    lines-stop _ _ _ _ _ _ _ (b .before .before .before .loop .inv .1) _ _ _ s _ (c .before .before .before .line-fault .ensures) _ (c .refuse .ensures) (c .before .if1 .taken)
 
 add-n : tie.Need-add-n Inv-loop μ-loop
 add-n c =
-    let b = c .before .before .before .before in
+    let b = c .before .before .before .before .before in
     let s = line-found _ _ _ _ _ (sym (b .before .before .next-line .ensures) ∙ b .start .given .1) in
     omega (arith, b .before .before .before)
 
 loop-less : tie.Need-loop-less Inv-loop μ-loop
 loop-less c =
-    let b = c .before .before .before .before in
+    let b = c .before .before .before .before .before in
     let s = line-found _ _ _ _ _ (sym (b .before .before .next-line .ensures) ∙ b .start .given .1) in
     omega (arith, b .before .before .before)
 
 loop-again : tie.Need-loop-again Inv-loop μ-loop
 unfolding part
 loop-again c =
-    let b = c .before .before .before .before in
+    let b = c .before .before .before .before .before in
     let s = line-found _ _ _ _ _ (sym (b .before .before .next-line .ensures) ∙ b .start .given .1) in
-    (omega (arith, b .before .before .before), lines-next _ _ _ _ _ _ _ (b .before .before .before .loop .inv .1) _ _ _ s _ (c .before .line-rule .ensures) (c .if1 .left))
+    (omega (arith, b .before .before .before), lines-next _ _ _ _ _ _ _ (b .before .before .before .loop .inv .1) _ _ _ s _ (c .before .before .line-fault .ensures) (c .if1 .left))
 
 enum-told : tie.Need-enum-told Inv-loop μ-loop
 enum-told c = search needs
@@ -88,10 +88,10 @@ read-lines-spec =
     loop-holds
     next-line-requires
     enum-known-start
-    sub-line-rule
-    part-line-rule-start
-    part-line-rule-end
-    line-rule-requires
+    sub-line-fault
+    part-line-fault-start
+    part-line-fault-end
+    line-fault-requires
     refuse-requires
     returns
     add-n

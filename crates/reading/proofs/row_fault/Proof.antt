@@ -1,21 +1,20 @@
--- `reading::row_rule` meets its contract.
+-- `reading::row_fault` meets its contract.
 use Rattle.reading.proofs.First.{row-end, row-none, row-turn}
-use Rattle.columns.specs.Columns.{rowIn}
-use Rattle.columns.proofs.Laws.{located-inside, located-value, located-row}
-use Rattle.reading.specs.Tests.{first, rowTestsTo}
+use Rattle.columns.proofs.Laws.{located-inside, located-cell}
+use Rattle.reading.specs.Tests.{first, valueTestsTo}
 use Rattle.meaning.specs.Bytes.{part}
 use mathlib.Core.Path.{_≡_}
 use Prim.Native.Nat.{_≤_, _-_}
 use native.Mathlib.Omega.{arith}
 use borrow.Author.Needs.{needs}
-use Rattle.reading.proofs.row_rule.Statement.{statement}
-use Rattle.reading.proofs.row_rule.Tie as tie
+use Rattle.reading.proofs.row_fault.Statement.{statement}
+use Rattle.reading.proofs.row_fault.Tie as tie
 
 abbrev Inv-loop : tie.InvT-loop
-Inv-loop f l start end m rule₀ k₀ rule k = (k ≤ m) × (rule ≡ first (rowTestsTo f (rowIn l start end) k))
+Inv-loop f l at start end m fault₀ k₀ fault k = (k ≤ m) × (fault ≡ first (valueTestsTo f at l k))
 
 abbrev μ-loop : tie.MeasureT-loop
-μ-loop f l start end m rule₀ k₀ rule k = m - k
+μ-loop f l at start end m fault₀ k₀ fault k = m - k
 
 locate-requires : tie.Need-locate-requires Inv-loop μ-loop
 locate-requires c κs = search needs
@@ -24,7 +23,7 @@ count-requires : tie.Need-count-requires Inv-loop μ-loop
 count-requires c κs = search needs
 
 loop-holds : tie.Need-loop-holds Inv-loop μ-loop
-loop-holds c = (omega arith, row-none _ _)
+loop-holds c = (omega arith, row-none _ _ _)
 
 mul-a : tie.Need-mul-a Inv-loop μ-loop
 mul-a c = omega arith
@@ -41,26 +40,32 @@ array-read-e c = omega arith
 known-requires : tie.Need-known-requires Inv-loop μ-loop
 known-requires c κs = search needs
 
-sub-value-rule : tie.Need-sub-value-rule Inv-loop μ-loop
-sub-value-rule c =
+mul-value-fault : tie.Need-mul-value-fault Inv-loop μ-loop
+mul-value-fault c = omega arith
+
+array-read-value-fault : tie.Need-array-read-value-fault Inv-loop μ-loop
+array-read-value-fault c = omega arith
+
+sub-value-fault : tie.Need-sub-value-fault Inv-loop μ-loop
+sub-value-fault c =
     let g = c .before .before .before .before .before .before .locate .ensures in
     located-inside _ _ _ _ (g .0) (g .1) (c .before .before .loop .k) .0
 
-part-value-rule-start : tie.Need-part-value-rule-start Inv-loop μ-loop
-part-value-rule-start c =
+part-value-fault-start : tie.Need-part-value-fault-start Inv-loop μ-loop
+part-value-fault-start c =
     let g = c .before .before .before .before .before .before .locate .ensures in
     located-inside _ _ _ _ (g .0) (g .1) (c .before .before .loop .k) .0
 
-part-value-rule-end : tie.Need-part-value-rule-end Inv-loop μ-loop
-part-value-rule-end c =
+part-value-fault-end : tie.Need-part-value-fault-end Inv-loop μ-loop
+part-value-fault-end c =
     let g = c .before .before .before .before .before .before .locate .ensures in
     located-inside _ _ _ _ (g .0) (g .1) (c .before .before .loop .k) .1
 
-value-rule-requires : tie.Need-value-rule-requires Inv-loop μ-loop
-value-rule-requires c κs = search needs
+value-fault-requires : tie.Need-value-fault-requires Inv-loop μ-loop
+value-fault-requires c κs = search needs
 
-lower-requires : tie.Need-lower-requires Inv-loop μ-loop
-lower-requires c κs = search needs
+earlier-requires : tie.Need-earlier-requires Inv-loop μ-loop
+earlier-requires c κs = search needs
 
 add-k : tie.Need-add-k Inv-loop μ-loop
 add-k c = omega arith
@@ -73,15 +78,13 @@ unfolding part
 loop-again c =
     let b = c .before .before .before in
     let g = b .before .before .before .before .before .before .locate .ensures in
-    (omega arith, row-turn _ _ _ _ _ _ (b .before .before .loop .inv .1) _ (b .known .ensures) _ (located-value _ _ _ _ (g .0) (g .1) (b .before .before .loop .k)) (c .before .value-rule .ensures) (c .lower .ensures))
+    (omega arith, row-turn _ _ _ _ _ _ _ (b .before .before .loop .inv .1) _ (b .known .ensures) _ (located-cell _ _ _ _ (g .0) (g .1) (b .before .before .loop .k)) (c .before .value-fault .ensures) (c .earlier .ensures))
 
 returns : tie.Need-returns Inv-loop μ-loop
-returns c =
-    let g = c .before .before .before .before .before .locate .ensures in
-    row-end _ _ _ _ (c .before .loop .inv .1) (omega arith) _ (located-row _ _ _ _ (g .0) (g .1) 0)
+returns c = row-end _ _ _ _ _ (c .before .loop .inv .1) (omega arith)
 
-pub row-rule-spec : {M : Type 1} → statement M
-row-rule-spec =
+pub row-fault-spec : {M : Type 1} → statement M
+row-fault-spec =
     tie.close
     (tie.spec
     Inv-loop
@@ -94,11 +97,13 @@ row-rule-spec =
     mul-e
     array-read-e
     known-requires
-    sub-value-rule
-    part-value-rule-start
-    part-value-rule-end
-    value-rule-requires
-    lower-requires
+    mul-value-fault
+    array-read-value-fault
+    sub-value-fault
+    part-value-fault-start
+    part-value-fault-end
+    value-fault-requires
+    earlier-requires
     add-k
     loop-less
     loop-again
