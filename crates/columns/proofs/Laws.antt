@@ -12,8 +12,8 @@ use lib.Seq.{getD-drop, drop-drop}
 use borrow.Author.Tests.{eq-eqb, ne-eqb, eqb-true, eqb-false, lt-ltb, le-ltb, ltb-true, ltb-false}
 use Rattle.meaning.specs.declared.Bounds.{Bounds}
 use Rattle.meaning.specs.Lists.{same, some, place, find, findAgain, lesser, least}
-use Rattle.meaning.specs.Bytes.{bounds, part, marked, content, undouble, value, fields, values}
-use Rattle.meaning.specs.Columns.{unknown, schema, knownAt, nameOf, columnOf, countOf, places, fieldAt, cell, rowOf}
+use Rattle.meaning.specs.Bytes.{bounds, part, value, fields, values}
+use Rattle.meaning.specs.Columns.{schema, columnOf, countOf, places, fieldAt, cell, rowOf}
 use Rattle.meaning.specs.Refusals.{rule9}
 use Rattle.meaning.proofs.Columns.{row-at}
 use Rattle.text.specs.Fields.{fieldsFrom, valuesFrom, FieldStands}

@@ -12,14 +12,14 @@ use lib.Seq.{take-all}
 use borrow.Author.Tests.{eq-eqb, ne-eqb, ltb-true, ltb-false}
 use Rattle.meaning.specs.declared.Bounds.{Bounds}
 use Rattle.meaning.specs.declared.Column.{Column}
-use Rattle.meaning.specs.Lists.{same, empty, some, place, find, findAgain, lesser, least}
+use Rattle.meaning.specs.Lists.{same, empty, place, find, findAgain, lesser, least}
 use Rattle.meaning.specs.Bytes.{bounds, part, fields, marked, content, undouble, value, valuesOf, values}
 use Rattle.meaning.specs.Columns.{Known, unknown, stopsColumns, routesColumns, calendarColumns, tripsColumns, stopTimesColumns, calendarDatesColumns, schemas, schema, knownAt, nameOf, columnOf, countOf, places, fieldAt, cell, rowOf}
 use Rattle.meaning.specs.Refusals.{long, blank, formless, leftmost, rule8, rule9, rule11, rule12, rule13}
 use Rattle.meaning.specs.Promises.{First, absent, found}
-use Rattle.meaning.specs.WhichColumn.{Leftmost, standings, KnownName, SecondStanding, Breaks, Keeps}
+use Rattle.meaning.specs.WhichColumn.{standings, Keeps}
 use Rattle.meaning.proofs.Computed.{all, getD-all}
-use Rattle.meaning.proofs.ListLaws.{both, same-equal, same-self}
+use Rattle.meaning.proofs.ListLaws.{both}
 use Rattle.meaning.proofs.Laws.{getD-map-in}
 use Rattle.meaning.proofs.Tests.{some-none}
 use Rattle.meaning.proofs.References.{find-first}

@@ -5,20 +5,19 @@ use native.Mathlib.Decide.{ℕ-discrete}
 use mathlib.Core.Path.{_≡_, refl, sym, ap, _∙_}
 use mathlib.Core.Logic.{_⊎_, inl, inr, ⊎-elim}
 use mathlib.Core.Bool.{Bool, true, false, cond, not, _||_}
-use mathlib.Core.List.{List, [], _∷_, List·Memᴰ, List·Memᴰ·head, List·Memᴰ·tail, List·Memᴰ·not-nil, Memᴰ·append-left}
+use mathlib.Core.List.{List, [], _∷_, List·Memᴰ, List·Memᴰ·head, List·Memᴰ·tail, List·Memᴰ·not-nil}
 use lib.ListN.{length, getD}
-use lib.Dec.{ltb, eqb}
-use borrow.Author.Tests.{eq-eqb, ne-eqb, eqb-true, lt-ltb, le-ltb, ltb-false}
+use lib.Dec.{eqb}
+use borrow.Author.Tests.{eq-eqb, ne-eqb, eqb-true, le-ltb, ltb-false}
 use Rattle.meaning.specs.declared.Refusal.{Refusal}
 use Rattle.meaning.specs.declared.Verdict.the-variants.{Unreadable}
 use Rattle.meaning.specs.Lists.{place}
 use Rattle.meaning.specs.Bytes.{Line, linesOf, fields, values}
 use Rattle.meaning.specs.Columns.{places, headerOf}
 use Rattle.meaning.specs.Tables.{fileOf}
-use Rattle.meaning.specs.Refusals.{Test, test, testAt, Claim, claimOf, rule7, rule8, rule11, rule12, rule13, textTests, headTests, valueTests, lineTests, claims, refusal, verdictOf}
+use Rattle.meaning.specs.Refusals.{Test, test, Claim, claimOf, rule7, rule8, rule11, rule12, rule13, textTests, headTests, valueTests, lineTests, claims, refusal, verdictOf}
 use Rattle.meaning.specs.Promises.{Each, sooner2, sooner3, fileTests, fieldCount, testsOn, noLine, testOf, FileClaim, LineClaim, lineOrder, turn, speaksBefore, noClaim, FirstBroken, Sayable}
-use Rattle.meaning.proofs.Computed.{all, mem-all}
-use Rattle.meaning.proofs.ListLaws.{both}
+use Rattle.meaning.proofs.Computed.{mem-all}
 use Rattle.meaning.proofs.Laws.{each-cons, each-append, getD-mem}
 use Rattle.meaning.proofs.FirstBroken.{first-broken, earlier-kept}
 use Rattle.meaning.proofs.Claims.{file-number, line-number, claims-exactly, claim-of-line, claims-ordered}

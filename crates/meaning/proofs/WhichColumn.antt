@@ -5,9 +5,9 @@ use native.Mathlib.Decide.{ℕ-discrete}
 use mathlib.Core.Path.{_≡_, refl, sym, ap, _∙_}
 use mathlib.Core.Logic.{inr, ⊎-elim}
 use mathlib.Core.Bool.{Bool, true, false, cond, not}
-use mathlib.Core.List.{List, [], _∷_, map, List·Memᴰ, List·Memᴰ·head, List·Memᴰ·tail, Memᴰ·append-right}
+use mathlib.Core.List.{List, [], _∷_, map, List·Memᴰ·head, Memᴰ·append-right}
 use lib.IntN.{ℤ}
-use lib.ListN.{length, getD, take}
+use lib.ListN.{length, getD}
 use lib.Dec.{eqb}
 use borrow.Author.Tests.{eq-eqb, ne-eqb, eqb-true, not-false}
 use Rattle.meaning.specs.declared.Column.{Column}
@@ -18,7 +18,7 @@ use Rattle.meaning.specs.Columns.{nameOf, columnOf, countOf, places, cel
 use Rattle.meaning.specs.Tables.{fileOf}
 use Rattle.meaning.specs.Refusals.{Claim, test, testAt, claims, refusal, leftmost, rule8, rule10, rule11, rule12, rule13, long, blank, formless, textTests, headTests, lineTests}
 use Rattle.meaning.specs.Promises.{First, absent, found, fieldCount, testsOn, noLine, testOf, FileClaim, LineClaim, lineOrder, turn, FirstBroken}
-use Rattle.meaning.specs.WhichColumn.{Leftmost, standings, KnownName, SecondStanding, Breaks, ColumnSaid, WhichColumn}
+use Rattle.meaning.specs.WhichColumn.{Leftmost, SecondStanding, Breaks, ColumnSaid, WhichColumn}
 use Rattle.meaning.proofs.ListLaws.{both, same-equal, same-self}
 use Rattle.meaning.proofs.Tests.{Standing, below, level, over, standing}
 use Rattle.meaning.proofs.References.{find-first}

@@ -6,7 +6,7 @@ use mathlib.Core.Bool.{Bool, false}
 use native.Mathlib.Numerals.{add-one}
 use lib.ListN.{getD}
 use Rattle.meaning.specs.declared.Place.{Place}
-use Rattle.meaning.specs.Refusals.{Test, test, claim, onLine}
+use Rattle.meaning.specs.Refusals.{Test, test, claimOf, claim, onLine}
 use Rattle.listing.specs.Handing.{State, noted, noting}
 use Rattle.listing.proofs.Laws.{noting-append}
 use Rattle.judging.specs.Judging.{testsFrom}
@@ -14,7 +14,7 @@ use Rattle.judging.specs.Judging.{testsFrom}
 pub line-append : (f n : ℕ) (ts us : List Test) → onLine f n (ts ++ us) ≡ onLine f n ts ++ onLine f n us
 unfolding onLine
 line-append f n [] us = refl
-line-append f n (t ∷ ts) us = ap (λ l. claim (t .number) f n (t .broken) ∷ l) (line-append f n ts us)
+line-append f n (t ∷ ts) us = ap (λ l. claimOf f n t ∷ l) (line-append f n ts us)
 
 -- the tests of none are noted by doing nothing
 pub none-noted : (p : Place) (f n : ℕ) (ns : List ℕ) (bs : List Bool) (s : State) → s ≡ noting p (onLine f n (testsFrom ns bs 0)) s

@@ -1,6 +1,6 @@
 -- `columns::place` meets its contract.
 use Rattle.columns.proofs.Laws.{find-first}
-use mathlib.Core.Path.{_≡_, _∙_}
+use mathlib.Core.Path.{_∙_}
 use native.Mathlib.Omega.{arith}
 use borrow.Author.Needs.{needs}
 use Rattle.columns.proofs.place.Statement.{statement}
