@@ -54,6 +54,7 @@ fn tell_answer(a: Answer) {
             tell(r.number);
             tell(r.file);
             tell(r.line);
+            tell(r.column);
         }
     }
 }

@@ -12,6 +12,7 @@ pub mod large;
 pub mod lines;
 pub mod orders;
 pub mod random;
+pub mod readings;
 pub mod render;
 pub mod services;
 pub mod vectors;
