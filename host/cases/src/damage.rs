@@ -21,7 +21,7 @@ pub fn break_values(grid: &mut Grid, known: &[Column], rule: usize, random: &mut
     let columns: Vec<&Column> = present.iter().filter(wanted).copied().collect();
     let Some(column) = (!columns.is_empty()).then(|| *random.pick(&columns)) else { return };
     match rule {
-        8 => repeat_name(grid, column, random),
+        8 => repeat_names(grid, &columns, random),
         9 => {
             let place = grid.column(column.name);
             grid.header[place] = random.pick(&[&b"gone"[..], b"", b"STOP_ID"]).to_vec();
@@ -29,20 +29,36 @@ pub fn break_values(grid: &mut Grid, known: &[Column], rule: usize, random: &mut
         _ if grid.rows.is_empty() => {}
         _ => {
             let row = random.below(grid.rows.len());
+            break_more(grid, known, row, rule, random);
             let value = bad_value(rule, column, random);
             grid.set(row, column.name, value);
         }
     }
 }
 
-/// A known name that stands twice, in place of another column or besides.
-fn repeat_name(grid: &mut Grid, column: &Column, random: &mut Random) {
-    if random.once_in(2) {
+/// One to three times a known name once more, in place of another column or besides; at times in capitals, which nobody knows.
+fn repeat_names(grid: &mut Grid, columns: &[&Column], random: &mut Random) {
+    for _ in 0..random.between(1, 3) {
+        let name = random.pick(columns).name;
+        let name = if random.once_in(4) { name.to_ascii_uppercase() } else { name.to_string() }.into_bytes();
         let place = random.below(grid.header.len());
-        grid.header[place] = column.name.as_bytes().to_vec();
-    } else {
-        grid.header.push(column.name.as_bytes().to_vec());
-        grid.rows.iter_mut().for_each(|row| row.push(b"1".to_vec()));
+        if random.once_in(2) {
+            grid.header[place] = name;
+        } else {
+            grid.header.insert(place, name);
+            grid.rows.iter_mut().for_each(|row| row.insert(place, b"1".to_vec()));
+        }
+    }
+}
+
+/// A few more fields of a line, or most of them, of any column, with values that break this rule or one of the next under some column.
+fn break_more(grid: &mut Grid, known: &[Column], row: usize, rule: usize, random: &mut Random) {
+    for _ in 0..random.below(grid.header.len()) {
+        let place = random.below(grid.header.len());
+        let own = known.iter().find(|column| column.name.as_bytes() == grid.header[place]);
+        let column = own.unwrap_or_else(|| random.pick(known));
+        let rule = if random.once_in(2) { rule } else { random.between(rule, 13) };
+        grid.rows[row][place] = bad_value(rule, column, random);
     }
 }
 

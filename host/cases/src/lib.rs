@@ -3,6 +3,7 @@
 
 pub mod agree;
 pub mod characters;
+pub mod columns;
 pub mod damage;
 pub mod edges;
 pub mod faults;
