@@ -6,22 +6,10 @@ use cases::edges::BASE;
 use cases::large::tables;
 use common::{check, feed, findings, refusal, refused};
 
-/// Fails unless the base feed with this file 6 is refused with this rule on line 2, in this column.
+/// Fails unless the base feed with this header and line in a file is refused with this rule, on the line and in this column.
 #[track_caller]
-fn date(header: &str, line: &str, rule: usize, column: usize) {
-    refused(&[(6, &format!("{header}\n{line}\n"))], [rule, 6, 2, column]);
-}
-
-/// The same with this file 4.
-#[track_caller]
-fn trip(header: &str, line: &str, rule: usize, column: usize) {
-    refused(&[(4, &format!("{header}\n{line}\n"))], [rule, 4, 2, column]);
-}
-
-/// The same with this file 5.
-#[track_caller]
-fn call(header: &str, line: &str, rule: usize, column: usize) {
-    refused(&[(5, &format!("{header}\n{line}\n"))], [rule, 5, 2, column]);
+fn on_line(file: usize, header: &str, line: &str, rule: usize, column: usize) {
+    refused(&[(file, &format!("{header}\n{line}\n"))], [rule, file, 2, column]);
 }
 
 /// Fails unless the base feed with this header in file 2 is refused with rule 8 in this column.
@@ -82,31 +70,31 @@ fn every_column_of_every_file() {
 /// The leftmost column of several, by the header's order and not by that of document 01.
 #[test]
 fn the_leftmost_column() {
-    date(DATES, "W,x,x", 13, 2);
-    date(DATES_BACKWARD, "x,x,W", 13, 1);
-    date(DATES_BACKWARD, "1,x,W", 13, 2);
-    date(DATES, ",,", 12, 1);
-    date(DATES, "W,,", 12, 2);
-    date(DATES_BACKWARD, ",,", 12, 1);
-    date(DATES_BACKWARD, "1,,", 12, 2);
-    date(DATES_BACKWARD, "1,20240704,", 12, 3);
+    on_line(6, DATES, "W,x,x", 13, 2);
+    on_line(6, DATES_BACKWARD, "x,x,W", 13, 1);
+    on_line(6, DATES_BACKWARD, "1,x,W", 13, 2);
+    on_line(6, DATES, ",,", 12, 1);
+    on_line(6, DATES, "W,,", 12, 2);
+    on_line(6, DATES_BACKWARD, ",,", 12, 1);
+    on_line(6, DATES_BACKWARD, "1,,", 12, 2);
+    on_line(6, DATES_BACKWARD, "1,20240704,", 12, 3);
     let long = long();
-    trip(TRIPS, &format!("{long},{long},{long},{long}"), 11, 1);
-    trip(TRIPS, &format!("R,{long},T,{long}"), 11, 2);
-    trip("direction_id,trip_id,service_id,route_id", &format!("1,{long},W,{long}"), 11, 2);
+    on_line(4, TRIPS, &format!("{long},{long},{long},{long}"), 11, 1);
+    on_line(4, TRIPS, &format!("R,{long},T,{long}"), 11, 2);
+    on_line(4, "direction_id,trip_id,service_id,route_id", &format!("1,{long},W,{long}"), 11, 2);
 }
 
 /// The column is that of the rule that speaks, though others are broken further left.
 #[test]
 fn the_named_rule() {
     let long = long();
-    date("date,exception_type,service_id", "x,,W", 12, 2);
-    date("date,exception_type,service_id", &format!("x,,{long}"), 11, 3);
-    date("exception_type,service_id,date", &format!("1,{long},"), 11, 2);
-    date("exception_type,date,service_id", "x,x,", 12, 3);
+    on_line(6, "date,exception_type,service_id", "x,,W", 12, 2);
+    on_line(6, "date,exception_type,service_id", &format!("x,,{long}"), 11, 3);
+    on_line(6, "exception_type,service_id,date", &format!("1,{long},"), 11, 2);
+    on_line(6, "exception_type,date,service_id", "x,x,", 12, 3);
     // By its name direction_id breaks 11, and the 65 bytes are of no form either.
-    trip(TRIPS, &format!(",W,T,{long}"), 11, 4);
-    trip("direction_id,bikes_allowed,route_id,service_id,trip_id", &format!("{},9,R,W,T", &long[1..]), 13, 1);
+    on_line(4, TRIPS, &format!(",W,T,{long}"), 11, 4);
+    on_line(4, "direction_id,bikes_allowed,route_id,service_id,trip_id", &format!("{},9,R,W,T", &long[1..]), 13, 1);
     // Good lines above change nothing.
     refused(&[(6, &format!("{DATES}\nW,20240704,1\nX,20240704,2\nX,x,\n"))], [12, 6, 4, 3]);
 }
@@ -115,26 +103,26 @@ fn the_named_rule() {
 #[test]
 fn unread_columns_count() {
     let long = long();
-    date("note,service_id,,date,exception_type", ",W,,x,1", 13, 4);
-    date("note,service_id,,date,exception_type", ",W,,,1", 12, 4);
-    date("monday,service_id,stop_lat,date,exception_type", "x,W,x,20240704,x", 13, 5);
-    date("note,note,date,service_id,exception_type", ",,20240704,W,", 12, 5);
-    date("trip_id,shape_id,service_id,date,exception_type", &format!("{long},{long},{long},x,"), 11, 3);
-    date("Service_id, service_id,service_id,date,exception_type", &format!("{long},{long},{long},,"), 11, 3);
+    on_line(6, "note,service_id,,date,exception_type", ",W,,x,1", 13, 4);
+    on_line(6, "note,service_id,,date,exception_type", ",W,,,1", 12, 4);
+    on_line(6, "monday,service_id,stop_lat,date,exception_type", "x,W,x,20240704,x", 13, 5);
+    on_line(6, "note,note,date,service_id,exception_type", ",,20240704,W,", 12, 5);
+    on_line(6, "trip_id,shape_id,service_id,date,exception_type", &format!("{long},{long},{long},x,"), 11, 3);
+    on_line(6, "Service_id, service_id,service_id,date,exception_type", &format!("{long},{long},{long},,"), 11, 3);
     let thirty = ",".repeat(30);
-    date(&format!("service_id,date{thirty}exception_type"), &format!("W,20240704{thirty}x"), 13, 32);
-    date(&format!("service_id,date{thirty}exception_type"), &format!("W,20240704{thirty}"), 12, 32);
-    date(&format!("date,exception_type{thirty}service_id"), &format!("x,{thirty}{long}"), 11, 32);
+    on_line(6, &format!("service_id,date{thirty}exception_type"), &format!("W,20240704{thirty}x"), 13, 32);
+    on_line(6, &format!("service_id,date{thirty}exception_type"), &format!("W,20240704{thirty}"), 12, 32);
+    on_line(6, &format!("date,exception_type{thirty}service_id"), &format!("x,{thirty}{long}"), 11, 32);
 }
 
 /// Columns are fields: no commas in quotes, no marks, no bytes.
 #[test]
 fn columns_are_fields() {
-    date("note,service_id,date,exception_type", "\"a,b,c\",W,x,1", 13, 3);
-    date("\"a,b\",service_id,date,exception_type", "1,W,x,1", 13, 3);
-    date("note,service_id,date,exception_type", "\"\"\",\"\"\",\"W\",\"20240704\",\"x\"", 13, 4);
-    date("駅🚏,service_id,date,exception_type", "駅駅駅,ä,x,1", 13, 3);
-    date(&format!("\u{feff}{DATES}"), "W,x,1", 13, 2);
+    on_line(6, "note,service_id,date,exception_type", "\"a,b,c\",W,x,1", 13, 3);
+    on_line(6, "\"a,b\",service_id,date,exception_type", "1,W,x,1", 13, 3);
+    on_line(6, "note,service_id,date,exception_type", "\"\"\",\"\"\",\"W\",\"20240704\",\"x\"", 13, 4);
+    on_line(6, "駅🚏,service_id,date,exception_type", "駅駅駅,ä,x,1", 13, 3);
+    on_line(6, &format!("\u{feff}{DATES}"), "W,x,1", 13, 2);
     refused(&[(6, &format!("{DATES}\r\nW,20240704,1\r\nW,20240704,x\r\n"))], [13, 6, 3, 3]);
 }
 
@@ -142,18 +130,18 @@ fn columns_are_fields() {
 #[test]
 fn what_breaks_the_rule() {
     let (long, quoted) = (long(), format!("\"{}\"", &long()[1..]));
-    trip(TRIPS, &format!("{quoted},{quoted},{long},"), 11, 3);
-    trip(TRIPS, &format!("{},W,{long},", "ä".repeat(33)), 11, 1);
-    trip(TRIPS, &format!("{},W,{long},", "ä".repeat(32)), 11, 3);
+    on_line(4, TRIPS, &format!("{quoted},{quoted},{long},"), 11, 3);
+    on_line(4, TRIPS, &format!("{},W,{long},", "ä".repeat(33)), 11, 1);
+    on_line(4, TRIPS, &format!("{},W,{long},", "ä".repeat(32)), 11, 3);
     let names = "route_long_name,route_type,route_id,route_short_name";
     refused(&[(2, &format!("{names}\n{long},3,{long},{long}\n"))], [11, 2, 2, 3]);
-    call(CALLS, ",,T,A,,1", 12, 5);
-    call(CALLS, ",,\"\",\"\",1,1", 12, 3);
-    call(CALLS, ",x,T,A,1,", 13, 2);
-    call(CALLS, ",,T,A,1,x", 13, 6);
-    call("timepoint,drop_off_type,arrival_time,departure_time,trip_id,stop_id,stop_sequence", ",,,,T,A,x", 13, 7);
-    trip("bikes_allowed,direction_id,route_id,service_id,trip_id", ",,R,W,", 12, 5);
-    trip("bikes_allowed,direction_id,route_id,service_id,trip_id", "\"0\",\"x\",R,W,T", 13, 2);
+    on_line(5, CALLS, ",,T,A,,1", 12, 5);
+    on_line(5, CALLS, ",,\"\",\"\",1,1", 12, 3);
+    on_line(5, CALLS, ",x,T,A,1,", 13, 2);
+    on_line(5, CALLS, ",,T,A,1,x", 13, 6);
+    on_line(5, "timepoint,drop_off_type,arrival_time,departure_time,trip_id,stop_id,stop_sequence", ",,,,T,A,x", 13, 7);
+    on_line(4, "bikes_allowed,direction_id,route_id,service_id,trip_id", ",,R,W,", 12, 5);
+    on_line(4, "bikes_allowed,direction_id,route_id,service_id,trip_id", "\"0\",\"x\",R,W,T", 13, 2);
 }
 
 /// A73: of all second standings the leftmost; `a,b,b,a` is 3, and a third standing never counts.
@@ -193,15 +181,15 @@ fn names_by_value() {
 /// A76: all others have 0, also on lines whose values break rules, and where a field could be named.
 #[test]
 fn other_rules_have_none() {
-    date(DATES, ",\t,x", 5, 0);
-    date(DATES, ",\r,x", 5, 0);
-    date(DATES, ",a\"b,x", 6, 0);
-    date(DATES, ",\"x,", 6, 0);
-    date(DATES, &",".repeat(32), 7, 0);
-    date(DATES, ",x", 10, 0);
-    date(DATES, ",x,x,x", 10, 0);
-    date(DATES, "", 10, 0);
-    date(DATES, &format!("{},x", long()), 10, 0);
+    on_line(6, DATES, ",\t,x", 5, 0);
+    on_line(6, DATES, ",\r,x", 5, 0);
+    on_line(6, DATES, ",a\"b,x", 6, 0);
+    on_line(6, DATES, ",\"x,", 6, 0);
+    on_line(6, DATES, &",".repeat(32), 7, 0);
+    on_line(6, DATES, ",x", 10, 0);
+    on_line(6, DATES, ",x,x,x", 10, 0);
+    on_line(6, DATES, "", 10, 0);
+    on_line(6, DATES, &format!("{},x", long()), 10, 0);
     for header in ["service_id,date", "exception_type,note,date", "Service_id,date,exception_type", ""] {
         refused(&[(6, &format!("{header}\nx\n"))], [9, 6, 1, 0]);
     }
