@@ -1,4 +1,4 @@
-//! Columns of refusals, each small way tried: every two broken fields of a line, every short header, broken fields beside rules without a column.
+//! Columns of refusals, each small way tried: every two fields of a line broken, broken fields beside rules without a column, names twice.
 
 use crate::edges::{with_file, BASE};
 use crate::Case;
@@ -98,14 +98,14 @@ fn short_headers(count: usize) -> Vec<Vec<&'static str>> {
     headers
 }
 
-/// Every header with two more names, each of its own, before it and behind it; unknown names stand twice left of all.
+/// Every header with two more names, each of its own, before it and behind it; a name that only another file knows stands twice left of all.
 fn longer_headers() -> Vec<Case> {
     let mut cases = Vec::new();
     for (file, base) in BASE.iter().enumerate() {
         let names: Vec<&str> = base.lines().next().expect("a header").split(',').collect();
         for more in names.iter().flat_map(|one| names.iter().map(move |other| [*one, *other])) {
-            cases.push(with_names(file, &[&["x", "x"], &more[..], &names].concat()));
-            cases.push(with_names(file, &[&["x", "x"], &names[..], &more].concat()));
+            cases.push(with_names(file, &[&[ELSEWHERE[file]; 2], &more[..], &names].concat()));
+            cases.push(with_names(file, &[&[ELSEWHERE[file]; 2], &names[..], &more].concat()));
         }
     }
     cases

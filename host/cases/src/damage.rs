@@ -3,7 +3,7 @@
 use crate::characters::ILL_FORMED;
 use crate::feeds::Grid;
 use crate::random::Random;
-use model::columns::Column;
+use model::columns::{Column, COLUMNS};
 use model::forms::Form;
 use model::Files;
 
@@ -36,13 +36,19 @@ pub fn break_values(grid: &mut Grid, known: &[Column], rule: usize, random: &mut
     }
 }
 
-/// One to three times a known name once more, in place of another column or besides; at times in capitals, which nobody knows.
+/// Known names once more, in place of another column or besides; among them names in capitals, which nobody knows, and one of any file.
 fn repeat_names(grid: &mut Grid, columns: &[&Column], random: &mut Random) {
-    for _ in 0..random.between(1, 3) {
-        let name = random.pick(columns).name;
-        let name = if random.once_in(4) { name.to_ascii_uppercase() } else { name.to_string() }.into_bytes();
-        let place = random.below(grid.header.len());
-        if random.once_in(2) {
+    let elsewhere = random.pick(&COLUMNS.concat()).name;
+    for _ in 0..random.between(1, 5) {
+        let own = random.pick(columns).name;
+        let name = match random.below(4) {
+            0 => own.to_ascii_uppercase(),
+            1 => elsewhere.to_string(),
+            _ => own.to_string(),
+        };
+        let name = name.into_bytes();
+        let place = random.between(0, grid.header.len());
+        if place < grid.header.len() && random.once_in(2) {
             grid.header[place] = name;
         } else {
             grid.header.insert(place, name);
