@@ -78,4 +78,31 @@ mod tests {
     fn a_wrong_check_fails_on_generated_feeds() {
         on_generated_feeds(wrong, 100);
     }
+
+    /// The model's outcome, but no refusal has a column.
+    fn without_columns(case: &Case) -> Outcome {
+        let mut outcome = by_model(case);
+        if let Answer::Refused { column, .. } = &mut outcome.answer {
+            *column = 0;
+        }
+        outcome
+    }
+
+    #[test]
+    #[should_panic(expected = "column: 0")]
+    fn a_check_without_columns_fails_on_vectors() {
+        on_every_vector(without_columns);
+    }
+
+    #[test]
+    #[should_panic(expected = "thread panicked")]
+    fn a_check_without_columns_fails_on_edge_cases() {
+        on_every_edge_case(without_columns);
+    }
+
+    #[test]
+    #[should_panic(expected = "thread panicked")]
+    fn a_check_without_columns_fails_on_generated_feeds() {
+        on_generated_feeds(without_columns, 100);
+    }
 }

@@ -3,7 +3,7 @@
 use crate::characters::ILL_FORMED;
 use crate::feeds::Grid;
 use crate::random::Random;
-use model::columns::Column;
+use model::columns::{Column, COLUMNS};
 use model::forms::Form;
 use model::Files;
 
@@ -21,7 +21,7 @@ pub fn break_values(grid: &mut Grid, known: &[Column], rule: usize, random: &mut
     let columns: Vec<&Column> = present.iter().filter(wanted).copied().collect();
     let Some(column) = (!columns.is_empty()).then(|| *random.pick(&columns)) else { return };
     match rule {
-        8 => repeat_name(grid, column, random),
+        8 => repeat_names(grid, &columns, random),
         9 => {
             let place = grid.column(column.name);
             grid.header[place] = random.pick(&[&b"gone"[..], b"", b"STOP_ID"]).to_vec();
@@ -29,20 +29,42 @@ pub fn break_values(grid: &mut Grid, known: &[Column], rule: usize, random: &mut
         _ if grid.rows.is_empty() => {}
         _ => {
             let row = random.below(grid.rows.len());
+            break_more(grid, known, row, rule, random);
             let value = bad_value(rule, column, random);
             grid.set(row, column.name, value);
         }
     }
 }
 
-/// A known name that stands twice, in place of another column or besides.
-fn repeat_name(grid: &mut Grid, column: &Column, random: &mut Random) {
-    if random.once_in(2) {
+/// Known names once more, in place of another column or besides; among them names in capitals, which nobody knows, and one of any file.
+fn repeat_names(grid: &mut Grid, columns: &[&Column], random: &mut Random) {
+    let elsewhere = random.pick(&COLUMNS.concat()).name;
+    for _ in 0..random.between(1, 5) {
+        let own = random.pick(columns).name;
+        let name = match random.below(4) {
+            0 => own.to_ascii_uppercase(),
+            1 => elsewhere.to_string(),
+            _ => own.to_string(),
+        };
+        let name = name.into_bytes();
+        let place = random.between(0, grid.header.len());
+        if place < grid.header.len() && random.once_in(2) {
+            grid.header[place] = name;
+        } else {
+            grid.header.insert(place, name);
+            grid.rows.iter_mut().for_each(|row| row.insert(place, b"1".to_vec()));
+        }
+    }
+}
+
+/// A few more fields of a line, or most of them, of any column, with values that break this rule or one of the next under some column.
+fn break_more(grid: &mut Grid, known: &[Column], row: usize, rule: usize, random: &mut Random) {
+    for _ in 0..random.below(grid.header.len()) {
         let place = random.below(grid.header.len());
-        grid.header[place] = column.name.as_bytes().to_vec();
-    } else {
-        grid.header.push(column.name.as_bytes().to_vec());
-        grid.rows.iter_mut().for_each(|row| row.push(b"1".to_vec()));
+        let own = known.iter().find(|column| column.name.as_bytes() == grid.header[place]);
+        let column = own.unwrap_or_else(|| random.pick(known));
+        let rule = if random.once_in(2) { rule } else { random.between(rule, 13) };
+        grid.rows[row][place] = bad_value(rule, column, random);
     }
 }
 

@@ -30,18 +30,21 @@ pub fn kind(seed: u64) -> Kind {
     match seed % 16 {
         0 | 1 => Kind::Clean,
         2..=7 => Kind::Faulty,
-        8..=10 => Kind::Refused(refusal(seed / 16 * 3 + seed % 16 - 8)),
-        11..=14 => Kind::Mutated,
+        8..=11 => Kind::Refused(refusal(seed / 16 * 4 + seed % 16 - 8)),
+        12..=14 => Kind::Mutated,
         _ => Kind::Truncated,
     }
 }
 
-/// The rule that a turn breaks; rules 1 and 2 take much memory and come seldom, rule 14 can be broken in many ways and comes often.
+/// The rules that turns break: 14 can be broken in many ways, 8 and 11 to 13 in many columns.
+const TURNS: [usize; 18] = [3, 4, 5, 6, 7, 8, 9, 10, 11, 12, 13, 14, 8, 11, 12, 13, 14, 14];
+
+/// The rule that a turn breaks; rules 1 and 2 take much memory and come seldom.
 fn refusal(turn: u64) -> usize {
     match turn % 240 {
         17 => 1,
         34 | 134 => 2,
-        other => (other as usize % 14 + 3).min(14),
+        other => TURNS[other as usize % TURNS.len()],
     }
 }
 

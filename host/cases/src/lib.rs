@@ -3,6 +3,7 @@
 
 pub mod agree;
 pub mod characters;
+pub mod columns;
 pub mod damage;
 pub mod edges;
 pub mod faults;
@@ -12,6 +13,7 @@ pub mod large;
 pub mod lines;
 pub mod orders;
 pub mod random;
+pub mod readings;
 pub mod render;
 pub mod services;
 pub mod vectors;

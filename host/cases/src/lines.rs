@@ -76,7 +76,7 @@ fn words(answer: Answer) -> String {
     match answer {
         Answer::Accepted => "accepted".to_string(),
         Answer::Findings { written, total } => format!("findings {written} {total}"),
-        Answer::Refused { number, file, line } => format!("refused {number} {file} {line}"),
+        Answer::Refused { number, file, line, column } => format!("refused {number} {file} {line} {column}"),
     }
 }
 

@@ -6,7 +6,7 @@ use model::columns::Column;
 
 /// Names that no file knows, or that only look like a known one.
 const UNKNOWN: [&str; 10] =
-    ["", " stop_id", "Stop_id", "TRIP_ID", "stop_id ", "\u{feff}", "\"stop_id\"", "note", "zone,fare", "ä駅🚏"];
+    ["", " stop_id", "Stop_id", "TRIP_ID", "stop_id ", "\u{feff}", "\"stop_id\"", "shape_id", "zone,fare", "ä駅🚏"];
 
 /// What stands in unread columns: well-formed, as every line has to be.
 const JUNK: [&str; 11] =

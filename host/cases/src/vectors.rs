@@ -1,14 +1,14 @@
-//! Reads vector files; their form is explained at the top of vectors/e6.txt.
+//! Reads vector files; their form is explained at the top of vectors/e7.txt.
 
 use crate::{Case, Outcome};
 use model::{Answer, Files, Tables};
 
-/// The customer's vectors for document 01 with E2, E1 and E6; the first line says so.
-pub const E6: &str = include_str!("../vectors/e6.txt");
+/// The customer's vectors for document 01 with E2, E1, E6 and E7; the first line says so.
+pub const E7: &str = include_str!("../vectors/e7.txt");
 
 /// The customer's cases with what each must give.
 pub fn customers() -> Vec<(Case, Outcome)> {
-    read(E6).expect("vectors/e6.txt is well-formed")
+    read(E7).expect("vectors/e7.txt is well-formed")
 }
 
 /// The cases of a vector file, or what is wrong with it and where.
@@ -105,8 +105,9 @@ fn read_answer(words: &[&str]) -> Result<Answer, String> {
     match *words {
         ["accepted"] => Ok(Answer::Accepted),
         ["findings", written, total] => Ok(Answer::Findings { written: number(written)?, total: number(total)? }),
-        ["refused", rule, file, line] => {
-            Ok(Answer::Refused { number: number(rule)?, file: number(file)?, line: number(line)? })
+        ["refused", rule, file, line, column] => {
+            let [rule, file, line, column] = [number(rule)?, number(file)?, number(line)?, number(column)?];
+            Ok(Answer::Refused { number: rule, file, line, column })
         }
         _ => Err(format!("unknown answer: {words:?}")),
     }

@@ -4,7 +4,7 @@ mod common;
 
 use cases::edges::BASE;
 use cases::large::tables;
-use common::{check, feed, findings, refused};
+use common::{check, feed, findings, refusal, refused};
 use model::Answer;
 
 /// The files of a base feed with lines added or one line put in the place of another.
@@ -50,60 +50,60 @@ fn the_base_feed_is_accepted() {
 fn marks_and_endings() {
     let good = BASE[1];
     findings(&[(2, &format!("\u{feff}{good}"))], &[]);
-    refused(&[(2, &format!("\u{feff}\u{feff}{good}"))], 9, 2, 1);
-    refused(&[(2, "\u{feff}")], 4, 2, 0);
-    refused(&[(2, "\u{feff}\n")], 9, 2, 1);
-    refused(&[(2, "\u{feff}\r\n")], 9, 2, 1);
+    refused(&[(2, &format!("\u{feff}\u{feff}{good}"))], [9, 2, 1, 0]);
+    refused(&[(2, "\u{feff}")], [4, 2, 0, 0]);
+    refused(&[(2, "\u{feff}\n")], [9, 2, 1, 0]);
+    refused(&[(2, "\u{feff}\r\n")], [9, 2, 1, 0]);
     findings(&[(2, &good.replace('\n', "\r\n"))], &[]);
-    refused(&[(2, &good.replace('\n', "\r\r\n"))], 5, 2, 1);
-    refused(&[(2, &more(2, "\"R2\r\n"))], 6, 2, 3);
-    refused(&[(2, &more(2, "R2,3,\"a\nb\",\n"))], 6, 2, 3);
-    refused(&[(2, &more(2, "\n"))], 10, 2, 3);
-    refused(&[(2, &more(2, "\r\n"))], 10, 2, 3);
-    refused(&[(2, "\n")], 9, 2, 1);
+    refused(&[(2, &good.replace('\n', "\r\r\n"))], [5, 2, 1, 0]);
+    refused(&[(2, &more(2, "\"R2\r\n"))], [6, 2, 3, 0]);
+    refused(&[(2, &more(2, "R2,3,\"a\nb\",\n"))], [6, 2, 3, 0]);
+    refused(&[(2, &more(2, "\n"))], [10, 2, 3, 0]);
+    refused(&[(2, &more(2, "\r\n"))], [10, 2, 3, 0]);
+    refused(&[(2, "\n")], [9, 2, 1, 0]);
 }
 
 /// Rules 3 and 4, and their order over the files (A23, A24).
 #[test]
 fn whole_files_go_rule_by_rule() {
-    refused(&[(1, "a\tb\n"), (5, "")], 4, 5, 0);
+    refused(&[(1, "a\tb\n"), (5, "")], [4, 5, 0, 0]);
     let files = feed(&[(3, &BASE[2][..BASE[2].len() - 1]), (1, "x")]);
     let mut tables = tables(&files, 0);
     tables[2].pop();
     let answer = model::check(&files, &mut tables, &mut [], [0, 0, 0]);
-    assert_eq!(answer, Answer::Refused { number: 3, file: 3, line: 0 });
+    assert_eq!(answer, refusal([3, 3, 0, 0]));
     tables[2].push(0);
     tables[0].clear();
     let answer = model::check(&files, &mut tables, &mut [], [0, 0, 0]);
-    assert_eq!(answer, Answer::Refused { number: 4, file: 1, line: 0 });
+    assert_eq!(answer, refusal([4, 1, 0, 0]));
 }
 
 /// On one line the lowest number speaks (A25, A30), and line goes before number.
 #[test]
 fn the_lowest_number_speaks() {
-    refused(&[(2, &more(2, "\t\"x\"y\n"))], 5, 2, 3);
-    refused(&[(2, &more(2, &format!("{}a\"b\n", ",".repeat(40))))], 6, 2, 3);
-    refused(&[(2, &more(2, &format!("{}\n", ",".repeat(32))))], 7, 2, 3);
-    refused(&[(2, &more(2, &format!("{}\n", ",".repeat(31))))], 10, 2, 3);
-    refused(&[(2, "route_id,route_id\n")], 8, 2, 1);
-    refused(&[(2, "route_id,\"route_id\",route_type\n")], 8, 2, 1);
-    refused(&[(2, "route_id,stop_id,stop_id,,\n")], 9, 2, 1);
-    refused(&[(1, &more(1, "D,,x,2,0,\n"))], 12, 1, 5);
-    refused(&[(1, &more(1, &format!("{},,x,2,0,\n", "i".repeat(65))))], 11, 1, 5);
-    refused(&[(1, &more(1, "D,Dogwood,x,2,0,\n\t\n"))], 13, 1, 5);
+    refused(&[(2, &more(2, "\t\"x\"y\n"))], [5, 2, 3, 0]);
+    refused(&[(2, &more(2, &format!("{}a\"b\n", ",".repeat(40))))], [6, 2, 3, 0]);
+    refused(&[(2, &more(2, &format!("{}\n", ",".repeat(32))))], [7, 2, 3, 0]);
+    refused(&[(2, &more(2, &format!("{}\n", ",".repeat(31))))], [10, 2, 3, 0]);
+    refused(&[(2, "route_id,route_id\n")], [8, 2, 1, 2]);
+    refused(&[(2, "route_id,\"route_id\",route_type\n")], [8, 2, 1, 2]);
+    refused(&[(2, "route_id,stop_id,stop_id,,\n")], [9, 2, 1, 0]);
+    refused(&[(1, &more(1, "D,,x,2,0,\n"))], [12, 1, 5, 2]);
+    refused(&[(1, &more(1, &format!("{},,x,2,0,\n", "i".repeat(65))))], [11, 1, 5, 1]);
+    refused(&[(1, &more(1, "D,Dogwood,x,2,0,\n\t\n"))], [13, 1, 5, 3]);
 }
 
 /// Rule 11: direction_id too (A26), measured by value (A27).
 #[test]
 fn ids_of_64_bytes() {
     let trip = |id: &str| instead(4, "R,W,T,0", &format!("R,W,T,{id}"));
-    refused(&[(4, &trip(&"1".repeat(65)))], 11, 4, 2);
-    refused(&[(4, &trip(&"1".repeat(64)))], 13, 4, 2);
+    refused(&[(4, &trip(&"1".repeat(65)))], [11, 4, 2, 4]);
+    refused(&[(4, &trip(&"1".repeat(64)))], [13, 4, 2, 4]);
     let route = |id: &str| more(2, &format!("{id},3,7,\n"));
     findings(&[(2, &route(&"i".repeat(64)))], &[]);
     findings(&[(2, &route(&format!("\"{}\"", "\"\"".repeat(64))))], &[]);
-    refused(&[(2, &route(&"ä".repeat(33)))], 11, 2, 3);
-    refused(&[(2, &route(&format!("\"{}\"", "\"\"".repeat(65))))], 11, 2, 3);
+    refused(&[(2, &route(&"ä".repeat(33)))], [11, 2, 3, 1]);
+    refused(&[(2, &route(&format!("\"{}\"", "\"\"".repeat(65))))], [11, 2, 3, 1]);
 }
 
 /// Rule 20, by value (A32), and references to the first line (A34).

@@ -3,7 +3,7 @@
 mod common;
 
 use cases::large::tables;
-use common::{check, feed, findings, refused};
+use common::{check, feed, findings, refusal, refused};
 use model::Answer;
 
 const ROUTES: &[u8] = b"route_id,route_type,route_short_name,route_long_name\nR,3,7,Seven\n";
@@ -25,9 +25,9 @@ fn with_name(name: &[u8]) -> Answer {
     with_line(&[b"Q,3,", name, b",\n"].concat())
 }
 
-/// Refused with this number on this line of routes.txt.
+/// Refused with this number, which names no column, on this line of routes.txt.
 fn on(number: usize, line: usize) -> Answer {
-    Answer::Refused { number, file: 2, line }
+    refusal([number, 2, line, 0])
 }
 
 /// Characters at both ends of every row of table 3-7, and their neighbours that another row allows.
@@ -165,10 +165,10 @@ fn a_character_in_two() {
 fn the_mark() {
     let good = "route_id,route_type,route_short_name\nR,3,7\n";
     findings(&[(2, &format!("\u{feff}{good}"))], &[]);
-    refused(&[(2, &format!("\u{feff}\u{feff}{good}"))], 9, 2, 1);
+    refused(&[(2, &format!("\u{feff}\u{feff}{good}"))], [9, 2, 1, 0]);
     findings(&[(2, "\u{feff}\u{feff}note,route_id,route_type,route_short_name\n,R,3,7\n")], &[]);
     findings(&[(2, &format!("{good}\u{feff}Q,3,Al\u{feff}der\n\"\u{feff}\",3,7\n"))], &[]);
-    refused(&[(2, "\u{feff}\n")], 9, 2, 1);
+    refused(&[(2, "\u{feff}\n")], [9, 2, 1, 0]);
     assert_eq!(with(2, b"\xEF\xBB\n"), on(14, 1));
     assert_eq!(with(2, b"\xEF\xBBroute_id,route_type\n"), on(14, 1));
     assert_eq!(with(2, b"\xEF\xBB\xBF\xEF\xBBroute_id,route_type\n"), on(14, 1));
@@ -191,12 +191,12 @@ fn the_whole_line_counts() {
     assert_eq!(with_line(b"Q,3\xC3,7,\n"), on(14, 3));
     // The same bytes, well-formed: unread, or not of their form.
     findings(&[(2, "route_id,route_type,route_short_name,\"nöte\"\nR,3,7,\"駅, 🚏\"\n")], &[]);
-    assert_eq!(with_line("Q,3ä,7,\n".as_bytes()), on(13, 3));
+    assert_eq!(with_line("Q,3ä,7,\n".as_bytes()), refusal([13, 2, 3, 2]));
     // Each file is looked at.
     for file in 1..=6 {
         let bytes = [&feed(&[])[file - 1], &b"\xF0\x9F\x9A\n"[..]].concat();
         let line = bytes.iter().filter(|&&byte| byte == b'\n').count();
-        assert_eq!(with(file, &bytes), Answer::Refused { number: 14, file, line });
+        assert_eq!(with(file, &bytes), refusal([14, file, line, 0]));
     }
 }
 
@@ -234,7 +234,7 @@ fn beside_other_rules() {
 /// A71: lines and files keep their order, and whole files come first.
 #[test]
 fn lines_and_files_keep_their_order() {
-    assert_eq!(with_line(b"Q,99,7,\nS,3,\xFF,\n"), on(13, 3));
+    assert_eq!(with_line(b"Q,99,7,\nS,3,\xFF,\n"), refusal([13, 2, 3, 2]));
     assert_eq!(with_line(b"Q,3,\"7,\nS,3,\xFF,\n"), on(6, 3));
     assert_eq!(with_line(b"Q,3,\xFF,\nS,3,\t,\n"), on(14, 3));
     assert_eq!(with(2, b"route_id\nR\xFF\n"), on(9, 1));
@@ -245,18 +245,18 @@ fn lines_and_files_keep_their_order() {
         files[second.0 - 1] = second.1.to_vec();
         check(&files, &mut tables(&files, 0)).0
     };
-    assert_eq!(two((1, b"\xFF\n"), (2, b"\t\n")), Answer::Refused { number: 14, file: 1, line: 1 });
-    assert_eq!(two((1, b"\t\n"), (2, b"\xFF\n")), Answer::Refused { number: 5, file: 1, line: 1 });
-    assert_eq!(two((1, b"\n"), (2, b"\xFF\n")), Answer::Refused { number: 9, file: 1, line: 1 });
-    assert_eq!(two((1, b"\xFF\n"), (6, b"x")), Answer::Refused { number: 4, file: 6, line: 0 });
-    assert_eq!(two((5, b"\xFF\n"), (1, b"")), Answer::Refused { number: 4, file: 1, line: 0 });
+    assert_eq!(two((1, b"\xFF\n"), (2, b"\t\n")), refusal([14, 1, 1, 0]));
+    assert_eq!(two((1, b"\t\n"), (2, b"\xFF\n")), refusal([5, 1, 1, 0]));
+    assert_eq!(two((1, b"\n"), (2, b"\xFF\n")), refusal([9, 1, 1, 0]));
+    assert_eq!(two((1, b"\xFF\n"), (6, b"x")), refusal([4, 6, 0, 0]));
+    assert_eq!(two((5, b"\xFF\n"), (1, b"")), refusal([4, 1, 0, 0]));
     // A file without its end is refused as a whole, whatever its bytes.
-    assert_eq!(with(2, b"route_id,\xFF\nR,\xFF"), Answer::Refused { number: 4, file: 2, line: 0 });
+    assert_eq!(with(2, b"route_id,\xFF\nR,\xFF"), refusal([4, 2, 0, 0]));
     let mut files = feed(&[]);
     files[1] = b"\xFF\n".to_vec();
     let mut short = tables(&files, 0);
     short[1].pop();
-    assert_eq!(check(&files, &mut short).0, Answer::Refused { number: 3, file: 2, line: 0 });
+    assert_eq!(check(&files, &mut short).0, refusal([3, 2, 0, 0]));
 }
 
 /// A refusal leaves list and tables as lent.
@@ -267,6 +267,6 @@ fn refused_leaves_all_as_lent() {
     let lent = tables(&files, 77);
     let (mut held, mut list) = (lent.clone(), [5; 9]);
     let answer = model::check(&files, &mut held, &mut list, [0, 0, 0]);
-    assert_eq!(answer, Answer::Refused { number: 14, file: 6, line: 4 });
+    assert_eq!(answer, refusal([14, 6, 4, 0]));
     assert_eq!((held, list), (lent, [5; 9]));
 }

@@ -97,7 +97,7 @@ fn every_ill_formed_sequence_is_reached() {
     let mut reached = BTreeMap::new();
     let mut headers = BTreeSet::new();
     for case in (0..SEEDS).filter(|&seed| kind(seed) == Kind::Refused(14)).map(case) {
-        let Answer::Refused { number: 14, file, line } = by_model(&case).answer else { continue };
+        let Answer::Refused { number: 14, file, line, .. } = by_model(&case).answer else { continue };
         let (_, rest) = characters(lines(&case.files[file - 1])[line - 1].text);
         ILL_FORMED.iter().filter(|ill| rest.starts_with(ill)).for_each(|ill| *reached.entry(*ill).or_insert(0) += 1);
         headers.insert(line == 1);

@@ -3,7 +3,7 @@
 mod common;
 
 use cases::large::tables;
-use common::{check, feed, findings, refused};
+use common::{check, feed, findings, refusal, refused};
 use model::Answer;
 
 const CALENDAR: &str = "service_id,monday,tuesday,wednesday,thursday,friday,saturday,sunday,start_date,end_date\n";
@@ -26,11 +26,11 @@ fn dates(lines: &[&str]) -> String {
 fn an_empty_file_is_not_supplied() {
     findings(&[(6, "")], &[]);
     findings(&[(3, "")], &[]);
-    refused(&[(3, ""), (6, "")], 4, 3, 0);
+    refused(&[(3, ""), (6, "")], [4, 3, 0, 0]);
     for file in [1, 2, 4, 5] {
-        refused(&[(file, "")], 4, file, 0);
-        refused(&[(file, ""), (6, "")], 4, file, 0);
-        refused(&[(file, ""), (3, "")], 4, file, 0);
+        refused(&[(file, "")], [4, file, 0, 0]);
+        refused(&[(file, ""), (6, "")], [4, file, 0, 0]);
+        refused(&[(file, ""), (3, "")], [4, file, 0, 0]);
     }
 }
 
@@ -38,15 +38,15 @@ fn an_empty_file_is_not_supplied() {
 #[test]
 fn both_empty_is_file_3_in_its_order() {
     for file in [1, 2] {
-        refused(&[(file, "x"), (3, ""), (6, "")], 4, file, 0);
+        refused(&[(file, "x"), (3, ""), (6, "")], [4, file, 0, 0]);
     }
     for file in [4, 5] {
-        refused(&[(file, "x"), (3, ""), (6, "")], 4, 3, 0);
-        refused(&[(file, "x"), (3, ""), (6, "x")], 4, file, 0);
+        refused(&[(file, "x"), (3, ""), (6, "")], [4, 3, 0, 0]);
+        refused(&[(file, "x"), (3, ""), (6, "x")], [4, file, 0, 0]);
     }
     // Rule 4 over all files speaks before any line is read.
-    refused(&[(1, "a\tb\n"), (6, "x")], 4, 6, 0);
-    refused(&[(1, "a\tb\n"), (3, ""), (6, "")], 4, 3, 0);
+    refused(&[(1, "a\tb\n"), (6, "x")], [4, 6, 0, 0]);
+    refused(&[(1, "a\tb\n"), (3, ""), (6, "")], [4, 3, 0, 0]);
 }
 
 /// A48: a file 6 that has bytes is supplied, with lines or without, and must have its ending.
@@ -58,16 +58,16 @@ fn header_only_is_supplied() {
     findings(&[(3, CALENDAR), (6, DATES)], &[[4, 2, 21]]);
     findings(&[(3, CALENDAR)], &[]);
     for unended in ["x", "service_id,date,exception_type", "service_id,date,exception_type\nW,20240704,2", "\u{feff}"] {
-        refused(&[(6, unended)], 4, 6, 0);
-        refused(&[(3, ""), (6, unended)], 4, 6, 0);
+        refused(&[(6, unended)], [4, 6, 0, 0]);
+        refused(&[(3, ""), (6, unended)], [4, 6, 0, 0]);
     }
     for unended in ["x", &CALENDAR[..CALENDAR.len() - 1], "\u{feff}"] {
-        refused(&[(3, unended)], 4, 3, 0);
-        refused(&[(3, unended), (6, "")], 4, 3, 0);
-        refused(&[(3, unended), (6, "x")], 4, 3, 0);
+        refused(&[(3, unended)], [4, 3, 0, 0]);
+        refused(&[(3, unended), (6, "")], [4, 3, 0, 0]);
+        refused(&[(3, unended), (6, "x")], [4, 3, 0, 0]);
     }
-    refused(&[(3, ""), (6, "\n")], 9, 6, 1);
-    refused(&[(6, "\u{feff}\n")], 9, 6, 1);
+    refused(&[(3, ""), (6, "\n")], [9, 6, 1, 0]);
+    refused(&[(6, "\u{feff}\n")], [9, 6, 1, 0]);
 }
 
 /// A49: the table of a file not supplied stays as lent, whatever its length, record 0 too.
@@ -110,45 +110,45 @@ fn rule_3_by_the_new_widths() {
         let mut short = whole.clone();
         short[file - 1].pop();
         short[5].pop();
-        assert_eq!(check(&files, &mut short).0, Answer::Refused { number: 3, file, line: 0 });
+        assert_eq!(check(&files, &mut short).0, refusal([3, file, 0, 0]));
     }
     // An unended file 6 is measured by its LF bytes, and rule 3 speaks first.
     let files = feed(&[(3, ""), (6, "service_id,date,exception_type\nW")]);
     let mut short = tables(&files, 0);
-    assert_eq!(check(&files, &mut short).0, Answer::Refused { number: 4, file: 6, line: 0 });
+    assert_eq!(check(&files, &mut short).0, refusal([4, 6, 0, 0]));
     short[5].pop();
-    assert_eq!(check(&files, &mut short).0, Answer::Refused { number: 3, file: 6, line: 0 });
+    assert_eq!(check(&files, &mut short).0, refusal([3, 6, 0, 0]));
 }
 
 /// Columns and forms of file 6.
 #[test]
 fn lines_of_file_6() {
-    for (line, rule) in [
-        (",20240704,1", 12),
-        ("\"\",20240704,1", 12),
-        ("W,,1", 12),
-        ("W,20240704,", 12),
-        ("W,20240704,0", 13),
-        ("W,20240704,3", 13),
-        ("W,20240704,01", 13),
-        ("W,20240704, 1", 13),
-        ("W,20230229,1", 13),
-        ("W,2024704,1", 13),
-        ("W,,0", 12),
-        ("W,20240704", 10),
-        ("W,20240704,1,", 10),
-        ("W,20240704,\"1", 6),
-        ("W,20240704,\t", 5),
+    for (line, rule, column) in [
+        (",20240704,1", 12, 1),
+        ("\"\",20240704,1", 12, 1),
+        ("W,,1", 12, 2),
+        ("W,20240704,", 12, 3),
+        ("W,20240704,0", 13, 3),
+        ("W,20240704,3", 13, 3),
+        ("W,20240704,01", 13, 3),
+        ("W,20240704, 1", 13, 3),
+        ("W,20230229,1", 13, 2),
+        ("W,2024704,1", 13, 2),
+        ("W,,0", 12, 2),
+        ("W,20240704", 10, 0),
+        ("W,20240704,1,", 10, 0),
+        ("W,20240704,\"1", 6, 0),
+        ("W,20240704,\t", 5, 0),
     ] {
-        refused(&[(6, &dates(&["Y,20240101,2", line]))], rule, 6, 3);
-        refused(&[(3, ""), (6, &dates(&["Y,20240101,2", line]))], rule, 6, 3);
+        refused(&[(6, &dates(&["Y,20240101,2", line]))], [rule, 6, 3, column]);
+        refused(&[(3, ""), (6, &dates(&["Y,20240101,2", line]))], [rule, 6, 3, column]);
     }
     let long = |length: usize| dates(&[&format!("{},20240704,1", "i".repeat(length))]);
     findings(&[(6, &long(64))], &[]);
-    refused(&[(6, &long(65))], 11, 6, 2);
+    refused(&[(6, &long(65))], [11, 6, 2, 1]);
     findings(&[(6, "exception_type,\"date\",note,service_id\r\n\"1\",\"20240229\",\"a,b\",\" W\"\r\n")], &[]);
-    refused(&[(6, "service_id,date\n")], 9, 6, 1);
-    refused(&[(6, "service_id,date,exception_type,\"date\"\n")], 8, 6, 1);
+    refused(&[(6, "service_id,date\n")], [9, 6, 1, 0]);
+    refused(&[(6, "service_id,date,exception_type,\"date\"\n")], [8, 6, 1, 4]);
 }
 
 /// A51: rule 20 goes by service and date, by value; the type doesn't matter, and file 3 tells nothing.
@@ -226,9 +226,9 @@ fn the_trip_record_is_longer_by_one() {
 #[test]
 fn file_6_comes_last() {
     let bad = dates(&["W,20240704,3"]);
-    refused(&[(5, "trip_id\n"), (6, &bad)], 9, 5, 1);
-    refused(&[(4, "trip_id\n"), (6, "date\n")], 9, 4, 1);
-    refused(&[(3, ""), (5, "trip_id\n"), (6, &bad)], 9, 5, 1);
+    refused(&[(5, "trip_id\n"), (6, &bad)], [9, 5, 1, 0]);
+    refused(&[(4, "trip_id\n"), (6, "date\n")], [9, 4, 1, 0]);
+    refused(&[(3, ""), (5, "trip_id\n"), (6, &bad)], [9, 5, 1, 0]);
     let calls =
         "trip_id,arrival_time,departure_time,stop_id,stop_sequence\nT,8:00:00,8:00:00,A,1\nT,9:00:00,9:00:00,B,1\n";
     let six = dates(&["W,20240704,1", "W,20240704,2"]);

@@ -4,7 +4,7 @@ use cases::{by_model, difference, vectors};
 
 #[test]
 fn the_model_agrees_with_every_vector() {
-    assert_eq!(vectors::E6.lines().next(), Some("# Document 01 with requests E2,E1,E6 in force."));
+    assert_eq!(vectors::E7.lines().next(), Some("# Document 01 with requests E2,E1,E6,E7 in force."));
     let vectors = vectors::customers();
     assert_eq!(vectors.len(), 400);
     for (case, wanted) in &vectors {
@@ -17,14 +17,15 @@ fn the_model_agrees_with_every_vector() {
 /// The reader itself: a case by hand, and files that it must refuse.
 #[test]
 fn the_reader_reads_what_its_form_says() {
-    let text = "# note\ncase a\nfile 1 41\nfile 2 -\nlent 0 3 7 -2\nstart 0 -1 2\nanswer refused 4 1 0\nend\n";
+    let text = "# note\ncase a\nfile 1 41\nfile 2 -\nlent 0 3 7 -2\nstart 0 -1 2\nanswer refused 4 1 0 9\nend\n";
     let (case, outcome) = vectors::read(text).unwrap().remove(0);
     assert_eq!(case.files[0], b"A");
     assert!(case.files[1].is_empty());
     assert_eq!(case.list, [7, 5, 3]);
     assert_eq!(case.start, [0, -1, 2]);
     assert_eq!(outcome.list, [7, 5, 3]);
-    assert_eq!(outcome.answer, model::Answer::Refused { number: 4, file: 1, line: 0 });
+    assert_eq!(outcome.answer, model::Answer::Refused { number: 4, file: 1, line: 0, column: 9 });
+    assert!(vectors::read(&text.replace("4 1 0 9", "4 1 0")).is_err(), "a refusal without its column");
     for bad in ["case a\n", "end\n", "case a\nend\n", "case a\nfile 9 41\nend\n", "case a\nfile 1 4\nend\n"] {
         assert!(vectors::read(bad).is_err(), "{bad}");
     }

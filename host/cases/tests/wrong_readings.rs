@@ -1,5 +1,6 @@
 //! Likely wrong readings of E2: vectors, edge cases and generated feeds each tell every one of them from the right one.
 
+use cases::readings::Missed;
 use cases::{edges, generate, vectors, Case};
 use model::reading::{read, Feed};
 use model::rules::findings;
@@ -118,30 +119,28 @@ fn by(reading: &Reading, feed: &Feed) -> BTreeSet<[i32; 3]> {
 }
 
 /// Fails unless the right reading gives the model's findings on every case, and each wrong one differs on some.
-fn told_apart(name: &str, cases: impl Iterator<Item = Case>) {
-    let mut missed: BTreeSet<&str> = WRONG.iter().map(|(name, _)| *name).collect();
+fn told_apart(cases: impl Iterator<Item = Case>) {
+    let mut missed = Missed::new(RIGHT, &WRONG);
     for case in cases {
         let Ok(feed) = read(&case.files, case.tables.each_ref().map(Vec::len)) else { continue };
         let of_order = |finding: &[i32; 3]| [28, 29, 31].contains(&finding[2]);
         let wanted: BTreeSet<[i32; 3]> = findings(&feed).into_iter().filter(of_order).collect();
-        assert_eq!(by(&RIGHT, &feed), wanted, "{}", case.name);
-        let differs = |name: &&str| WRONG.iter().any(|(own, wrong)| own == name && by(wrong, &feed) != wanted);
-        missed.retain(|name| !differs(name));
+        missed.try_case(&case.name, &wanted, |reading| by(reading, &feed));
     }
-    assert!(missed.is_empty(), "{name} don't tell apart: {missed:?}");
+    missed.are(&[]);
 }
 
 #[test]
 fn by_the_vectors() {
-    told_apart("the vectors", vectors::customers().into_iter().map(|(case, _)| case));
+    told_apart(vectors::customers().into_iter().map(|(case, _)| case));
 }
 
 #[test]
 fn by_the_edge_cases() {
-    told_apart("the edge cases", edges::cases().into_iter());
+    told_apart(edges::cases().into_iter());
 }
 
 #[test]
 fn by_generated_feeds() {
-    told_apart("the generated feeds", (0..SEEDS).map(generate::case));
+    told_apart((0..SEEDS).map(generate::case));
 }

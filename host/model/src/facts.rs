@@ -2,8 +2,7 @@
 
 use crate::columns::{Column, COLUMNS};
 use crate::fields::{fields, line_ends, lines, Field, Line};
-use crate::forms::number;
-use crate::reading::{Feed, Row};
+use crate::reading::{leftmost, twice, Feed, Row};
 use crate::records::{First, KEYS};
 use crate::rules::Finding;
 use crate::trips::{by_trip, first_call, last_call, leaves_after, repeats, Call};
@@ -235,7 +234,7 @@ pub fn of_refusal(files: &Files, number: usize, file: usize, line: usize) -> Fac
         5 => [stray(own), vec![("guess", utf_16(bytes))]].concat(),
         6 => marks(own),
         7 => vec![("fields", count(own_fields().len())), ("limit", count(32))],
-        8 => twice(&header(), columns),
+        8 => repeated_name(&header(), columns),
         9 => {
             let missing = columns.iter().filter(|column| column.present && !header().contains(&column.name.into()));
             vec![("columns", Fact::List(missing.map(|column| text(column.name)).collect()))]
@@ -321,35 +320,21 @@ fn marks(line: Line) -> Facts {
     }
 }
 
-/// Rule 8: the leftmost second standing of a known name.
-fn twice(header: &[Vec<u8>], columns: &[Column]) -> Facts {
-    for (place, name) in header.iter().enumerate() {
-        let known = columns.iter().any(|column| column.name.as_bytes() == name);
-        if known && header[..place].contains(name) {
-            return vec![("column", text(name)), ("field", count(place + 1))];
-        }
-    }
-    panic!("no known name stands twice")
+/// Rule 8: the name and where it stands the second time.
+fn repeated_name(header: &[Vec<u8>], columns: &[Column]) -> Facts {
+    let place = twice(header, columns).expect("a known name that stands twice");
+    vec![("column", text(&header[place - 1])), ("field", count(place))]
 }
 
 /// Rules 11 to 13: the leftmost value that breaks the rule.
 fn bad_value(rule: usize, header: &[Vec<u8>], fields: Vec<Field>, columns: &[Column]) -> Facts {
-    for (place, field) in fields.iter().enumerate() {
-        let Some(column) = columns.iter().find(|column| column.name.as_bytes() == header[place]) else { continue };
-        let value = &field.value;
-        let mut facts = vec![("column", text(column.name)), ("field", count(place + 1))];
-        match rule {
-            11 if column.is_id() && value.len() > 64 => {
-                facts.extend([("value", text(value)), ("bytes", count(value.len())), ("limit", count(64))]);
-                return facts;
-            }
-            12 if column.needed() && value.is_empty() => return facts,
-            13 if number(column.form, value).is_none() => {
-                facts.push(("value", text(value)));
-                return facts;
-            }
-            _ => {}
-        }
+    let place = leftmost(rule, &fields, columns, header).expect("a value that breaks the rule");
+    let value = &fields[place - 1].value;
+    let mut facts = vec![("column", text(&header[place - 1])), ("field", count(place))];
+    match rule {
+        11 => facts.extend([("value", text(value)), ("bytes", count(value.len())), ("limit", count(64))]),
+        12 => {}
+        _ => facts.push(("value", text(value))),
     }
-    panic!("no value breaks rule {rule}")
+    facts
 }

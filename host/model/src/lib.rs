@@ -1,4 +1,4 @@
-//! The whole check of document 01 with requests E2, E1 and E6, written naively from the documents: files in, tables, list and answer out.
+//! The whole check of document 01 with requests E2, E1, E6 and E7, written naively from the documents: files in, tables, list and answer out.
 #![forbid(unsafe_code)]
 
 pub mod characters;
@@ -28,8 +28,8 @@ pub enum Answer {
     Accepted,
     /// How many findings were written to the list, and how many the whole feed has.
     Findings { written: usize, total: usize },
-    /// The rule broken (1 to 14), the file (1 to 6) and the line (0 for a whole file).
-    Refused { number: usize, file: usize, line: usize },
+    /// The rule broken (1 to 14), the file (1 to 6), the line (0 for a whole file) and the column, 0 where the rule names none.
+    Refused { number: usize, file: usize, line: usize, column: usize },
 }
 
 /// One check over six files: refused leaves everything as lent, else list and tables are overwritten.

@@ -61,13 +61,13 @@ pub fn read(files: &Files, room: [usize; FILES]) -> Result<Feed, Answer> {
     for number in 1..=4 {
         for file in 1..=FILES {
             if whole_file_broken(number, files, file, room[file - 1]) {
-                return Err(Answer::Refused { number, file, line: 0 });
+                return Err(Answer::Refused { number, file, line: 0, column: 0 });
             }
         }
     }
     let mut sheets = Vec::new();
     for file in 0..FILES {
-        let refuse = |(number, line)| Answer::Refused { number, file: file + 1, line };
+        let refuse = |(line, Broken { number, column })| Answer::Refused { number, file: file + 1, line, column };
         sheets.push(sheet(&files[file], COLUMNS[file]).map_err(refuse)?);
     }
     Ok(sheets.try_into().expect("six sheets"))
@@ -94,66 +94,98 @@ fn may_be_absent(files: &Files, file: usize) -> bool {
     }
 }
 
-/// Reads one file, or tells the number and the line of its first refusal. One not supplied isn't read.
-fn sheet(file: &[u8], columns: &'static [Column]) -> Result<Sheet, (usize, usize)> {
+/// The rule that a line breaks, and the column, counted from 1; rules that name no column have 0.
+struct Broken {
+    number: usize,
+    column: usize,
+}
+
+/// A rule that names no column.
+fn whole_line(number: usize) -> Broken {
+    Broken { number, column: 0 }
+}
+
+/// Reads one file, or tells the line of its first refusal and what it breaks. One not supplied isn't read.
+fn sheet(file: &[u8], columns: &'static [Column]) -> Result<Sheet, (usize, Broken)> {
     if file.is_empty() {
         return Ok(Sheet { supplied: false, columns, rows: Vec::new() });
     }
     let lines = lines(file);
-    let header = header(lines[0], columns).map_err(|number| (number, 1))?;
+    let header = header(lines[0], columns).map_err(|broken| (1, broken))?;
     let mut rows = Vec::new();
     for (place, &line) in lines.iter().enumerate().skip(1) {
-        rows.push(row(line, columns, &header).map_err(|number| (number, place + 1))?);
+        rows.push(row(line, columns, &header).map_err(|broken| (place + 1, broken))?);
     }
     Ok(Sheet { supplied: true, columns, rows })
 }
 
 /// Rules 5, 14, 6 and 7, which every line has to hold, tested in this order: its fields.
-fn fields_of(line: Line) -> Result<Vec<Field>, usize> {
+fn fields_of(line: Line) -> Result<Vec<Field>, Broken> {
     if line.text.contains(&b'\t') || line.text.contains(&b'\r') {
-        return Err(5);
+        return Err(whole_line(5));
     }
     if !well_formed(line.text) {
-        return Err(14);
+        return Err(whole_line(14));
     }
-    let fields = fields(line).ok_or(6_usize)?;
+    let fields = fields(line).ok_or(whole_line(6))?;
     if fields.len() > 32 {
-        return Err(7);
+        return Err(whole_line(7));
     }
     Ok(fields)
 }
 
 /// Rules 5 to 9 and 14: the names of the header line.
-fn header(line: Line, columns: &[Column]) -> Result<Vec<Vec<u8>>, usize> {
+fn header(line: Line, columns: &[Column]) -> Result<Vec<Vec<u8>>, Broken> {
     let names: Vec<Vec<u8>> = fields_of(line)?.into_iter().map(|field| field.value).collect();
-    let times = |column: &Column| names.iter().filter(|name| *name == column.name.as_bytes()).count();
-    if columns.iter().any(|column| times(column) > 1) {
-        return Err(8);
+    if let Some(column) = twice(&names, columns) {
+        return Err(Broken { number: 8, column });
     }
-    if columns.iter().any(|column| column.present && times(column) == 0) {
-        return Err(9);
+    if columns.iter().any(|column| column.present && standings(&names, column).is_empty()) {
+        return Err(whole_line(9));
     }
     Ok(names)
 }
 
+/// Where the name of a known column stands, counted from 1.
+fn standings(names: &[Vec<u8>], column: &Column) -> Vec<usize> {
+    (1..=names.len()).filter(|&place| names[place - 1] == column.name.as_bytes()).collect()
+}
+
+/// Rule 8: the second standing of a known name, the leftmost if there are several.
+pub fn twice(names: &[Vec<u8>], columns: &[Column]) -> Option<usize> {
+    columns.iter().filter_map(|column| standings(names, column).get(1).copied()).min()
+}
+
 /// Rules 5 to 7 and 10 to 14: the fields of a record line under the known columns.
-fn row(line: Line, columns: &[Column], header: &[Vec<u8>]) -> Result<Vec<Field>, usize> {
+fn row(line: Line, columns: &[Column], header: &[Vec<u8>]) -> Result<Vec<Field>, Broken> {
     let fields = fields_of(line)?;
     if fields.len() != header.len() {
-        return Err(10);
+        return Err(whole_line(10));
+    }
+    for number in 11..=13 {
+        if let Some(column) = leftmost(number, &fields, columns, header) {
+            return Err(Broken { number, column });
+        }
     }
     let under = |column: &Column| header.iter().position(|name| name == column.name.as_bytes());
     let cell = |column| under(column).map(|place| fields[place].clone()).unwrap_or_default();
-    let cells: Vec<Field> = columns.iter().map(cell).collect();
-    let known = || columns.iter().zip(&cells);
-    if known().any(|(column, cell)| column.is_id() && cell.value.len() > 64) {
-        return Err(11);
+    Ok(columns.iter().map(cell).collect())
+}
+
+/// Rules 11 to 13: the leftmost column, counted from 1, whose value breaks this one. Unknown columns break none.
+pub fn leftmost(number: usize, fields: &[Field], columns: &[Column], header: &[Vec<u8>]) -> Option<usize> {
+    let breaks = |place: &usize| {
+        let column = columns.iter().find(|column| column.name.as_bytes() == header[place - 1]);
+        column.is_some_and(|column| value_breaks(number, column, &fields[place - 1].value))
+    };
+    (1..=fields.len()).find(breaks)
+}
+
+/// Does a value under a known column break this one of rules 11 to 13?
+pub fn value_breaks(rule: usize, column: &Column, value: &[u8]) -> bool {
+    match rule {
+        11 => column.is_id() && value.len() > 64,
+        12 => column.needed() && value.is_empty(),
+        _ => number(column.form, value).is_none(),
     }
-    if known().any(|(column, cell)| column.needed() && cell.value.is_empty()) {
-        return Err(12);
-    }
-    if known().any(|(column, cell)| number(column.form, &cell.value).is_none()) {
-        return Err(13);
-    }
-    Ok(cells)
 }

@@ -1,7 +1,7 @@
 //! The header: on which field of a line each known column stands.
 
 use crate::lines::Cut;
-use crate::row::inside;
+use crate::row::{inside, Broken};
 
 /// The most known columns that a file has.
 const MOST: usize = 10;
@@ -20,22 +20,21 @@ pub struct Header {
 
 impl Header {
     /// Reads the header line, already cut, or tells which of rules 8 and 9 it breaks.
-    pub fn read(file: &[u8], line: &Cut, columns: &Columns) -> Result<Self, usize> {
+    pub fn read(file: &[u8], line: &Cut, columns: &Columns) -> Result<Self, Broken> {
         let mut header = Header { places: [None; MOST], count: line.count };
-        let mut twice = false;
         for field in 0..line.count {
             let (start, end) = line.bounds(field);
             let name = inside(&file[start..end]);
             let known = || columns.must.iter().chain(columns.may);
             if let Some(column) = known().position(|known| known.as_bytes() == name) {
-                twice |= header.places[column].replace(field as u8).is_some();
+                // Fields go from left to right, so the first name that has a place already is the leftmost.
+                if header.places[column].replace(field as u8).is_some() {
+                    return Err((8, field + 1));
+                }
             }
         }
-        if twice {
-            return Err(8);
-        }
         if header.places[..columns.must.len()].contains(&None) {
-            return Err(9);
+            return Err((9, 0));
         }
         Ok(header)
     }

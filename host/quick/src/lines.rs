@@ -1,5 +1,7 @@
 //! A line cut into its fields, in one go along its bytes.
 
+use crate::row::Broken;
+
 /// The most fields that rule 7 allows.
 const MOST: usize = 32;
 
@@ -40,9 +42,9 @@ impl Cut {
     }
 
     /// Cuts the line that starts here and tells where the next one starts, or which of rules 5, 14, 6 and 7 it breaks.
-    pub fn cut(&mut self, file: &[u8], from: usize) -> Result<usize, usize> {
+    pub fn cut(&mut self, file: &[u8], from: usize) -> Result<usize, Broken> {
         let next = self.fields(file, from).filter(|&next| next <= self.ill_formed);
-        next.ok_or_else(|| self.rule_broken(file, from))
+        next.ok_or_else(|| (self.rule_broken(file, from), 0))
     }
 
     fn fields(&mut self, file: &[u8], from: usize) -> Option<usize> {

@@ -3,7 +3,7 @@
 use crate::header::Header;
 use crate::lines::{ill_formed, Cut};
 use crate::records::{Call, Record, Route, Service, ServiceDate, Stop, Trip};
-use crate::row::Row;
+use crate::row::{Broken, Row};
 use model::{Answer, Files, FILES};
 
 /// How many numbers a record of each table has.
@@ -40,7 +40,7 @@ pub fn read(files: &Files, rooms: [usize; FILES]) -> Result<Feed<'_>, Answer> {
 /// Rules 1 to 4, each over all files: how many lines each file has.
 fn whole_files(files: &Files, rooms: [usize; FILES]) -> Result<[usize; FILES], Answer> {
     let refuse = |number, broken: Option<usize>| match broken {
-        Some(file) => Err(Answer::Refused { number, file: file + 1, line: 0 }),
+        Some(file) => Err(Answer::Refused { number, file: file + 1, line: 0, column: 0 }),
         None => Ok(()),
     };
     refuse(1, files.iter().position(|file| file.len() > MOST_BYTES))?;
@@ -70,19 +70,19 @@ fn file<'a, R: Record<'a>>(files: &'a Files, lines: [usize; FILES], number: usiz
     let mut records = Vec::with_capacity(lines[number - 1]);
     match fill(&files[number - 1], &mut records) {
         Ok(()) => Ok(records),
-        Err((rule, line)) => Err(Answer::Refused { number: rule, file: number, line }),
+        Err((line, (rule, column))) => Err(Answer::Refused { number: rule, file: number, line, column }),
     }
 }
 
-/// Reads a file's lines into records; the first rule broken comes with its line.
-fn fill<'a, R: Record<'a>>(file: &'a [u8], records: &mut Vec<R>) -> Result<(), (usize, usize)> {
+/// Reads a file's lines into records; the first rule broken comes behind its line.
+fn fill<'a, R: Record<'a>>(file: &'a [u8], records: &mut Vec<R>) -> Result<(), (usize, Broken)> {
     let start = if file.starts_with(b"\xEF\xBB\xBF") { 3 } else { 0 };
     let mut line = Cut::new(ill_formed(file));
-    let on_line_1 = |rule| (rule, 1);
+    let on_line_1 = |broken| (1, broken);
     let mut at = line.cut(file, start).map_err(on_line_1)?;
     let header = Header::read(file, &line, &R::COLUMNS).map_err(on_line_1)?;
     while at < file.len() {
-        let on_this = |rule| (rule, records.len() + 2);
+        let on_this = |broken| (records.len() + 2, broken);
         at = line.cut(file, at).map_err(on_this)?;
         let record = record(file, &line, &header).map_err(on_this)?;
         records.push(record);
@@ -91,9 +91,9 @@ fn fill<'a, R: Record<'a>>(file: &'a [u8], records: &mut Vec<R>) -> Result<(), (
 }
 
 /// Rules 10 to 13 on a line that is cut, and its record.
-fn record<'a, R: Record<'a>>(file: &'a [u8], line: &Cut, header: &Header) -> Result<R, usize> {
+fn record<'a, R: Record<'a>>(file: &'a [u8], line: &Cut, header: &Header) -> Result<R, Broken> {
     if line.count != header.count {
-        return Err(10);
+        return Err((10, 0));
     }
     let mut row = Row { file, header, line, broken: None };
     let record = R::read(&mut row);

@@ -1,7 +1,10 @@
-//! A record line: the values under its known columns, and the lowest of rules 11 to 13 that one of them breaks.
+//! A record line: the values under its known columns, and the lowest of rules 11 to 13 that one of them breaks, with its leftmost column.
 
 use crate::header::Header;
 use crate::lines::Cut;
+
+/// A rule broken and its column, counted from 1; 0 for rules that name none.
+pub type Broken = (usize, usize);
 
 /// The most bytes of an id, by rule 11.
 const ID_BYTES: usize = 64;
@@ -33,13 +36,14 @@ pub struct Row<'c, 'a> {
     pub file: &'a [u8],
     pub header: &'c Header,
     pub line: &'c Cut,
-    /// The lowest rule broken so far.
-    pub broken: Option<usize>,
+    /// The lowest rule broken so far, and the leftmost field that breaks it.
+    pub broken: Option<Broken>,
 }
 
 impl<'a> Row<'_, 'a> {
-    fn breaks(&mut self, rule: usize) {
-        self.broken = Some(self.broken.map_or(rule, |lowest| lowest.min(rule)));
+    fn breaks(&mut self, rule: usize, column: usize) {
+        let broken = (rule, self.header.place(column).map_or(0, |field| field + 1));
+        self.broken = Some(self.broken.map_or(broken, |lowest| lowest.min(broken)));
     }
 
     /// The value under a column, empty where the column is absent.
@@ -59,27 +63,27 @@ impl<'a> Row<'_, 'a> {
 
     /// Rule 11.
     #[inline(always)]
-    fn limited(&mut self, value: &'a [u8]) -> &'a [u8] {
+    fn limited(&mut self, column: usize, value: &'a [u8]) -> &'a [u8] {
         if value.len() > ID_BYTES && length(value) > ID_BYTES {
-            self.breaks(11);
+            self.breaks(11, column);
         }
         value
     }
 
     /// Rule 12.
     #[inline(always)]
-    fn given(&mut self, value: &'a [u8]) -> &'a [u8] {
+    fn given(&mut self, column: usize, value: &'a [u8]) -> &'a [u8] {
         if value.is_empty() {
-            self.breaks(12);
+            self.breaks(12, column);
         }
         value
     }
 
     /// Rule 13.
     #[inline(always)]
-    fn formed(&mut self, number: Option<i32>) -> i32 {
+    fn formed(&mut self, column: usize, number: Option<i32>) -> i32 {
         number.unwrap_or_else(|| {
-            self.breaks(13);
+            self.breaks(13, column);
             0
         })
     }
@@ -87,20 +91,20 @@ impl<'a> Row<'_, 'a> {
     /// A text that is needed.
     #[inline(always)]
     pub fn needed_text(&mut self, column: usize) -> &'a [u8] {
-        self.given(self.text(column))
+        self.given(column, self.text(column))
     }
 
     /// A reference that may be empty.
     #[inline(always)]
     pub fn reference(&mut self, column: usize) -> &'a [u8] {
-        self.limited(self.text(column))
+        self.limited(column, self.text(column))
     }
 
     /// A reference that is needed.
     #[inline(always)]
     pub fn needed_reference(&mut self, column: usize) -> &'a [u8] {
         let value = self.needed_text(column);
-        self.limited(value)
+        self.limited(column, value)
     }
 
     /// The id of the line.
@@ -115,7 +119,7 @@ impl<'a> Row<'_, 'a> {
     #[inline(always)]
     pub fn needed(&mut self, column: usize, form: impl Fn(&[u8]) -> Option<i32>) -> i32 {
         let value = self.needed_text(column);
-        self.formed(form(value))
+        self.formed(column, form(value))
     }
 
     /// The number under a column, or what empty means.
@@ -123,7 +127,7 @@ impl<'a> Row<'_, 'a> {
     pub fn number(&mut self, column: usize, empty: i32, form: impl Fn(&[u8]) -> Option<i32>) -> i32 {
         match self.text(column) {
             b"" => empty,
-            value => self.formed(form(value)),
+            value => self.formed(column, form(value)),
         }
     }
 }

@@ -21,11 +21,16 @@ pub fn check(files: &Files, tables: &mut Tables) -> (Answer, Vec<[i32; 3]>) {
     (answer, list.chunks(3).take(written).map(|found| [found[0], found[1], found[2]]).collect())
 }
 
-/// Fails unless the feed, with tables as long as rule 3 asks for, is refused so.
+/// Refused with this number, file, line and column.
+pub fn refusal([number, file, line, column]: [usize; 4]) -> Answer {
+    Answer::Refused { number, file, line, column }
+}
+
+/// Fails unless the feed, with tables as long as rule 3 asks for, is refused with this number, file, line and column.
 #[track_caller]
-pub fn refused(changes: &[(usize, &str)], number: usize, file: usize, line: usize) {
+pub fn refused(changes: &[(usize, &str)], wanted: [usize; 4]) {
     let files = feed(changes);
-    assert_eq!(check(&files, &mut tables(&files, 0)).0, Answer::Refused { number, file, line });
+    assert_eq!(check(&files, &mut tables(&files, 0)).0, refusal(wanted));
 }
 
 /// Fails unless the feed, with tables as long as rule 3 asks for, has these findings.
