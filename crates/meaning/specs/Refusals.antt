@@ -41,6 +41,7 @@ pub record Claim : Type 0 where
 abbrev pub claimOf : ℕ → ℕ → Test → Claim
 claimOf f n t = record { number = t .number; file = f; line = n; column = t .column; broken = t .broken }
 
+-- the same of a rule that names no column
 abbrev pub claim : ℕ → ℕ → ℕ → Bool → Claim
 claim r f n b = claimOf f n (test r b)
 
