@@ -105,9 +105,10 @@ fn the_refused_example() {
     assert_eq!((status(&output), said(&output)), (2, ""));
     let wanted = "\
 refused
-FEED/stop_times.txt:4: refusal 13: a value doesn't have the form that its column asks for: departure_time is \"8:5:00\", \
+FEED/stop_times.txt:4:3: refusal 13: a value doesn't have the form that its column asks for: departure_time is \"8:5:00\", \
 wanted: a time as 8:05:00 or 08:05:00, hours 0 to 99, minutes and seconds 00 to 59
     B7-out-1,8:25:00,8:5:00,HILL,3,1
+                     ^^^^^^
 `tusuchiy explain 13` says more
 ";
     assert_eq!(out(&output), wanted.replace("FEED", &feed));
@@ -172,8 +173,11 @@ fn json_of_an_accepted_and_of_a_refused_feed() {
     let report = json::read(out(&output));
     assert_eq!((status(&output), report.get("verdict").text()), (2, "refused"));
     let refusal = report.get("refusal");
-    assert_eq!(refusal.names(), ["file", "name", "line", "number", "meaning", "text", "cut", "words", "about"]);
-    assert_eq!(["number", "file", "line"].map(|name| refusal.get(name).number()), [13, 5, 4]);
+    let members =
+        ["file", "name", "line", "column", "column_name", "number", "meaning", "text", "cut", "words", "about"];
+    assert_eq!(refusal.names(), members);
+    assert_eq!(["number", "file", "line", "column"].map(|name| refusal.get(name).number()), [13, 5, 4, 3]);
+    assert_eq!(refusal.get("column_name").text(), "departure_time");
     assert_eq!(refusal.get("text").text(), "B7-out-1,8:25:00,8:5:00,HILL,3,1");
     assert_eq!(report.get("records"), &Json::Null);
 }
@@ -300,16 +304,19 @@ fn a_long_list_is_short_unless_all_is_asked_for() {
 
 #[test]
 fn colours_where_they_are_asked_for() {
-    let feed = example("findings");
-    let coloured = run(&["check", "--color", "always", &feed]);
-    assert!(out(&coloured).starts_with("\u{1b}[1;31mfindings: 5\u{1b}[0m\n"), "{}", out(&coloured));
-    let plain = run(&["check", "--color=never", &feed]);
-    assert_eq!(run(&["check", &feed]).stdout, plain.stdout);
-    let mut bare = String::new();
-    for (place, piece) in out(&coloured).split('\u{1b}').enumerate() {
-        bare += if place == 0 { piece } else { piece.split_once('m').expect("the end of an escape").1 };
+    let feeds = [
+        ("findings", "\u{1b}[1;31mfindings: 5\u{1b}[0m\n"),
+        ("refused", "HILL,3,1\n    \u{1b}[1;31m                 ^^^^^^\u{1b}[0m\n"),
+    ];
+    for (name, painted) in feeds {
+        let coloured = run(&["check", "--color", "always", &example(name)]);
+        assert!(out(&coloured).contains(painted), "{}", out(&coloured));
+        let plain = run(&["check", "--color=never", &example(name)]);
+        assert_eq!(run(&["check", &example(name)]).stdout, plain.stdout);
+        let (first, pieces) = out(&coloured).split_once('\u{1b}').expect("an escape");
+        let bare = pieces.split('\u{1b}').map(|piece| piece.split_once('m').expect("the end of an escape").1);
+        assert_eq!(format!("{first}{}", bare.collect::<String>()), out(&plain), "colours change nothing else");
     }
-    assert_eq!(bare, out(&plain), "colours change nothing else");
 }
 
 /// What the command writes to a terminal, standard output and standard error together.

@@ -63,14 +63,15 @@ fn compare(name: &str, files: &model::Files, report: &Json) -> Vec<(i64, Names)>
             assert_eq!(report.get("verdict").text(), "accepted", "{name}");
             Vec::new()
         }
-        Answer::Refused { number, file, line } => {
+        Answer::Refused { number, file, line, column } => {
             let refusal = report.get("refusal");
-            let numbers = ["number", "file", "line"].map(|member| refusal.get(member).number());
-            assert_eq!(numbers, [number, file, line].map(|number| number as i64), "{name}");
+            let numbers = ["number", "file", "line", "column"].map(|member| refusal.get(member).number());
+            assert_eq!(numbers, [number, file, line, column].map(|number| number as i64), "{name}");
             let mut facts = of_refusal(files, number, file, line);
+            let told = facts.iter().find(|(member, _)| *member == "column").map_or(Json::Null, |(_, fact)| in_json(fact));
+            assert_eq!(refusal.get("column_name"), &told, "{name}, refusal {number}");
             if number == 13 {
-                let Json::Text(column) = refusal.get("about").get("column") else { panic!("{name}: no column") };
-                let known = COLUMNS[file - 1].iter().find(|known| known.name == column).expect("a known column");
+                let known = COLUMNS[file - 1].iter().find(|known| known.name == told.text()).expect("a known column");
                 facts.push(("wanted", Fact::Text(wanted(known.form).into())));
             }
             assert_eq!(refusal.get("about"), &members(&facts), "{name}, refusal {number}");
