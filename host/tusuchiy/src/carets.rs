@@ -193,6 +193,8 @@ mod tests {
 
     #[test]
     fn no_field_no_carets() {
-        assert_eq!([under(b"a,b", 3), under(b"a,b", 0), under(b"\xFF,b", 2), under(b"a,\"b", 1)], [None, None, None, None]);
+        for (line, column) in [(&b"a,b"[..], 3), (b"a,b", 0), (b"\xFF,b", 2), (b"a,\"b", 1)] {
+            assert_eq!(under(line, column), None, "{line:02X?}, column {column}");
+        }
     }
 }

@@ -39,12 +39,8 @@ const STOPS: &[Column] = &[
     may("parent_station", ""),
 ];
 
-const ROUTES: &[Column] = &[
-    must("route_id", ""),
-    must("route_type", ROUTE_TYPE),
-    may("route_short_name", ""),
-    may("route_long_name", ""),
-];
+const ROUTES: &[Column] =
+    &[must("route_id", ""), must("route_type", ROUTE_TYPE), may("route_short_name", ""), may("route_long_name", "")];
 
 const CALENDAR: &[Column] = &[
     must("service_id", ""),

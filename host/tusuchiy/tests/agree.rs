@@ -29,7 +29,8 @@ fn words(answer: &Answer) -> model::Answer {
         Verdict::Findings { written, total } => model::Answer::Findings { written, total },
         Verdict::Refused(fault) => {
             let (number, file, line) = (fault.refusal.number(), fault.file.number(), fault.line as usize);
-            model::Answer::Refused { number, file, line, column: fault.column.map_or(0, |column| column.get() as usize) }
+            let column = fault.column.map_or(0, |column| column.get() as usize);
+            model::Answer::Refused { number, file, line, column }
         }
     }
 }

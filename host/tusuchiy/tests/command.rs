@@ -220,14 +220,29 @@ fn after_alone_goes_to_the_end() {
     assert_eq!(out(&output).lines().last(), Some("page after 2,3,20: 131067 of 131069 findings"));
 }
 
-/// The example in docs/JSON.md is what the command prints.
+/// The examples in docs/JSON.md are what the command prints.
 #[test]
-fn the_documented_example_is_true() {
+fn the_documented_examples_are_true() {
     let page = include_str!("../../../docs/JSON.md");
-    let text = page.split("```json\n").nth(1).and_then(|rest| rest.split("```").next()).expect("an example");
+    let examples: Vec<&str> =
+        page.split("```json\n").skip(1).map(|rest| rest.split("```").next().expect("an end")).collect();
     let mut report = run(&["check", "--json", "--room", "2", &example("findings")]);
     report.stdout = out(&report).replace(&example("findings"), "examples/findings").into();
-    assert_eq!(json::read(out(&report)), json::read(text));
+    assert_eq!(json::read(out(&report)), json::read(examples[0]));
+    assert_eq!(document(&[&example("refused")]).get("refusal"), &json::read(examples[1]));
+    assert_eq!(examples.len(), 2);
+}
+
+/// The example in the README is what the command prints.
+#[test]
+fn the_readmes_example_is_true() {
+    let page = include_str!("../../../README.md");
+    let shown = page.split("    $ ./tusuchiy check examples/refused\n").nth(1).expect("an example");
+    let shown: Vec<&str> = shown.lines().take_while(|line| !line.is_empty()).collect();
+    let output = run(&["check", &example("refused")]);
+    let said = out(&output).replace(&example("refused"), "examples/refused");
+    let wanted: Vec<String> = said.lines().map(|line| format!("    {line}")).collect();
+    assert_eq!(shown, wanted);
 }
 
 #[test]
@@ -389,7 +404,7 @@ fn bad_words_on_the_command_line() {
 fn help_and_version_are_there() {
     let help = run(&["--help"]);
     assert_eq!(status(&help), 0);
-    for word in ["check FEED", "--json", "--after", "--room", "--quiet", "explain", "Exit status"] {
+    for word in ["check FEED", "--json", "--after", "--room", "--quiet", "explain", "Exit status", "FILE:LINE:COLUMN"] {
         assert!(out(&help).contains(word), "{word}");
     }
     for words in [&["-h"][..], &["check", "--help"], &["check", "-h"], &["explain", "--help"], &["help"]] {

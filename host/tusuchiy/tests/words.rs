@@ -68,7 +68,8 @@ fn compare(name: &str, files: &model::Files, report: &Json) -> Vec<(i64, Names)>
             let numbers = ["number", "file", "line", "column"].map(|member| refusal.get(member).number());
             assert_eq!(numbers, [number, file, line, column].map(|number| number as i64), "{name}");
             let mut facts = of_refusal(files, number, file, line);
-            let told = facts.iter().find(|(member, _)| *member == "column").map_or(Json::Null, |(_, fact)| in_json(fact));
+            let told =
+                facts.iter().find(|(member, _)| *member == "column").map_or(Json::Null, |(_, fact)| in_json(fact));
             assert_eq!(refusal.get("column_name"), &told, "{name}, refusal {number}");
             if number == 13 {
                 let known = COLUMNS[file - 1].iter().find(|known| known.name == told.text()).expect("a known column");

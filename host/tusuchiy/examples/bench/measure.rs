@@ -42,7 +42,8 @@ fn words(answer: &tusuchiy::Answer) -> Answer {
         Verdict::Findings { written, total } => Answer::Findings { written, total },
         Verdict::Refused(fault) => {
             let (number, file, line) = (fault.refusal.number(), fault.file.number(), fault.line as usize);
-            Answer::Refused { number, file, line, column: fault.column.map_or(0, |column| column.get() as usize) }
+            let column = fault.column.map_or(0, |column| column.get() as usize);
+            Answer::Refused { number, file, line, column }
         }
     }
 }
