@@ -5,7 +5,8 @@ use crate::safe;
 use std::ops::Range;
 use unicode_width::UnicodeWidthChar;
 
-/// How wide a line with carets is at most: with four blanks before it it fits a row of 80, so no caret is under another row.
+/// How wide a line with carets is at most. With the four blanks before it it fits a row of 80 columns: were it broken into
+/// two rows, the carets would stand under the wrong one.
 const WIDE: usize = 76;
 
 /// What stands where a line is cut, before and after.
@@ -35,8 +36,8 @@ fn marked(line: &str, field: Range<usize>) -> Marked {
     text += &inside;
     text += &piece(field.end.min(shown.end)..shown.end);
     text += if shown.end < line.len() { CUTS[1] } else { "" };
-    let reordered = text.chars().any(goes_left);
-    Marked { text, carets: (!reordered).then_some(carets) }
+    let sure = !text.chars().any(|char| goes_left(char) || colours_skin(char));
+    Marked { text, carets: sure.then_some(carets) }
 }
 
 /// The part of a line that is shown: all of it where it fits, else what fits of the field, and as much on either side of it.
@@ -83,6 +84,11 @@ fn wide(text: &str) -> usize {
 /// some terminals show a line that has them in another order, so that nobody knows what stands above a caret.
 fn goes_left(char: char) -> bool {
     matches!(char as u32, 0x590..=0x8FF | 0xFB1D..=0xFDFF | 0xFE70..=0xFEFF | 0x10800..=0x10FFF | 0x1E800..=0x1EFFF)
+}
+
+/// Emoji modifiers: some terminals show one with the emoji before it, in two columns, others behind it, in four.
+fn colours_skin(char: char) -> bool {
+    ('\u{1F3FB}'..='\u{1F3FF}').contains(&char)
 }
 
 #[cfg(test)]
@@ -142,10 +148,11 @@ mod tests {
         }
     }
 
-    /// Scripts that go from right to left may be shown in another order: the line is there, and no carets.
+    /// Scripts that go from right to left may be shown in another order, skin colours on an emoji or behind it: the line is
+    /// there, and no carets.
     #[test]
-    fn no_carets_where_the_order_may_change() {
-        for name in ["שלום", "مرحبا", "ܫܠܡܐ", "ߒߞߏ", "١٢", "ﷲ", "ﻼ", "𐤀", "𞤀"] {
+    fn no_carets_where_terminals_differ() {
+        for name in ["שלום", "مرحبا", "ܫܠܡܐ", "ߒߞߏ", "١٢", "ﷲ", "ﻼ", "𐤀", "𞤀", "👍🏻", "👍🏿"] {
             let line = format!("A,{name},1.5,x");
             for column in [1, 2, 4] {
                 let marked = under(line.as_bytes(), column).expect("a field");
