@@ -5,9 +5,9 @@ use crate::safe;
 use std::ops::Range;
 use unicode_width::UnicodeWidthChar;
 
-/// How wide a line with carets is at most. With the four blanks before it it fits a row of 80 columns: were it broken into
-/// two rows, the carets would stand under the wrong one.
-const WIDE: usize = 76;
+/// How wide a line with carets is at most: with four blanks before it, and a caret behind it, it fits a row of 80 columns.
+/// Were it broken into two rows, the carets would stand under the wrong one.
+const WIDE: usize = 75;
 
 /// What stands where a line is cut, before and after.
 const CUTS: [&str; 2] = ["... ", " ..."];
@@ -101,9 +101,16 @@ mod tests {
         [marked.text, marked.carets.expect("carets")]
     }
 
+    /// Fails where a line with a column marked isn't shown so.
+    fn assert_shown(cases: &[(&str, usize, &str, &str)]) {
+        for (line, column, text, carets) in cases {
+            assert_eq!(shown(line, *column), [*text, *carets], "{line}, column {column}");
+        }
+    }
+
     #[test]
     fn carets_under_a_field() {
-        let cases = [
+        assert_shown(&[
             ("A,Alder,1.5,2", 1, "A,Alder,1.5,2", "^"),
             ("A,Alder,1.5,2", 2, "A,Alder,1.5,2", "  ^^^^^"),
             ("A,Alder,1.5,2", 4, "A,Alder,1.5,2", "            ^"),
@@ -116,16 +123,13 @@ mod tests {
             ("A,,1.5,2", 2, "A,,1.5,2", "  ^"),
             ("A,", 2, "A,", "  ^"),
             ("", 1, "", "^"),
-        ];
-        for (line, column, text, carets) in cases {
-            assert_eq!(shown(line, column), [text, carets], "{line}, column {column}");
-        }
+        ]);
     }
 
     /// Wide characters take two columns, marks on letters none, and what is escaped as many as its escape has letters.
     #[test]
     fn carets_are_counted_over_what_is_shown() {
-        let cases = [
+        assert_shown(&[
             ("東京,x", 2, "東京,x", "     ^"),
             ("A,東京,x", 2, "A,東京,x", "  ^^^^"),
             ("ソウル,서울,x", 2, "ソウル,서울,x", "       ^^^^"),
@@ -142,17 +146,14 @@ mod tests {
             ("A\u{a0},x", 2, "A\\u{00A0},x", "          ^"),
             ("👩\u{200d}🚀,x", 2, "👩\\u{200D}🚀,x", "             ^"),
             ("☀\u{fe0f},x", 2, "☀\\u{FE0F},x", "          ^"),
-        ];
-        for (line, column, text, carets) in cases {
-            assert_eq!(shown(line, column), [text, carets], "{line}, column {column}");
-        }
+        ]);
     }
 
     /// Scripts that go from right to left may be shown in another order, skin colours on an emoji or behind it: the line is
     /// there, and no carets.
     #[test]
     fn no_carets_where_terminals_differ() {
-        for name in ["שלום", "مرحبا", "ܫܠܡܐ", "ߒߞߏ", "١٢", "ﷲ", "ﻼ", "𐤀", "𞤀", "👍🏻", "👍🏿"] {
+        for name in ["שלום", "مرحبا", "ߒߞߏ", "١٢", "ﷲ", "ﻼ", "𐤀", "𞤀", "👍🏻", "👍🏿"] {
             let line = format!("A,{name},1.5,x");
             for column in [1, 2, 4] {
                 let marked = under(line.as_bytes(), column).expect("a field");
@@ -169,33 +170,58 @@ mod tests {
     #[test]
     fn the_field_is_seen_however_long_the_line() {
         let x = |count: usize| "x".repeat(count);
-        let line = format!("{},b,{}", x(40), x(33));
+        let line = format!("{},b,{}", x(40), x(32));
         assert_eq!(shown(&line, 2), [line.clone(), format!("{}^", " ".repeat(41))]);
-        // One letter more: 67 columns are left beside the field, 33 of them for what is behind it.
-        let line = format!("{},b,{}", x(40), x(34));
-        let text = format!("... {},b,{} ...", x(33), x(32));
-        assert_eq!(shown(&line, 2), [text, format!("{}^", " ".repeat(38))]);
+        // One letter more: 67 columns are left beside the marks of a cut, 33 of them on either side of the field.
+        let line = format!("{},b,{}", x(40), x(33));
+        let text = format!("... {},b,{} ...", x(32), x(32));
+        assert_eq!(shown(&line, 2), [text, format!("{}^", " ".repeat(37))]);
         let line = format!("b,{}", x(500));
-        assert_eq!(shown(&line, 1), [format!("b,{} ...", x(66)), "^".to_string()]);
+        assert_eq!(shown(&line, 1), [format!("b,{} ...", x(65)), "^".to_string()]);
         let line = format!("{},", x(500));
-        assert_eq!(shown(&line, 2), [format!("... {},", x(67)), format!("{}^", " ".repeat(72))]);
+        assert_eq!(shown(&line, 2), [format!("... {},", x(66)), format!("{}^", " ".repeat(71))]);
         // A field that is wider itself is marked as far as it is shown.
         let line = format!("{},{},c", x(500), "y".repeat(500));
-        assert_eq!(shown(&line, 2), [format!("... {} ...", "y".repeat(68)), format!("    {}", "^".repeat(68))]);
+        assert_eq!(shown(&line, 2), [format!("... {} ...", "y".repeat(67)), format!("    {}", "^".repeat(67))]);
     }
 
-    /// Nothing that is shown is wider than the row, and a character that takes two columns isn't cut in two.
+    /// A character that takes two columns isn't cut in two, nor is an escape.
     #[test]
     fn a_wide_line_is_cut_between_characters() {
         let line = format!("{},b,{}", "東".repeat(300), "\u{1b}".repeat(300));
         let text = format!("... {},b,{} ...", "東".repeat(16), "\\x1B".repeat(8));
         assert_eq!(shown(&line, 2), [text, format!("{}^", " ".repeat(37))]);
         let line = format!("a,{}", "東".repeat(39));
-        assert_eq!(shown(&line, 2), [format!("... {} ...", "東".repeat(34)), format!("    {}", "^".repeat(68))]);
+        assert_eq!(shown(&line, 2), [format!("... {} ...", "東".repeat(33)), format!("    {}", "^".repeat(66))]);
         // Marks that take no room are no reason to show a line of any length.
         let line = format!("e{},b", "\u{301}".repeat(1000));
         let [text, carets] = shown(&line, 2);
         assert_eq!((text.len(), &carets[..]), (4 + 199 * 2 + 1 + 1, "     ^"));
+    }
+
+    /// The characters that begin above the carets.
+    fn above(text: &str, carets: &str) -> String {
+        let row = carets.len() - carets.trim_start().len()..carets.len();
+        let begins = |(place, _): &(usize, char)| row.contains(&wide(&text[..*place]));
+        text.char_indices().filter(begins).map(|(_, char)| char).collect()
+    }
+
+    /// Whatever stands around a field, text and carets fit the row, and above the carets is the field or its beginning.
+    #[test]
+    fn any_line_fits_the_row() {
+        let runs =
+            |counts: [usize; 4]| ["x", "東", "\u{1b}", "e\u{301}"].map(|part| counts.map(|count| part.repeat(count)));
+        let [around, fields] = [runs([0, 3, 40, 200]), runs([1, 8, 34, 200])].map(|runs| runs.concat());
+        let pairs = around.iter().flat_map(|before| around.iter().map(move |after| (before, after)));
+        for (before, field, after) in
+            pairs.flat_map(|(before, after)| fields.iter().map(move |field| (before, field, after)))
+        {
+            let [text, carets] = shown(&format!("{before},{field},{after}"), 2);
+            assert!(wide(&text) <= 75 && carets.len() <= 76, "{text}\n{carets}");
+            let above = above(&text, &carets);
+            assert!(safe::text(field.as_bytes()).starts_with(&above), "{text}\n{carets}");
+            assert_eq!(wide(&above), carets.trim_start().len(), "{text}\n{carets}");
+        }
     }
 
     #[test]

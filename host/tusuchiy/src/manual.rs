@@ -101,7 +101,7 @@ const EXAMPLES: [(&str, &str); 5] = [
 
 const TITLE: &str = "checks the six files of GTFS feeds";
 const MANY: &str = "With several feeds there is one verdict a line, and the exit status is the highest of theirs.";
-const PLACE: &str = "A place is FILE:LINE, and FILE:LINE:COLUMN where one field of the line is refused, counted from 1.";
+const PLACE: &str = "A place is FILE:LINE, or FILE:LINE:COLUMN where one field is refused; columns count from 1.";
 
 impl Flag {
     /// The option as it is typed: `-q, --quiet` or `--room N`.

@@ -60,8 +60,8 @@ fn carets_stand_under_the_field() {
 #[test]
 fn a_field_far_behind() {
     let note = "n".repeat(1000);
-    let shown = format!("    ... {},Alder,1.5,x", "n".repeat(56));
-    let carets = format!("    {}^", " ".repeat(4 + 56 + 11));
+    let shown = format!("    ... {},Alder,1.5,x", "n".repeat(55));
+    let carets = format!("    {}^", " ".repeat(4 + 55 + 11));
     assert_printed(&format!("A,{note},Alder,1.5,x"), ":2:5", &[&shown, &carets]);
     let report = document(&[with_stops(format!("{STOPS}A,{note},Alder,1.5,x\n")).path()]);
     let refusal = report.get("refusal");
