@@ -123,6 +123,30 @@ fn the_facts_are_the_models() {
     }
 }
 
+/// Each known column alone, first in its file: a header without it, and a line whose value there is empty or malformed.
+#[test]
+fn every_column_has_its_words() {
+    let known = COLUMNS.iter().enumerate().flat_map(|(file, known)| known.iter().map(move |column| (file, column)));
+    for (file, column) in known {
+        let others: Vec<&str> =
+            COLUMNS[file].iter().map(|other| other.name).filter(|name| *name != column.name).collect();
+        let refused = |lines: String| {
+            let mut files = example_files("feed");
+            files[file] = lines.into_bytes();
+            let report = document_of(common::NAMES[file], &files[file]);
+            compare(column.name, &files, &report);
+            let refusal = report.get("refusal");
+            (refusal != &Json::Null).then(|| ["number", "column"].map(|member| refusal.get(member).number()))
+        };
+        let with = |value: &str| {
+            refused(format!("{},{}\n{value}{}\n", column.name, others.join(","), ",1".repeat(others.len())))
+        };
+        assert_eq!(refused(format!("{}\n", others.join(","))) == Some([9, 0]), column.present, "{}", column.name);
+        assert_eq!(with("") == Some([12, 1]), column.needed(), "{}", column.name);
+        assert_eq!(with("?") == Some([13, 1]), !wanted(column.form).is_empty(), "{}", column.name);
+    }
+}
+
 /// The members of `about` that docs/JSON.md has for a refusal or a rule: names between back marks, but no values.
 fn documented(number: i64) -> Names {
     let page = include_str!("../../../docs/JSON.md");
