@@ -43,13 +43,13 @@ class Case:
         same(f"{self.name}: statuses", len({run.returncode for run in self.runs.values()}), 1)
         self.json = json.loads(said["json"])
         self.findings = self.json["findings"] or [self.json["refusal"]] * (self.json["refusal"] is not None)
-        # The lines as the command shows them: each stands below its place.
+        # The lines as the command shows them: each stands directly below its place, which may end in a column.
         self.texts, place = {f"{found['name']}:{found['line']}": found["text"] for found in self.findings}, None
         for line in said.get("text", "").splitlines():
-            if line.startswith(self.feed + "/"):
-                place = line[len(self.feed) + 1:].split(": ", 1)[0]
-            elif line.startswith("    "):
+            if place and line.startswith("    "):
                 self.texts[place] = line[4:]
+            at = line[len(self.feed) + 1:].split(": ", 1)[0] if line.startswith(self.feed + "/") else ""
+            place = ":".join(at.split(":")[:2])
         return self
 
 
@@ -73,7 +73,8 @@ def compare_cards(browser, case, wanted):
     same(f"{case.name}: how many are shown", len(cards), len(wanted))
     for card, found in zip(cards, wanted):
         line = f", line {found['line']:,}" if found["line"] else ""
-        same(f"{case.name}: place", card["where"], found["name"] + line)
+        column = f", column {found['column']} ({found['column_name']})" if found.get("column") else ""
+        same(f"{case.name}: place", card["where"], found["name"] + line + column)
         kind = "Rule" if "rule" in found else "Refusal"
         same(f"{case.name}: rule", card["rule"], f"{kind} {number(found)}: {found['meaning']}")
         same(f"{case.name}: words", card["words"], found["words"])
@@ -93,6 +94,8 @@ def compare_marks(case, card, found):
     columns = {20: 1, 21: 1, 22: 1, 23: 1, 24: 2, 26: 2, 27: 2, 28: 1, 29: 1, 30: 1, 31: 1, 5: 1, 6: 1, 8: 1, 11: 1, 12: 1, 13: 1, 14: 1}
     holds(f"{case.name}: marks of {card}", len(card["marks"]) >= columns.get(number(found), 0))
     about = found["about"]
+    if found.get("column"):
+        same(f"{case.name}: what the mark is called", [title for title, _ in card["marks"]], [f"column {found['column']}"])
     # What can't be printed is shown as an escape.
     if number(found) in (20, 11, 13) and about["value"].isprintable():
         same(f"{case.name}: mark", unquoted(card["marks"][0][1]), about["value"])
@@ -387,6 +390,7 @@ def main():
             for case in cases.values():
                 every_page(browser, case.wait())
                 looks(browser, case)
+            same("hostile_refused: the column", cases["hostile_refused"].json["refusal"]["column"], 3)
             same("hostile_bytes: the refusal", number(cases["hostile_bytes"].json["refusal"]), 14)
             browser.open(cases["town"].page)
             filters(browser, cases["town"], "entrance")

@@ -108,7 +108,7 @@ static int report(const struct lent *files) {
     int32_t list[12], after[3] = {0, 0, 0};
     tusuchiy_answer answer = check(files, list, 12, after);
     if (answer.verdict == TUSUCHIY_REFUSED) {
-        printf("refused %d %s %d\n", answer.number, KNOWN[answer.file - 1].name, answer.line);
+        printf("refused %d %s %d %d\n", answer.number, KNOWN[answer.file - 1].name, answer.line, answer.column);
         return answer.verdict;
     }
     printf("%s %d\n", answer.verdict == TUSUCHIY_ACCEPTED ? "accepted" : "findings", answer.total);

@@ -10,8 +10,8 @@ extern "C" {
 #endif
 
 /* The version of the check, as a text and as a number: 10000 for each major, 100 for each minor step. */
-#define TUSUCHIY_VERSION "0.4.0"
-#define TUSUCHIY_VERSION_NUMBER 400
+#define TUSUCHIY_VERSION "0.5.0"
+#define TUSUCHIY_VERSION_NUMBER 500
 
 /* The six files have numbers: in `file` of an answer and of a finding. */
 enum {
@@ -45,7 +45,7 @@ enum {
 enum {
     TUSUCHIY_ACCEPTED = 0, /* the files can be read, and no binding rule is broken */
     TUSUCHIY_FINDINGS = 1, /* the files can be read, and `total` findings exist */
-    TUSUCHIY_REFUSED = 2   /* the files can't be read: see number, file, line */
+    TUSUCHIY_REFUSED = 2   /* the files can't be read: see number, file, line, column */
 };
 
 /* Values of `number`: why a file can't be read. docs/RULES.md says more of each, tusuchiy_meanings.h a few words.
@@ -86,7 +86,9 @@ enum {
 typedef struct {
     int32_t verdict;            /* 0 accepted, 1 findings, 2 refused */
     int32_t number, file, line; /* of a refusal (1 to 14; 1 to 6; 0 for a whole file), else 0 */
-    int32_t column;             /* always 0 for now */
+    int32_t column;             /* of refusals 8, 11, 12 and 13, else 0: the place in the line, from 1, of the leftmost
+                                   field that breaks the rule, for 8 of the leftmost known name that stands a second
+                                   time; fields that nobody reads count too */
     int32_t written, total;     /* of the findings, else 0: how many this call wrote, how many the feed has */
 } tusuchiy_answer;
 

@@ -5,6 +5,7 @@ use crate::{try_check, Answer, Verdict, MOST_LINES, WIDTHS};
 use std::collections::TryReserveError;
 use std::fmt::{self, Display, Formatter};
 use std::io;
+use std::num::NonZeroU32;
 
 /// How many findings a page of the iterator has: most feeds need one call.
 const PAGE: usize = 65_536;
@@ -200,6 +201,29 @@ impl Fault {
     /// A fault from the numbers of an answer.
     pub(crate) fn of(answer: &Answer) -> Option<Self> {
         let [number, file] = [answer.number, answer.file].map(|number| usize::try_from(number).ok());
-        Some(Fault { file: File::new(file?)?, line: answer.line.try_into().ok()?, refusal: Refusal::new(number?)? })
+        let [line, column] = [answer.line, answer.column].map(|number| u32::try_from(number).ok());
+        Some(Fault {
+            file: File::new(file?)?,
+            line: line?,
+            column: NonZeroU32::new(column?),
+            refusal: Refusal::new(number?)?,
+        })
+    }
+}
+
+#[cfg(test)]
+mod tests {
+    use super::*;
+
+    #[test]
+    fn faults_from_their_numbers() {
+        let answer = Answer { verdict: 2, number: 13, file: 5, line: 4, column: 3, written: 0, total: 0 };
+        let refusal = Refusal::new(13).expect("a refusal");
+        let fault = Fault { file: File::StopTimes, line: 4, column: NonZeroU32::new(3), refusal };
+        assert_eq!(Fault::of(&answer), Some(fault));
+        assert_eq!(Fault::of(&Answer { column: 0, ..answer }), Some(Fault { column: None, ..fault }));
+        for unknown in [Answer { column: -1, ..answer }, Answer { line: -1, ..answer }, Answer { file: 7, ..answer }] {
+            assert_eq!(Fault::of(&unknown), None, "{unknown:?}");
+        }
     }
 }

@@ -1,4 +1,4 @@
-//! The known columns of each file: which must be there, the form that their values have, and a good value.
+//! The known columns of each file: which must be there, and the form that their values have.
 
 use tusuchiy::FILES;
 
@@ -9,16 +9,14 @@ pub struct Column {
     pub must: bool,
     /// The form of its values, in words; empty where any text is good.
     pub form: &'static str,
-    /// A value that no rule refuses.
-    pub good: &'static str,
 }
 
-const fn must(name: &'static str, form: &'static str, good: &'static str) -> Column {
-    Column { name, must: true, form, good }
+const fn must(name: &'static str, form: &'static str) -> Column {
+    Column { name, must: true, form }
 }
 
 const fn may(name: &'static str, form: &'static str) -> Column {
-    Column { name, must: false, form, good: "" }
+    Column { name, must: false, form }
 }
 
 const LATITUDE: &str = "degrees from -90 to 90, as -33.8675: up to 3 digits, a point, up to 20 digits";
@@ -33,56 +31,52 @@ const TO_3: &str = "0, 1, 2 or 3";
 const ADDED_OR_REMOVED: &str = "1 (added) or 2 (removed)";
 
 const STOPS: &[Column] = &[
-    must("stop_id", "", "A"),
-    must("stop_name", "", "A"),
-    must("stop_lat", LATITUDE, "1"),
-    must("stop_lon", LONGITUDE, "1"),
+    must("stop_id", ""),
+    must("stop_name", ""),
+    must("stop_lat", LATITUDE),
+    must("stop_lon", LONGITUDE),
     may("location_type", TO_2),
     may("parent_station", ""),
 ];
 
-const ROUTES: &[Column] = &[
-    must("route_id", "", "A"),
-    must("route_type", ROUTE_TYPE, "3"),
-    may("route_short_name", ""),
-    may("route_long_name", ""),
-];
+const ROUTES: &[Column] =
+    &[must("route_id", ""), must("route_type", ROUTE_TYPE), may("route_short_name", ""), may("route_long_name", "")];
 
 const CALENDAR: &[Column] = &[
-    must("service_id", "", "A"),
-    must("monday", TO_1, "1"),
-    must("tuesday", TO_1, "1"),
-    must("wednesday", TO_1, "1"),
-    must("thursday", TO_1, "1"),
-    must("friday", TO_1, "1"),
-    must("saturday", TO_1, "1"),
-    must("sunday", TO_1, "1"),
-    must("start_date", DATE, "20240101"),
-    must("end_date", DATE, "20240101"),
+    must("service_id", ""),
+    must("monday", TO_1),
+    must("tuesday", TO_1),
+    must("wednesday", TO_1),
+    must("thursday", TO_1),
+    must("friday", TO_1),
+    must("saturday", TO_1),
+    must("sunday", TO_1),
+    must("start_date", DATE),
+    must("end_date", DATE),
 ];
 
 const TRIPS: &[Column] = &[
-    must("route_id", "", "A"),
-    must("service_id", "", "A"),
-    must("trip_id", "", "A"),
+    must("route_id", ""),
+    must("service_id", ""),
+    must("trip_id", ""),
     may("direction_id", TO_1),
     may("wheelchair_accessible", TO_2),
     may("bikes_allowed", TO_2),
 ];
 
 const STOP_TIMES: &[Column] = &[
-    must("trip_id", "", "A"),
-    must("arrival_time", TIME, ""),
-    must("departure_time", TIME, ""),
-    must("stop_id", "", "A"),
-    must("stop_sequence", SEQUENCE, "1"),
+    must("trip_id", ""),
+    must("arrival_time", TIME),
+    must("departure_time", TIME),
+    must("stop_id", ""),
+    must("stop_sequence", SEQUENCE),
     may("pickup_type", TO_3),
     may("drop_off_type", TO_3),
     may("timepoint", TO_1),
 ];
 
 const CALENDAR_DATES: &[Column] =
-    &[must("service_id", "", "A"), must("date", DATE, "20240101"), must("exception_type", ADDED_OR_REMOVED, "1")];
+    &[must("service_id", ""), must("date", DATE), must("exception_type", ADDED_OR_REMOVED)];
 
 /// The known columns of files 1 to 6.
 pub const COLUMNS: [&[Column]; FILES] = [STOPS, ROUTES, CALENDAR, TRIPS, STOP_TIMES, CALENDAR_DATES];

@@ -45,6 +45,11 @@ pub fn split(line: &[u8]) -> Result<Vec<Range<usize>>, (Wrong, usize)> {
     Ok(fields)
 }
 
+/// Where the field under a column stands in a line, if there is one; columns count from 1.
+pub fn field(line: &[u8], column: usize) -> Option<Range<usize>> {
+    split(line).ok()?.into_iter().nth(column.checked_sub(1)?)
+}
+
 /// The value of a field: outer marks taken off, a doubled mark inside means one.
 pub fn value(raw: &[u8]) -> Cow<'_, [u8]> {
     let Some(inside) = raw.strip_prefix(b"\"").and_then(|rest| rest.strip_suffix(b"\"")) else {
@@ -80,5 +85,12 @@ mod tests {
         assert_eq!(split(b"x,a\"b"), Err((Wrong::MarkInBareField, 3)));
         assert_eq!(split(b"\"a\"b"), Err((Wrong::TextAfterClosingMark, 3)));
         assert_eq!(split(b"x,\"a"), Err((Wrong::NotClosed, 2)));
+    }
+
+    #[test]
+    fn fields_by_their_columns() {
+        let line = b"a,\"b,c\",,d";
+        assert_eq!([1, 2, 3, 4].map(|column| field(line, column)), [Some(0..1), Some(2..7), Some(8..8), Some(9..10)]);
+        assert_eq!([field(line, 0), field(line, 5), field(b"a,b\"", 1)], [None, None, None]);
     }
 }

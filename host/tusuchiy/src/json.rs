@@ -7,7 +7,7 @@ use crate::paging::{Finding, Outcome, Page, Report};
 use crate::refusals;
 use crate::safe;
 use crate::text::totals;
-use crate::value::Value;
+use crate::value::{Members, Value};
 use std::io::{self, Write};
 use std::os::unix::ffi::OsStrExt;
 
@@ -37,32 +37,38 @@ pub fn write(out: &mut dyn Write, feed: &Feed, report: &Report) -> io::Result<()
 }
 
 fn refusal(feed: &Feed, report: &Report) -> Value {
-    match report.outcome {
-        Outcome::Refused { number, file, line } => {
-            place(feed, file, line, ("number", number), refusals::about(feed, number, file, line))
-        }
-        _ => Value::Null,
-    }
+    let Outcome::Refused(refusal) = &report.outcome else { return Value::Null };
+    let name = refusals::column_name(feed, refusal).map_or(Value::Null, Value::text);
+    let column = vec![("column", Value::size(refusal.column.unwrap_or(0))), ("column_name", name)];
+    let number = ("number", refusal.number);
+    place(feed, (refusal.file, refusal.line), column, number, refusals::about(feed, refusal))
 }
 
 fn found(feed: &Feed, facts: &Facts, finding: &Finding) -> Value {
-    place(feed, finding.file, finding.line, ("rule", finding.rule), facts.about(finding))
+    place(feed, (finding.file, finding.line), Vec::new(), ("rule", finding.rule), facts.about(finding))
 }
 
-/// A place in the feed with the rule broken there; `text` is null where there is no line.
-fn place(feed: &Feed, file: usize, line: usize, (word, number): (&'static str, usize), about: About) -> Value {
+/// A place in the feed, with its column where it may have one, and the rule broken there; `text` is null where there is no line.
+fn place(
+    feed: &Feed,
+    (file, line): (usize, usize),
+    column: Members,
+    (word, number): (&'static str, usize),
+    about: About,
+) -> Value {
     let shown = feed.line(file, line).map(|text| safe::beginning(text, safe::SHOWN_LINE));
-    Value::Members(vec![
-        ("file", Value::size(file)),
-        ("name", Value::text(NAMES[file - 1])),
-        ("line", Value::size(line)),
+    let mut members: Members =
+        vec![("file", Value::size(file)), ("name", Value::text(NAMES[file - 1])), ("line", Value::size(line))];
+    members.extend(column);
+    members.extend([
         (word, Value::size(number)),
         ("meaning", Value::text(meaning(number))),
         ("text", shown.map_or(Value::Null, |(text, _)| Value::text(text))),
         ("cut", Value::Bool(shown.is_some_and(|(_, cut)| cut))),
         ("words", Value::text(about.words)),
         ("about", Value::Members(about.members)),
-    ])
+    ]);
+    Value::Members(members)
 }
 
 fn page(page: &Page) -> Value {

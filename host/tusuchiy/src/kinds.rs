@@ -2,6 +2,7 @@
 
 use crate::explain;
 use std::fmt::{self, Display, Formatter};
+use std::num::NonZeroU32;
 
 /// How many files there are.
 pub const FILES: usize = 6;
@@ -149,13 +150,19 @@ pub struct Fault {
     pub file: File,
     /// The header is line 1; 0 is the whole file.
     pub line: u32,
+    /// The field of the line that is refused, counted from 1, unread ones too: refusals 8, 11, 12 and 13 have one.
+    pub column: Option<NonZeroU32>,
     pub refusal: Refusal,
 }
 
 impl Display for Fault {
     fn fmt(&self, out: &mut Formatter) -> fmt::Result {
-        let line = if self.line == 0 { String::new() } else { format!(":{}", self.line) };
-        write!(out, "{}{line}: {}", self.file, self.refusal)
+        write!(out, "{}", self.file)?;
+        let line = (self.line > 0).then_some(self.line);
+        for number in line.into_iter().chain(self.column.map(NonZeroU32::get)) {
+            write!(out, ":{number}")?;
+        }
+        write!(out, ": {}", self.refusal)
     }
 }
 
@@ -179,8 +186,12 @@ mod tests {
     fn in_words() {
         let finding = Finding { file: File::Trips, line: 3, rule: Rule(21) };
         assert_eq!(finding.to_string(), "trips.txt:3: rule 21: a reference names no line");
-        let fault = Fault { file: File::Stops, line: 0, refusal: Refusal(2) };
+        let fault = Fault { file: File::Stops, line: 0, column: None, refusal: Refusal(2) };
         assert_eq!(fault.to_string(), "stops.txt: refusal 2: the file has more than 65,536 lines");
+        let fault = Fault { file: File::Trips, line: 7, column: None, refusal: Refusal(6) };
+        assert_eq!(fault.to_string(), "trips.txt:7: refusal 6: quotation marks are misplaced");
+        let fault = Fault { file: File::Trips, line: 7, column: NonZeroU32::new(3), refusal: Refusal(12) };
+        assert_eq!(fault.to_string(), "trips.txt:7:3: refusal 12: a value that is needed is empty");
         assert!(Rule(21).explanation().contains("**How to mend it.**"));
     }
 }

@@ -2,6 +2,7 @@
 #![deny(unsafe_code)]
 
 mod arguments;
+mod carets;
 mod columns;
 mod encoding;
 mod facts;

@@ -101,6 +101,7 @@ const EXAMPLES: [(&str, &str); 5] = [
 
 const TITLE: &str = "checks the six files of GTFS feeds";
 const MANY: &str = "With several feeds there is one verdict a line, and the exit status is the highest of theirs.";
+const PLACE: &str = "A place is FILE:LINE, or FILE:LINE:COLUMN where one field is refused; columns count from 1.";
 
 impl Flag {
     /// The option as it is typed: `-q, --quiet` or `--room N`.
@@ -127,7 +128,7 @@ pub fn help() -> String {
     FLAGS.iter().for_each(|flag| page += &entry(&format!("  tusuchiy {}", flag.typed()), flag.help));
     page += "\nExit status:\n";
     STATUSES.iter().for_each(|(status, words)| page += &format!("  {status}  {words}\n"));
-    page += &format!("{MANY}\n\nExamples:\n");
+    page += &format!("{MANY}\n{PLACE}\n\nExamples:\n");
     EXAMPLES.iter().for_each(|(line, words)| page += &format!("  {line}\n      {words}\n"));
     page
 }
@@ -170,7 +171,7 @@ pub fn man() -> String {
         }),
     );
     page += ".SH DESCRIPTION\nThe check is proved: a feed is accepted exactly when no rule is broken.\n";
-    page += &format!("{}\n", roff(MANY));
+    page += &format!("{}\n{}\n", roff(MANY), roff(PLACE));
     let item = |flag: &Flag| format!(".TP\n.B {}\n{}\n", roff(&flag.typed()), roff(flag.help));
     page.extend(VERBS.iter().map(|verb| {
         let heading = format!("\"{} {}\"", verb.name.to_uppercase(), roff(verb.operand));

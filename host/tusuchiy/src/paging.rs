@@ -2,7 +2,7 @@
 
 use crate::feed::{Feed, FILES, MOST_LINES};
 use crate::progress::Progress;
-use tusuchiy::{Check, Place, Verdict};
+use tusuchiy::{Check, Fault, Place, Verdict};
 
 /// How many findings one call may hand out when all are wanted.
 const PAGE_ROOM: usize = 65_536;
@@ -28,12 +28,28 @@ pub struct Finding {
     pub rule: usize,
 }
 
+/// A refusal: its number, file, line (0 is the whole file), and the column from 1 where it has one.
+#[derive(Clone, Copy, Debug, PartialEq, Eq)]
+pub struct Refusal {
+    pub number: usize,
+    pub file: usize,
+    pub line: usize,
+    pub column: Option<usize>,
+}
+
+impl From<Fault> for Refusal {
+    fn from(fault: Fault) -> Self {
+        let (number, file, line) = (fault.refusal.number(), fault.file.number(), fault.line as usize);
+        Refusal { number, file, line, column: fault.column.map(|column| column.get() as usize) }
+    }
+}
+
 /// What the check answered.
 #[derive(Debug, PartialEq, Eq)]
 pub enum Outcome {
     Accepted,
     Findings { list: Vec<Finding>, total: usize },
-    Refused { number: usize, file: usize, line: usize },
+    Refused(Refusal),
 }
 
 /// What is to be printed; `page` is there where one was asked for. A refusal leaves the tables all zero.
@@ -74,9 +90,7 @@ fn check_by(feed: &Feed, page: Option<Page>, room: usize, progress: &Progress) -
     }
     let outcome = match verdict {
         Verdict::Accepted => Outcome::Accepted,
-        Verdict::Refused(fault) => {
-            Outcome::Refused { number: fault.refusal.number(), file: fault.file.number(), line: fault.line as usize }
-        }
+        Verdict::Refused(fault) => Outcome::Refused(fault.into()),
         Verdict::Findings { total, .. } if page.is_none() && total != list.len() => {
             return Err(format!("the check handed out {} findings and counts {total}", list.len()));
         }
@@ -135,7 +149,7 @@ mod tests {
         assert_eq!([6, 7].map(|room| more(findings(9), 6, room)), [Some(3), None]);
         assert_eq!(more(findings(6), 0, 0), None);
         let (file, refusal) = (tusuchiy::File::Stops, tusuchiy::Refusal::new(4).expect("a refusal"));
-        let refused = Verdict::Refused(tusuchiy::Fault { file, line: 0, refusal });
+        let refused = Verdict::Refused(Fault { file, line: 0, column: None, refusal });
         assert_eq!([Verdict::Accepted, refused].map(|verdict| more(verdict, 0, 6)), [None; 2]);
     }
 

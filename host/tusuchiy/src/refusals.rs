@@ -1,19 +1,21 @@
-//! What a refusal is about. The check names file and line; where it refused a value, it is asked about each column again.
+//! What a refusal is about, from the place that the check names: file, line and column.
 
 use crate::columns::{Column, COLUMNS};
 use crate::encoding::{guess, guess_by_mark, ill_formed, windows_1252, Guess};
 use crate::facts::{names, shown, shown_value, About};
-use crate::feed::{Feed, FILES, MOST_BYTES, MOST_LINES};
-use crate::fields::{split, value, Wrong};
+use crate::feed::{Feed, MOST_BYTES, MOST_LINES};
+use crate::fields::{field, split, value, Wrong};
+use crate::paging::Refusal;
 use crate::value::{Members, Value};
-use tusuchiy::{Check, File, Verdict};
+use tusuchiy::File;
 
 /// The most fields that rule 7 allows a line, and the most bytes that rule 11 allows an id.
 const MOST_FIELDS: usize = 32;
 const MOST_ID_BYTES: usize = 64;
 
 /// What a refusal is about.
-pub fn about(feed: &Feed, number: usize, file: usize, line: usize) -> About {
+pub fn about(feed: &Feed, refusal: &Refusal) -> About {
+    let Refusal { number, file, line, .. } = *refusal;
     let text = feed.line(file, line).unwrap_or(&[]);
     let bytes = feed.slices()[file - 1];
     match number {
@@ -23,10 +25,9 @@ pub fn about(feed: &Feed, number: usize, file: usize, line: usize) -> About {
         5 => guessed(stray(text), guess_by_mark(bytes)),
         6 => marks(text),
         7 => counted(format!("it has {} fields", field_count(text)), "fields", field_count(text), MOST_FIELDS),
-        8 => twice(feed, file),
         9 => missing(feed, file),
         10 => counts(field_count(text), names(feed, file).len()),
-        11..=13 => bad_value(feed, number, file, text).unwrap_or_default(),
+        8 | 11..=13 => in_column(feed, refusal, text).unwrap_or_default(),
         14 => bad_byte(bytes, text).unwrap_or_default(),
         _ => About::default(),
     }
@@ -115,18 +116,6 @@ fn field_count(text: &[u8]) -> usize {
     split(text).map_or(0, |fields| fields.len())
 }
 
-/// The leftmost second standing of a known name.
-fn twice(feed: &Feed, file: usize) -> About {
-    let names = names(feed, file);
-    let known = |name: &[u8]| COLUMNS[file - 1].iter().any(|column| column.name.as_bytes() == name);
-    let again = (0..names.len()).find(|&place| known(&names[place]) && names[..place].contains(&names[place]));
-    let Some(place) = again else { return About::default() };
-    About {
-        words: format!("{} is field {} again", String::from_utf8_lossy(&names[place]), place + 1),
-        members: vec![("column", Value::text(&names[place])), ("field", Value::size(place + 1))],
-    }
-}
-
 fn missing(feed: &Feed, file: usize) -> About {
     let names = names(feed, file);
     let there = |column: &Column| names.iter().any(|name| name == column.name.as_bytes());
@@ -145,72 +134,30 @@ fn counts(fields: usize, header: usize) -> About {
     }
 }
 
-/// The leftmost value of the line that breaks rule 11, 12 or 13.
-fn bad_value(feed: &Feed, number: usize, file: usize, text: &[u8]) -> Option<About> {
-    let names = names(feed, file);
-    for (place, field) in split(text).ok()?.into_iter().enumerate() {
-        let known = COLUMNS[file - 1]
-            .iter()
-            .find(|column| Some(column.name.as_bytes()) == names.get(place).map(|name| &name[..]));
-        let Some(column) = known else { continue };
-        if refused(file, column, &text[field.clone()]) == Some(number) {
-            return Some(about_value(number, column, place + 1, &value(&text[field])));
-        }
-    }
-    None
-}
-
-fn about_value(number: usize, column: &Column, field: usize, value: &[u8]) -> About {
-    let mut members: Members = vec![("column", Value::text(column.name)), ("field", Value::size(field))];
-    let words = match number {
+/// What is wrong under the column that the check names: a known one, since rules 8 and 11 to 13 look at no other.
+fn in_column(feed: &Feed, refusal: &Refusal, text: &[u8]) -> Option<About> {
+    let (place, name) = (refusal.column?, column_name(feed, refusal)?);
+    let column = COLUMNS[refusal.file - 1].iter().find(|column| column.name.as_bytes() == name)?;
+    let mut members: Members = vec![("column", Value::text(column.name)), ("field", Value::size(place))];
+    let value = value(&text[field(text, place)?]);
+    let words = match refusal.number {
+        8 => format!("{} is field {place} again", column.name),
         11 => {
             let (bytes, limit) = (("bytes", Value::size(value.len())), ("limit", Value::size(MOST_ID_BYTES)));
-            members.extend([shown_value(value), bytes, limit]);
-            format!("{} {} has {} bytes", column.name, shown(value), value.len())
+            members.extend([shown_value(&value), bytes, limit]);
+            format!("{} {} has {} bytes", column.name, shown(&value), value.len())
         }
         12 => format!("{} is empty", column.name),
         _ => {
-            members.extend([shown_value(value), ("wanted", Value::text(column.form))]);
-            format!("{} is {}, wanted: {}", column.name, shown(value), column.form)
+            members.extend([shown_value(&value), ("wanted", Value::text(column.form))]);
+            format!("{} is {}, wanted: {}", column.name, shown(&value), column.form)
         }
     };
-    About { words, members }
+    Some(About { words, members })
 }
 
-/// What the check says of a value alone: it stands in a feed of one good line a file, in the place of a good one.
-fn refused(file: usize, column: &Column, raw: &[u8]) -> Option<usize> {
-    let good = |other: usize| one_line(other, |name| (other == file && name == column.name).then_some(raw));
-    let files: [Vec<u8>; FILES] = std::array::from_fn(|place| good(place + 1));
-    match Check::new(files.each_ref().map(|file| &file[..])).ok()?.verdict().ok()? {
-        Verdict::Refused(fault) if (fault.file.number(), fault.line) == (file, 2) => Some(fault.refusal.number()),
-        _ => None,
-    }
-}
-
-/// A file with all its columns and one line of good values, but for one that is given.
-fn one_line<'a>(file: usize, given: impl Fn(&str) -> Option<&'a [u8]>) -> Vec<u8> {
-    let columns = COLUMNS[file - 1];
-    let names: Vec<&[u8]> = columns.iter().map(|column| column.name.as_bytes()).collect();
-    let values = columns.iter().map(|column| given(column.name).unwrap_or(column.good.as_bytes()));
-    let values: Vec<&[u8]> = values.collect();
-    [names.join(&b","[..]), values.join(&b","[..]), Vec::new()].join(&b'\n')
-}
-
-#[cfg(test)]
-mod tests {
-    use super::*;
-
-    /// The good values are good: with one of them in its place, no value is refused.
-    #[test]
-    fn good_values_are_good() {
-        for file in 1..=FILES {
-            for column in COLUMNS[file - 1] {
-                assert_eq!(refused(file, column, column.good.as_bytes()), None, "{}", column.name);
-                let needed = column.must && !column.name.ends_with("_time");
-                assert_eq!(refused(file, column, b""), needed.then_some(12), "{}", column.name);
-                let formed = !column.form.is_empty();
-                assert_eq!(refused(file, column, b"?"), formed.then_some(13), "{}", column.name);
-            }
-        }
-    }
+/// The name that the header has for the column of a refusal.
+pub fn column_name(feed: &Feed, refusal: &Refusal) -> Option<Vec<u8>> {
+    let place = refusal.column?.checked_sub(1)?;
+    names(feed, refusal.file).into_iter().nth(place)
 }

@@ -1,9 +1,10 @@
 //! The report as text: the verdict, then the findings of each rule with their lines, the first few or all.
 
+use crate::carets;
 use crate::explain::meaning;
 use crate::facts::{About, Facts};
 use crate::feed::{Feed, NAMES};
-use crate::paging::{Finding, Outcome, Page, Report};
+use crate::paging::{Finding, Outcome, Page, Refusal, Report};
 use crate::refusals;
 use crate::safe;
 use crate::style::Style;
@@ -32,10 +33,10 @@ pub fn write(out: &mut dyn Write, feed: &Feed, report: &Report, layout: &Layout)
     }
     match &report.outcome {
         Outcome::Accepted => write_read(out, feed, layout),
-        Outcome::Refused { number, file, line } => {
-            writeln!(out, "{}", refused(feed, *number, *file, *line, style))?;
-            write_line(out, feed, *file, *line)?;
-            write_hint(out, *number)
+        Outcome::Refused(refusal) => {
+            writeln!(out, "{}", refused(feed, refusal, style))?;
+            write_marked(out, feed, refusal, style)?;
+            write_hint(out, refusal.number)
         }
         Outcome::Findings { list, total } => {
             let facts = Facts::new(feed, &report.tables);
@@ -59,13 +60,14 @@ pub fn verdict(report: &Report, style: Style) -> String {
 /// The verdict of one of many feeds: one line, with the place and the words of a refusal.
 pub fn verdict_line(feed: &Feed, report: &Report, style: Style) -> String {
     let path = safe::text(feed.place.path.as_os_str().as_bytes());
-    let more = match report.outcome {
-        Outcome::Refused { number, file, line } => {
-            let place = if line == 0 { String::new() } else { format!(":{line}") };
-            let About { words, .. } = refusals::about(feed, number, file, line);
+    let more = match &report.outcome {
+        Outcome::Refused(refusal) => {
+            let Refusal { number, file, line, column } = *refusal;
+            let About { words, .. } = refusals::about(feed, refusal);
             format!(
-                ": {}{place}: refusal {number}: {}",
+                ": {}{}: refusal {number}: {}",
                 NAMES[file - 1],
+                numbers(line, column),
                 if words.is_empty() { meaning(number) } else { &words }
             )
         }
@@ -93,17 +95,23 @@ fn write_read(out: &mut dyn Write, feed: &Feed, layout: &Layout) -> io::Result<(
 }
 
 /// Place, number, meaning and words of a refusal.
-fn refused(feed: &Feed, number: usize, file: usize, line: usize, style: Style) -> String {
-    let place = place(feed, file, line, style);
-    let About { words, .. } = refusals::about(feed, number, file, line);
+fn refused(feed: &Feed, refusal: &Refusal, style: Style) -> String {
+    let Refusal { number, file, line, column } = *refusal;
+    let place = place(feed, file, &numbers(line, column), style);
+    let About { words, .. } = refusals::about(feed, refusal);
     let words = if words.is_empty() { words } else { format!(": {words}") };
     format!("{place}: refusal {number}: {}{words}", meaning(number))
 }
 
-/// The path of a file and the line, as editors take it.
-fn place(feed: &Feed, file: usize, line: usize, style: Style) -> String {
-    let line = if line == 0 { String::new() } else { format!(":{line}") };
-    style.path(&format!("{}{line}", feed.place.of(NAMES[file - 1])))
+/// The path of a file with line and column behind it.
+fn place(feed: &Feed, file: usize, numbers: &str, style: Style) -> String {
+    style.path(&format!("{}{numbers}", feed.place.of(NAMES[file - 1])))
+}
+
+/// A line, unless it is the whole file, and a column where there is one, as editors take them.
+fn numbers(line: usize, column: Option<usize>) -> String {
+    let line = Some(line).filter(|line| *line > 0);
+    line.into_iter().chain(column).map(|number| format!(":{number}")).collect()
 }
 
 /// The text of a line, if there is one.
@@ -112,6 +120,16 @@ fn write_line(out: &mut dyn Write, feed: &Feed, file: usize, line: usize) -> io:
     let (shown, cut) = safe::beginning(bytes, safe::SHOWN_LINE);
     let more = if cut { format!(" ... ({} bytes)", bytes.len()) } else { String::new() };
     writeln!(out, "    {}{more}", safe::text(shown))
+}
+
+/// The line of a refusal, with carets under the column that is refused.
+fn write_marked(out: &mut dyn Write, feed: &Feed, refusal: &Refusal, style: Style) -> io::Result<()> {
+    let Refusal { file, line, column, .. } = *refusal;
+    let Some(marked) = column.and_then(|column| carets::under(feed.line(file, line)?, column)) else {
+        return write_line(out, feed, file, line);
+    };
+    writeln!(out, "    {}", marked.text)?;
+    marked.carets.map_or(Ok(()), |carets| writeln!(out, "    {}", style.bad(&carets)))
 }
 
 fn write_hint(out: &mut dyn Write, number: usize) -> io::Result<()> {
@@ -160,7 +178,7 @@ fn write_findings<'a>(
     words: impl Fn(&Finding) -> String,
 ) -> io::Result<()> {
     for finding in findings {
-        writeln!(out, "{}: {}", place(feed, finding.file, finding.line, style), words(finding))?;
+        writeln!(out, "{}: {}", place(feed, finding.file, &numbers(finding.line, None), style), words(finding))?;
         write_line(out, feed, finding.file, finding.line)?;
     }
     Ok(())

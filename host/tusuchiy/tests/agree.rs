@@ -15,8 +15,9 @@ fn numbers(answer: model::Answer) -> Answer {
         model::Answer::Findings { written, total } => {
             Answer { verdict: 1, written: written as i32, total: total as i32, ..zero }
         }
-        model::Answer::Refused { number, file, line } => {
-            Answer { verdict: 2, number: number as i32, file: file as i32, line: line as i32, ..zero }
+        model::Answer::Refused { number, file, line, column } => {
+            let [number, file, line, column] = [number, file, line, column].map(|number| number as i32);
+            Answer { verdict: 2, number, file, line, column, ..zero }
         }
     }
 }
@@ -27,8 +28,9 @@ fn words(answer: &Answer) -> model::Answer {
         Verdict::Accepted => model::Answer::Accepted,
         Verdict::Findings { written, total } => model::Answer::Findings { written, total },
         Verdict::Refused(fault) => {
-            let (number, file) = (fault.refusal.number(), fault.file.number());
-            model::Answer::Refused { number, file, line: fault.line as usize }
+            let (number, file, line) = (fault.refusal.number(), fault.file.number(), fault.line as usize);
+            let column = fault.column.map_or(0, |column| column.get() as usize);
+            model::Answer::Refused { number, file, line, column }
         }
     }
 }
@@ -150,7 +152,7 @@ fn rule_2_at_its_edge_and_over_it() {
         compare(&at, &wanted);
         let over = of(65_537);
         let wanted = Outcome {
-            answer: model::Answer::Refused { number: 2, file, line: 0 },
+            answer: model::Answer::Refused { number: 2, file, line: 0, column: 0 },
             tables: over.tables.clone(),
             list: over.list.clone(),
         };
@@ -190,7 +192,7 @@ fn rule_1_at_its_edge_and_over_it() {
         let over = case_of_bytes(file, 16_777_217);
         assert_eq!(over.files[file].len(), 16_777_217);
         let wanted = Outcome {
-            answer: model::Answer::Refused { number: 1, file: file + 1, line: 0 },
+            answer: model::Answer::Refused { number: 1, file: file + 1, line: 0, column: 0 },
             tables: over.tables.clone(),
             list: over.list.clone(),
         };
@@ -205,7 +207,7 @@ fn the_limits_speak_in_their_order() {
     case.files[0] = vec![b'\n'; 65_537];
     case.files[4] = vec![b'x'; 16_777_217];
     let refused = |case: &Case, number, file| {
-        let answer = model::Answer::Refused { number, file, line: 0 };
+        let answer = model::Answer::Refused { number, file, line: 0, column: 0 };
         let wanted = Outcome { answer, tables: case.tables.clone(), list: case.list.clone() };
         compare(case, &wanted);
     };

@@ -105,9 +105,10 @@ fn the_refused_example() {
     assert_eq!((status(&output), said(&output)), (2, ""));
     let wanted = "\
 refused
-FEED/stop_times.txt:4: refusal 13: a value doesn't have the form that its column asks for: departure_time is \"8:5:00\", \
+FEED/stop_times.txt:4:3: refusal 13: a value doesn't have the form that its column asks for: departure_time is \"8:5:00\", \
 wanted: a time as 8:05:00 or 08:05:00, hours 0 to 99, minutes and seconds 00 to 59
     B7-out-1,8:25:00,8:5:00,HILL,3,1
+                     ^^^^^^
 `tusuchiy explain 13` says more
 ";
     assert_eq!(out(&output), wanted.replace("FEED", &feed));
@@ -172,8 +173,11 @@ fn json_of_an_accepted_and_of_a_refused_feed() {
     let report = json::read(out(&output));
     assert_eq!((status(&output), report.get("verdict").text()), (2, "refused"));
     let refusal = report.get("refusal");
-    assert_eq!(refusal.names(), ["file", "name", "line", "number", "meaning", "text", "cut", "words", "about"]);
-    assert_eq!(["number", "file", "line"].map(|name| refusal.get(name).number()), [13, 5, 4]);
+    let members =
+        ["file", "name", "line", "column", "column_name", "number", "meaning", "text", "cut", "words", "about"];
+    assert_eq!(refusal.names(), members);
+    assert_eq!(["number", "file", "line", "column"].map(|name| refusal.get(name).number()), [13, 5, 4, 3]);
+    assert_eq!(refusal.get("column_name").text(), "departure_time");
     assert_eq!(refusal.get("text").text(), "B7-out-1,8:25:00,8:5:00,HILL,3,1");
     assert_eq!(report.get("records"), &Json::Null);
 }
@@ -216,14 +220,29 @@ fn after_alone_goes_to_the_end() {
     assert_eq!(out(&output).lines().last(), Some("page after 2,3,20: 131067 of 131069 findings"));
 }
 
-/// The example in docs/JSON.md is what the command prints.
+/// The examples in docs/JSON.md are what the command prints.
 #[test]
-fn the_documented_example_is_true() {
+fn the_documented_examples_are_true() {
     let page = include_str!("../../../docs/JSON.md");
-    let text = page.split("```json\n").nth(1).and_then(|rest| rest.split("```").next()).expect("an example");
+    let examples: Vec<&str> =
+        page.split("```json\n").skip(1).map(|rest| rest.split("```").next().expect("an end")).collect();
     let mut report = run(&["check", "--json", "--room", "2", &example("findings")]);
     report.stdout = out(&report).replace(&example("findings"), "examples/findings").into();
-    assert_eq!(json::read(out(&report)), json::read(text));
+    assert_eq!(json::read(out(&report)), json::read(examples[0]));
+    assert_eq!(document(&[&example("refused")]).get("refusal"), &json::read(examples[1]));
+    assert_eq!(examples.len(), 2);
+}
+
+/// The example in the README is what the command prints.
+#[test]
+fn the_readmes_example_is_true() {
+    let page = include_str!("../../../README.md");
+    let shown = page.split("    $ ./tusuchiy check examples/refused\n").nth(1).expect("an example");
+    let shown: Vec<&str> = shown.lines().take_while(|line| !line.is_empty()).collect();
+    let output = run(&["check", &example("refused")]);
+    let said = out(&output).replace(&example("refused"), "examples/refused");
+    let wanted: Vec<String> = said.lines().map(|line| format!("    {line}")).collect();
+    assert_eq!(shown, wanted);
 }
 
 #[test]
@@ -300,16 +319,19 @@ fn a_long_list_is_short_unless_all_is_asked_for() {
 
 #[test]
 fn colours_where_they_are_asked_for() {
-    let feed = example("findings");
-    let coloured = run(&["check", "--color", "always", &feed]);
-    assert!(out(&coloured).starts_with("\u{1b}[1;31mfindings: 5\u{1b}[0m\n"), "{}", out(&coloured));
-    let plain = run(&["check", "--color=never", &feed]);
-    assert_eq!(run(&["check", &feed]).stdout, plain.stdout);
-    let mut bare = String::new();
-    for (place, piece) in out(&coloured).split('\u{1b}').enumerate() {
-        bare += if place == 0 { piece } else { piece.split_once('m').expect("the end of an escape").1 };
+    let feeds = [
+        ("findings", "\u{1b}[1;31mfindings: 5\u{1b}[0m\n"),
+        ("refused", "HILL,3,1\n    \u{1b}[1;31m                 ^^^^^^\u{1b}[0m\n"),
+    ];
+    for (name, painted) in feeds {
+        let coloured = run(&["check", "--color", "always", &example(name)]);
+        assert!(out(&coloured).contains(painted), "{}", out(&coloured));
+        let plain = run(&["check", "--color=never", &example(name)]);
+        assert_eq!(run(&["check", &example(name)]).stdout, plain.stdout);
+        let (first, pieces) = out(&coloured).split_once('\u{1b}').expect("an escape");
+        let bare = pieces.split('\u{1b}').map(|piece| piece.split_once('m').expect("the end of an escape").1);
+        assert_eq!(format!("{first}{}", bare.collect::<String>()), out(&plain), "colours change nothing else");
     }
-    assert_eq!(bare, out(&plain), "colours change nothing else");
 }
 
 /// What the command writes to a terminal, standard output and standard error together.
@@ -382,7 +404,7 @@ fn bad_words_on_the_command_line() {
 fn help_and_version_are_there() {
     let help = run(&["--help"]);
     assert_eq!(status(&help), 0);
-    for word in ["check FEED", "--json", "--after", "--room", "--quiet", "explain", "Exit status"] {
+    for word in ["check FEED", "--json", "--after", "--room", "--quiet", "explain", "Exit status", "FILE:LINE:COLUMN"] {
         assert!(out(&help).contains(word), "{word}");
     }
     for words in [&["-h"][..], &["check", "--help"], &["check", "-h"], &["explain", "--help"], &["help"]] {
@@ -390,7 +412,7 @@ fn help_and_version_are_there() {
     }
     for words in [&["--version"][..], &["-V"], &["check", "--version"]] {
         let output = run(words);
-        assert_eq!((status(&output), out(&output)), (0, "tusuchiy 0.4.0\n"), "{words:?}");
+        assert_eq!((status(&output), out(&output)), (0, "tusuchiy 0.5.0\n"), "{words:?}");
     }
 }
 

@@ -3,6 +3,7 @@
 mod common;
 
 use common::example_files;
+use std::num::NonZeroU32;
 use tusuchiy::{table_sizes, Check, Fault, File, Finding, Place, Refusal, Rule, Verdict};
 
 fn slices(files: &[Vec<u8>; 6]) -> [&[u8]; 6] {
@@ -49,9 +50,9 @@ fn a_feed_that_is_refused_has_a_fault_and_no_findings() {
     let files = example_files("refused");
     let mut check = Check::new(slices(&files)).expect("memory");
     let refusal = Refusal::new(13).expect("a refusal");
-    let fault = Fault { file: File::StopTimes, line: 4, refusal };
+    let fault = Fault { file: File::StopTimes, line: 4, column: NonZeroU32::new(3), refusal };
     assert_eq!(check.verdict().expect("an answer"), Verdict::Refused(fault));
-    assert_eq!(fault.to_string(), format!("stop_times.txt:4: refusal 13: {}", refusal.meaning()));
+    assert_eq!(fault.to_string(), format!("stop_times.txt:4:3: refusal 13: {}", refusal.meaning()));
     assert!(check.findings().next().is_none());
     assert!(check.tables().iter().flatten().all(|&number| number == 0), "a refusal writes nothing");
 }
@@ -108,7 +109,7 @@ fn one_file_of_services_is_needed() {
     let mut files = example_files("feed");
     files[2].clear();
     let refusal = Refusal::new(4).expect("a refusal");
-    let fault = Fault { file: File::Calendar, line: 0, refusal };
+    let fault = Fault { file: File::Calendar, line: 0, column: None, refusal };
     let mut check = Check::new(slices(&files)).expect("memory");
     assert_eq!(check.verdict().expect("an answer"), Verdict::Refused(fault));
 }

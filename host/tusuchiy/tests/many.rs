@@ -13,7 +13,7 @@ fn four() -> [String; 4] {
     ["findings", "nowhere", "refused", "feed"].map(example)
 }
 
-const REFUSED: &str = "refused: stop_times.txt:4: refusal 13: departure_time is \"8:5:00\", \
+const REFUSED: &str = "refused: stop_times.txt:4:3: refusal 13: departure_time is \"8:5:00\", \
                        wanted: a time as 8:05:00 or 08:05:00, hours 0 to 99, minutes and seconds 00 to 59";
 
 #[test]

@@ -63,14 +63,16 @@ fn compare(name: &str, files: &model::Files, report: &Json) -> Vec<(i64, Names)>
             assert_eq!(report.get("verdict").text(), "accepted", "{name}");
             Vec::new()
         }
-        Answer::Refused { number, file, line } => {
+        Answer::Refused { number, file, line, column } => {
             let refusal = report.get("refusal");
-            let numbers = ["number", "file", "line"].map(|member| refusal.get(member).number());
-            assert_eq!(numbers, [number, file, line].map(|number| number as i64), "{name}");
+            let numbers = ["number", "file", "line", "column"].map(|member| refusal.get(member).number());
+            assert_eq!(numbers, [number, file, line, column].map(|number| number as i64), "{name}");
             let mut facts = of_refusal(files, number, file, line);
+            let told =
+                facts.iter().find(|(member, _)| *member == "column").map_or(Json::Null, |(_, fact)| in_json(fact));
+            assert_eq!(refusal.get("column_name"), &told, "{name}, refusal {number}");
             if number == 13 {
-                let Json::Text(column) = refusal.get("about").get("column") else { panic!("{name}: no column") };
-                let known = COLUMNS[file - 1].iter().find(|known| known.name == column).expect("a known column");
+                let known = COLUMNS[file - 1].iter().find(|known| known.name == told.text()).expect("a known column");
                 facts.push(("wanted", Fact::Text(wanted(known.form).into())));
             }
             assert_eq!(refusal.get("about"), &members(&facts), "{name}, refusal {number}");
@@ -118,6 +120,30 @@ fn the_facts_are_the_models() {
     assert_eq!(seen.keys().copied().collect::<BTreeSet<_>>(), all);
     for (number, names) in seen {
         assert_eq!(documented(number), names, "docs/JSON.md on {number}");
+    }
+}
+
+/// Each known column alone, first in its file: a header without it, and a line whose value there is empty or malformed.
+#[test]
+fn every_column_has_its_words() {
+    let known = COLUMNS.iter().enumerate().flat_map(|(file, known)| known.iter().map(move |column| (file, column)));
+    for (file, column) in known {
+        let others: Vec<&str> =
+            COLUMNS[file].iter().map(|other| other.name).filter(|name| *name != column.name).collect();
+        let refused = |lines: String| {
+            let mut files = example_files("feed");
+            files[file] = lines.into_bytes();
+            let report = document_of(common::NAMES[file], &files[file]);
+            compare(column.name, &files, &report);
+            let refusal = report.get("refusal");
+            (refusal != &Json::Null).then(|| ["number", "column"].map(|member| refusal.get(member).number()))
+        };
+        let with = |value: &str| {
+            refused(format!("{},{}\n{value}{}\n", column.name, others.join(","), ",1".repeat(others.len())))
+        };
+        assert_eq!(refused(format!("{}\n", others.join(","))) == Some([9, 0]), column.present, "{}", column.name);
+        assert_eq!(with("") == Some([12, 1]), column.needed(), "{}", column.name);
+        assert_eq!(with("?") == Some([13, 1]), !wanted(column.form).is_empty(), "{}", column.name);
     }
 }
 

@@ -41,7 +41,9 @@ fn words(answer: &tusuchiy::Answer) -> Answer {
         Verdict::Accepted => Answer::Accepted,
         Verdict::Findings { written, total } => Answer::Findings { written, total },
         Verdict::Refused(fault) => {
-            Answer::Refused { number: fault.refusal.number(), file: fault.file.number(), line: fault.line as usize }
+            let (number, file, line) = (fault.refusal.number(), fault.file.number(), fault.line as usize);
+            let column = fault.column.map_or(0, |column| column.get() as usize);
+            Answer::Refused { number, file, line, column }
         }
     }
 }
@@ -72,10 +74,11 @@ pub fn fastest(checker: Checker, files: &Files) -> (f64, Outcome) {
 pub fn parts(checker: Checker, files: &Files, whole: f64) -> [f64; 3] {
     let last = (0..FILES).rfind(|&file| !files[file].is_empty()).expect("a file that is supplied");
     let (wholes, outcome) = fastest(checker, &unended(files, last));
-    assert_eq!(outcome.answer, Answer::Refused { number: 4, file: last + 1, line: 0 });
+    assert_eq!(outcome.answer, Answer::Refused { number: 4, file: last + 1, line: 0, column: 0 });
     let (read, outcome) = fastest(checker, &malformed(files, last));
-    let line = model::fields::line_ends(&files[last]);
-    assert_eq!(outcome.answer, Answer::Refused { number: 13, file: last + 1, line });
+    let end = (13, last + 1, model::fields::line_ends(&files[last]));
+    let refused = matches!(outcome.answer, Answer::Refused { number, file, line, .. } if (number, file, line) == end);
+    assert!(refused, "{:?}, wanted {end:?}", outcome.answer);
     [wholes, (read - wholes).max(0.0), (whole - read).max(0.0)]
 }
 

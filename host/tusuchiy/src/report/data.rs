@@ -87,6 +87,7 @@ fn head(subject: &Subject, blocks: usize) -> Value {
         ("files", Value::texts(NAMES)),
         ("meanings", Value::List(meanings.collect())),
         ("word", Value::text(if subject.refused() { "refusal" } else { "finding" })),
+        ("column", subject.column().map_or(Value::Null, Value::text)),
         ("total", Value::size(subject.faults.len())),
         ("block", Value::size(BLOCK)),
         ("blocks", Value::size(blocks)),
@@ -116,7 +117,7 @@ fn line_of(record: i32) -> usize {
 /// What is said of a fault, the lines that go with it, and its trip among those that are drawn (-1 is none).
 fn row(subject: &Subject, headers: &Headers, trips: &Trips, fault: &Fault) -> Value {
     let about = subject.about(fault);
-    let lines = headers.lines(fault.file, fault.line, fault.number, &about);
+    let lines = headers.lines(fault, &about);
     let trip = trips.place(subject, headers, fault).map_or(-1, |place| place as i64);
     Value::List(vec![Value::text(about.words), Value::List(lines.iter().map(shown).collect()), Value::Number(trip)])
 }

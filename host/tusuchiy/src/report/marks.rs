@@ -1,8 +1,9 @@
 //! Lines of a feed in pieces, with the fields marked that a finding or a refusal is about.
 
+use super::Fault;
 use crate::facts::{names, About};
 use crate::feed::{Feed, FILES};
-use crate::fields::split;
+use crate::fields::{self, split};
 use crate::safe;
 use crate::value::Value;
 use std::cell::{OnceCell, RefCell};
@@ -67,8 +68,9 @@ impl<'a> Headers<'a> {
     }
 
     /// The lines that go with a finding or a refusal: its own first, then those that its members name.
-    pub fn lines(&self, file: usize, line: usize, number: usize, about: &About) -> Vec<Shown> {
-        let own = self.shown(file, line, self.marks(file, line, number, about));
+    pub fn lines(&self, fault: &Fault, about: &About) -> Vec<Shown> {
+        let Fault { file, line, number, .. } = *fault;
+        let own = self.shown(file, line, self.marks(fault, about));
         let others = others(file, about).into_iter().filter(|other| *other != (file, line));
         let others = others.filter_map(|(file, line)| {
             let marks = other_columns(number).iter().filter_map(|column| self.mark(file, line, column));
@@ -82,13 +84,14 @@ impl<'a> Headers<'a> {
     }
 
     /// What is marked in the line itself.
-    fn marks(&self, file: usize, line: usize, number: usize, about: &About) -> Vec<Mark> {
+    fn marks(&self, fault: &Fault, about: &About) -> Vec<Mark> {
+        let Fault { file, line, column, number } = *fault;
         let text = self.feed.line(file, line).unwrap_or(&[]);
-        // A field that is told by its place is that one, also where its name stands twice.
-        let mut marks: Vec<Mark> = match size(about, "field") {
-            Some(place) => {
-                let field = split(text).ok().and_then(|fields| fields.into_iter().nth(place - 1));
-                field.map(|field| (field, format!("field {place}"))).into_iter().collect()
+        // A field that is told by its column is that one, also where its name stands twice.
+        let mut marks: Vec<Mark> = match column {
+            Some(column) => {
+                let field = fields::field(text, column);
+                field.map(|field| (field, format!("column {column}"))).into_iter().collect()
             }
             None => columns(number, about).iter().filter_map(|name| self.mark(file, line, name)).collect(),
         };

@@ -8,7 +8,7 @@ mod parts;
 use crate::facts::{About, Facts};
 use crate::feed::Feed;
 use crate::many;
-use crate::paging::{self, Finding, Outcome, Report};
+use crate::paging::{self, Finding, Outcome, Refusal, Report};
 use crate::progress;
 use crate::style::{self, When};
 use crate::{refusals, safe, source, text};
@@ -59,11 +59,12 @@ fn to_file(path: &Path, feed: &Feed, report: &Report) -> Result<(), String> {
     written.map_err(|error| format!("can't write {}: {error}", safe::text(path.as_os_str().as_bytes())))
 }
 
-/// A finding or a refusal.
+/// A finding or a refusal, which may have a column.
 #[derive(Clone, Copy, Debug, PartialEq, Eq)]
 struct Fault {
     file: usize,
     line: usize,
+    column: Option<usize>,
     number: usize,
 }
 
@@ -79,9 +80,14 @@ impl<'a> Subject<'a> {
     fn new(feed: &'a Feed, report: &'a Report) -> Self {
         let faults = match &report.outcome {
             Outcome::Accepted => Vec::new(),
-            Outcome::Refused { number, file, line } => vec![Fault { file: *file, line: *line, number: *number }],
+            Outcome::Refused(Refusal { number, file, line, column }) => {
+                vec![Fault { file: *file, line: *line, column: *column, number: *number }]
+            }
             Outcome::Findings { list, .. } => {
-                let fault = |found: &Finding| Fault { file: found.file, line: found.line, number: found.rule };
+                let fault = |found: &Finding| {
+                    let Finding { file, line, rule } = *found;
+                    Fault { file, line, column: None, number: rule }
+                };
                 list.iter().map(fault).collect()
             }
         };
@@ -89,17 +95,22 @@ impl<'a> Subject<'a> {
     }
 
     fn refused(&self) -> bool {
-        matches!(self.report.outcome, Outcome::Refused { .. })
+        matches!(self.report.outcome, Outcome::Refused(_))
     }
 
     /// What a fault is about.
     fn about(&self, fault: &Fault) -> About {
-        let Fault { file, line, number } = *fault;
-        if self.refused() {
-            refusals::about(self.feed, number, file, line)
-        } else {
-            self.facts.about(&Finding { file, line, rule: number })
+        match &self.report.outcome {
+            Outcome::Refused(refusal) => refusals::about(self.feed, refusal),
+            _ => self.facts.about(&Finding { file: fault.file, line: fault.line, rule: fault.number }),
         }
+    }
+
+    /// The column that is refused, with its name in the header, if one is.
+    fn column(&self) -> Option<String> {
+        let Outcome::Refused(refusal) = &self.report.outcome else { return None };
+        let name = refusals::column_name(self.feed, refusal)?;
+        Some(format!("column {} ({})", refusal.column?, safe::text(&name)))
     }
 }
 

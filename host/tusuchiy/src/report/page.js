@@ -126,7 +126,8 @@ function showPages(nav) {
 
 function card(place, drawn) {
   const { file, line, number, stop } = fault(place), { words, lines, trip } = row(place);
-  const where = line ? `${data.files[file - 1]}, line ${grouped(line)}` : data.files[file - 1];
+  // Only a refusal has a column, and it is the only one on the page.
+  const where = [data.files[file - 1], line ? `line ${grouped(line)}` : null, data.column].filter(Boolean).join(", ");
   const rule = `${capital(kind(number))} ${number}: ${meanings.get(number)}`;
   const open = trip >= 0 && !drawn.has(trip) && drawn.size < PICTURES;
   if (open) drawn.add(trip);

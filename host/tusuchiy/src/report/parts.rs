@@ -1,6 +1,7 @@
 //! The parts of the page that stand without its script: verdict, what was read, totals, the first faults, the rules.
 
 use super::digest::{hex, sha256};
+use super::marks::{Headers, Piece};
 use super::{Fault, Subject};
 use crate::explain;
 use crate::feed::NAMES;
@@ -184,20 +185,35 @@ fn capital(word: &str) -> String {
     first.to_uppercase() + rest
 }
 
+/// A line in pieces, what is marked in it marked.
+fn pieces(pieces: &[Piece]) -> String {
+    let markup = |piece: &Piece| match piece {
+        Piece::Plain(text) => escaped(text),
+        Piece::Marked(text, _) => {
+            format!("<mark{}>{}</mark>", if text.is_empty() { " class=\"empty\"" } else { "" }, escaped(text))
+        }
+        Piece::Gap(bytes) => format!(" … {} bytes … ", grouped(*bytes)),
+    };
+    pieces.iter().map(markup).collect()
+}
+
 /// The first faults as a plain list.
 pub fn plain(subject: &Subject) -> String {
+    let headers = Headers::new(subject.feed);
     let item = |fault: &Fault| {
-        let line = if fault.line == 0 { String::new() } else { format!(", line {}", fault.line) };
-        let text = subject.feed.line(fault.file, fault.line).map_or(String::new(), |text| {
-            let (text, cut) = safe::beginning(text, safe::SHOWN_LINE);
-            format!("<br><code>{}{}</code>", shown(text), if cut { " ..." } else { "" })
-        });
+        let about = subject.about(fault);
+        let line = (fault.line > 0).then(|| format!("line {}", fault.line));
+        let place: Vec<String> =
+            [Some(NAMES[fault.file - 1].to_string()), line, subject.column()].into_iter().flatten().collect();
+        let lines = headers.lines(fault, &about);
+        let own = lines.iter().find(|shown| (shown.file, shown.line) == (fault.file, fault.line));
         format!(
-            "<li><b>{}{line}</b>, {} {}: {}{text}</li>\n",
-            NAMES[fault.file - 1],
+            "<li><b>{}</b>, {} {}: {}{}</li>\n",
+            escaped(&place.join(", ")),
             word(fault.number),
             fault.number,
-            escaped(&subject.about(fault).words)
+            escaped(&about.words),
+            own.map_or(String::new(), |own| format!("<br><code>{}</code>", pieces(&own.pieces)))
         )
     };
     let items: String = subject.faults.iter().take(PLAIN).map(item).collect();
