@@ -107,16 +107,16 @@ earlier-both n a x k q pos after afters = go (ℕ-discrete a 0) (ℕ-discrete x 
     some e = omega arith
 
     left : After n k → (x ≡ 0 → ⊥) → earlierOf k (fault n x) ≡ fault n x
-    left (inl e) z = rw (eq-eqb _ _ e)
+    left (inl e) z = rw (ne-eqb n 0 some, eq-eqb _ _ e)
     left (inr h) z =
         let y : k .rule ≡ 0 → ⊥ = λ e. omega arith in
-        rw (ne-eqb _ _ y, ne-eqb n 0 some, le-ltb (k .rule) n (omega arith), lt-ltb n (k .rule) h)
+        rw (ne-eqb n 0 some, ne-eqb _ _ y, le-ltb (k .rule) n (omega arith), lt-ltb n (k .rule) h)
 
     right : After n q → earlierOf (fault n a) q ≡ fault n a
-    right (inl e) = rw (ne-eqb n 0 some, eq-eqb _ _ e)
+    right (inl e) = rw (eq-eqb _ _ e)
     right (inr h) =
         let y : q .rule ≡ 0 → ⊥ = λ e. omega arith in
-        rw (ne-eqb n 0 some, ne-eqb _ _ y, lt-ltb n (q .rule) h)
+        rw (ne-eqb _ _ y, ne-eqb n 0 some, lt-ltb n (q .rule) h)
 
     level : (t : Bool) → ltb x a ≡ t → (a ≡ 0 → ⊥) → (x ≡ 0 → ⊥) → cond t (fault n x) (fault n a) ≡ orLater n (cond t x a) (earlierOf k q)
     level true e y z = rw (ne-eqb x 0 z)
@@ -166,6 +166,12 @@ module _ (f : ℕ) (ps l : List ℕ) where
   row-turn k w j m e c x v y p q =
       rw (leftmost-more long k, leftmost-more blank k, leftmost-more formless k, q, e, p, x, y)
       (three-both _ _ _ _ _ _)
+
+  -- a value that breaks no rule changes nothing
+  pub row-kept : (k : ℕ) (w j : Fault) → w ≡ first (valueTestsTo f ps l k) → (c : Column) → c ≡ columnOf f k → (v : List ℕ) → v ≡ cell l (getD ps k 0)
+      → j ≡ first (columnTests c (getD ps k 0) v) → j .rule ≡ 0 → w ≡ first (valueTestsTo f ps l (k + 1))
+  unfolding earlierOf
+  row-kept k w j e c x v y p z = row-turn k w j w e c x v y p (rw (eq-eqb (j .rule) 0 z))
 
   pub row-end : (k : ℕ) (w : Fault) → w ≡ first (valueTestsTo f ps l k) → k ≡ countOf f → w ≡ first (valueTests f ps l)
   unfolding valueTestsTo valueTests rule11 rule12 rule13

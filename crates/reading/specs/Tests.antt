@@ -27,8 +27,8 @@ valueTestsTo f ps l n = testAt 11 (leftmost long f ps l n) ∷ testAt 12 (leftmo
 -- the fault of the lower rule; of two of one rule the one further left
 unfoldable pub earlierOf : Fault → Fault → Fault
 earlierOf a b =
-    cond (eqb (a .rule) 0) b
-    (cond (eqb (b .rule) 0) a
+    cond (eqb (b .rule) 0) a
+    (cond (eqb (a .rule) 0) b
     (cond (ltb (a .rule) (b .rule)) a
     (cond (ltb (b .rule) (a .rule)) b
     (cond (ltb (b .column) (a .column)) b a))))

@@ -190,11 +190,11 @@ fn value_fault(c: Column, p: usize, raw: &[u8]) -> Fault
 fn earlier(a: Fault, b: Fault) -> Fault
     ensures { λ r. ⌜ r ≡ earlierOf a b ⌝ }
 {
-    if a.rule == 0 {
-        return b;
-    }
     if b.rule == 0 {
         return a;
+    }
+    if a.rule == 0 {
+        return b;
     }
     if a.rule < b.rule {
         return a;
@@ -222,7 +222,10 @@ fn row_fault(f: usize, at: [usize; 10], l: &[u8]) -> Fault
     while k < m {
         let a = start[k];
         let e = end[k];
-        fault = earlier(fault, value_fault(schema::known(f, k), at[k], &l[a..e]));
+        let t = value_fault(schema::known(f, k), at[k], &l[a..e]);
+        if t.rule != 0 {
+            fault = earlier(fault, t);
+        }
         k += 1;
     }
     fault

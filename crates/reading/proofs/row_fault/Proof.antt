@@ -1,8 +1,9 @@
 -- `reading::row_fault` meets its contract.
-use Rattle.reading.proofs.First.{row-end, row-none, row-turn}
+use Rattle.reading.proofs.First.{row-end, row-kept, row-none, row-turn}
 use Rattle.columns.proofs.Laws.{located-inside, located-cell}
 use Rattle.reading.specs.Tests.{first, valueTestsTo}
 use Rattle.meaning.specs.Bytes.{part}
+use mathlib.Core.Logic.{⊎-elim}
 use mathlib.Core.Path.{_≡_}
 use Prim.Native.Nat.{_≤_, _-_}
 use native.Mathlib.Omega.{arith}
@@ -76,9 +77,15 @@ loop-less c = omega arith
 loop-again : tie.Need-loop-again Inv-loop μ-loop
 unfolding part
 loop-again c =
-    let b = c .before .before .before in
+    let v = c .before .before in
+    let b = v .before .before in
+    let i = b .before .before .loop in
     let g = b .before .before .before .before .before .before .locate .ensures in
-    (omega arith, row-turn _ _ _ _ _ _ _ (b .before .before .loop .inv .1) _ (b .known .ensures) _ (located-cell _ _ _ _ (g .0) (g .1) (b .before .before .loop .k)) (c .before .value-fault .ensures) (c .earlier .ensures))
+    let cell = located-cell _ _ _ _ (g .0) (g .1) (i .k) in
+    ⊎-elim
+    (λ w. (omega arith, rw (w .2) (row-turn _ _ _ _ _ _ _ (i .inv .1) _ (b .known .ensures) _ cell (v .value-fault .ensures) (w .1 .ensures))))
+    (λ w. (omega arith, rw (w .1) (row-kept _ _ _ _ _ _ (i .inv .1) _ (b .known .ensures) _ cell (v .value-fault .ensures) (w .0 .left))))
+    (c .if1 .came)
 
 returns : tie.Need-returns Inv-loop μ-loop
 returns c = row-end _ _ _ _ _ (c .before .loop .inv .1) (omega arith)
