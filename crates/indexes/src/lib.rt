@@ -1,0 +1,12 @@
+// What an index beside the feed is, and what is answered about one.
+use meaning::Refusal;
+
+// The answer of the index's writer and reader.
+pub enum IndexAnswer {
+    // an index of so many bytes was written, or is accepted
+    Whole(usize),
+    // the file's own refusal
+    Unread(Refusal),
+    // a refusal from 40 to 46, which names no file and no line
+    Barred(usize),
+}
