@@ -3,4 +3,5 @@ pub mod Laws
 pub mod Lines
 pub mod Walk
 pub mod Fields
+pub mod Runs
 pub mod Values

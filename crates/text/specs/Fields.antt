@@ -2,8 +2,8 @@
 use Prim.Native.Nat.{ℕ, _+_, _≤_}
 use mathlib.Core.Path.{_≡_}
 use mathlib.Core.List.{List, [], _∷_}
-use mathlib.Core.Bool.{cond}
-use lib.ListN.{length, drop}
+use mathlib.Core.Bool.{Bool, cond, _||_}
+use lib.ListN.{length, take, drop}
 use lib.Dec.{ltb, eqb}
 use Rattle.meaning.specs.declared.Bounds.{Bounds}
 use Rattle.meaning.specs.Bytes.{bounds, part, start, next, fieldsGo, value, valuesOf}
@@ -19,6 +19,19 @@ fieldCount q (b ∷ r) = let k = fieldCount (next q b) r in cond (eqb (next q b)
 unfoldable pub fieldLen : ℕ → List ℕ → ℕ
 fieldLen q [] = 0
 fieldLen q (b ∷ r) = let k = fieldLen (next q b) r + 1 in cond (eqb (next q b) start) 0 k
+
+-- does a byte end a line: the LF of its ending, or the CR before it
+unfoldable pub endsLine : ℕ → Bool
+endsLine b = eqb b 10 || eqb b 13
+
+-- the same in a file, whose lines end where an ending begins
+unfoldable pub fieldRun : ℕ → List ℕ → ℕ
+fieldRun q [] = 0
+fieldRun q (b ∷ r) = let k = fieldRun (next q b) r + 1 in cond (endsLine b) 0 (cond (eqb (next q b) start) 0 k)
+
+-- the raw field that begins at a byte of a file
+unfoldable pub fieldOn : List ℕ → ℕ → List ℕ
+fieldOn s at = take (fieldRun start (drop at s)) (drop at s)
 
 -- the step of a cursor that has come to `at`, where a field begins: none past the line's end
 unfoldable pub stepAt : List ℕ → ℕ → Step

@@ -7,7 +7,7 @@ ghost use Rattle.meaning.specs.Bytes.{countLf, startOf, start, classOf, next, g
 ghost use Rattle.meaning.specs.Forms.{noMark};
 ghost use Rattle.meaning.specs.Refusals.{ended, rule5};
 ghost use Rattle.text.specs.Lines.{toLf, lineTo, lineAt};
-ghost use Rattle.text.specs.Fields.{fieldLen, stepAt};
+ghost use Rattle.text.specs.Fields.{fieldLen, endsLine, fieldRun, fieldOn, stepAt};
 ghost use Rattle.text.specs.Values.{widthOf};
 
 // How many LF bytes stand in a file.
@@ -221,6 +221,44 @@ pub fn field_end(l: &[u8], at: usize) -> usize
         i += 1;
     }
     i
+}
+
+// Does a byte end a line: the LF of its ending, or the CR before it?
+fn ends_line(b: u8) -> bool
+    ensures { λ r. ⌜ r ≡ endsLine b ⌝ }
+{
+    b == b'\n' || b == b'\r'
+}
+
+// The end of the field that begins at a byte of a file, whose lines end where an ending begins.
+fn run_end(s: &[u8], at: usize) -> usize
+    ensures { λ r. ⌜ (r ≡ at + fieldRun start (drop at (now (s .entry)))) × (at ≤ r) ⌝ }
+    ensures { λ r. ⌜ (at ≤ length (now (s .entry)) → r ≤ length (now (s .entry))) ⌝ }
+{
+    let mut q = START;
+    let mut i = at;
+    while i < s.len() {
+        if ends_line(s[i]) {
+            return i;
+        }
+        q = next_state(q, s[i]);
+        if q == START {
+            return i;
+        }
+        i += 1;
+    }
+    i
+}
+
+// The raw field that begins at a byte of a file.
+pub fn field_on(s: &[u8], at: usize) -> &[u8]
+    ensures { λ r. ⌜ now r ≡ fieldOn (now (s .entry)) at ⌝ }
+{
+    if s.len() <= at {
+        return &s[..0];
+    }
+    let e = run_end(s, at);
+    &s[at..e]
 }
 
 // A place along a line, where a field begins.
