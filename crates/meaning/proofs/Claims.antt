@@ -99,6 +99,10 @@ unfolding inFile along testsOn fieldCount headerOf
 file-along f [] = refl
 file-along f (h ∷ r) = rw (lines-along (λ l. headTests f (l .text)) f (places f (headerOf (h ∷ r))) (length (fields (h .text))) 2 r (omega arith))
 
+-- of a file's line its tests are claimed, and nothing else
+pub in-file : (f : ℕ) (ls : List Line) (p : Claim) → List·Memᴰ p (inFile f ls) ↔ Linewise noLine f (testsOn f ls) 1 ls p
+in-file f ls p = rw (file-along f ls) (linewise-exactly noLine f (testsOn f ls) 1 ls p)
+
 files-along : (f : ℕ) (files : List (List ℕ)) → inFiles f files ≡ along (λ k s. inFile k (linesOf s)) f files
 unfolding inFiles along
 files-along f [] = refl
