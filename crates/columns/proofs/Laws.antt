@@ -223,6 +223,15 @@ module _ (l : List ℕ) (at n : ℕ) (first : 1 ≤ n) (left : drop (n - 1) (fie
   pub fields-over : length l < at → length (fields l) < n
   fields-over h = let z : length (drop (n - 1) (fields l)) ≡ 0 = rw (left, from-over l at h) in omega (arith, length-drop (n - 1) (fields l))
 
+-- past the last field there is none, and none in column 0
+pub field-absent : (l : List ℕ) (p n : ℕ) → length (fields l) < n → (p < n → p ≡ 0) → 0 ≡ fieldAt l p .start
+unfolding fieldAt
+field-absent l p n h none = go (ltb p n) refl
+  where
+    go : (t : Bool) → ltb p n ≡ t → 0 ≡ cond (eqb p 0) (bounds 0 0) (getD (fields l) (p - 1) (bounds 0 0)) .start
+    go true t = rw (none (ltb-true p n t))
+    go false t = let y : n ≤ p = ltb-false p n t in ap (λ (b : Bounds). b .start) (sym (field-over l p (omega arith)))
+
 pub fields-first : (l : List ℕ) (at : ℕ) → at ≡ 0 → drop (1 - 1) (fields l) ≡ fieldsFrom l at
 fields-first l at e = rw (e, from-start l)
 

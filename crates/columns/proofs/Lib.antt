@@ -1,2 +1,3 @@
 -- What the functions of columns rest on.
 pub mod Laws
+pub mod Headings

@@ -1,5 +1,6 @@
 // Where the known columns stand in a header, and where their fields lie in a line.
 use text::Cursor;
+use text::LineStep;
 use text::Step;
 ghost use mathlib.Core.Path.{_≡_};
 ghost use mathlib.Core.Bool.{_&&_};
@@ -7,10 +8,11 @@ ghost use Prim.Native.Nat.{_+_, _≤_, _<_};
 ghost use lib.Dec.{eqb};
 ghost use lib.ListN.{length};
 ghost use Rattle.meaning.specs.Lists.{find, findAgain, lesser};
-ghost use Rattle.meaning.specs.Bytes.{fields, values};
-ghost use Rattle.meaning.specs.Columns.{nameOf, columnOf};
+ghost use Rattle.meaning.specs.Bytes.{countLf, fields, values};
+ghost use Rattle.meaning.specs.Columns.{nameOf, columnOf, fieldAt};
 ghost use Rattle.meaning.specs.Refusals.{rule8};
 ghost use Rattle.text.specs.Fields.{valuesFrom};
+ghost use Rattle.columns.specs.Heading.{Heading};
 ghost use Rattle.columns.specs.Columns.{placesOf, lacking, noted, startsOf, endsOf};
 
 // The column of each known name in a header, counted from 1, 0 where it is absent; and how many fields the header has.
@@ -123,6 +125,31 @@ pub fn columns_of(f: usize, h: &[u8]) -> Columns
     }
 }
 
+// What a file's header tells: the columns of its known names, and where the next line starts.
+pub struct Header {
+    pub known: [usize; 10],
+    pub next: usize,
+}
+
+// The header of a file that has a line.
+pub fn read_header(f: usize, s: &[u8]) -> Header
+    requires { ⌜ (f < 7) × (1 ≤ countLf (now s)) ⌝ }
+    ensures { λ r. ⌜ Heading f (now (s .entry)) (r .known) (r .next) ⌝ }
+{
+    let at = text::body_start(s);
+    match text::next_line(s, at) {
+        LineStep::Line { start, end, next } => {
+            let c = columns_of(f, &s[start..end]);
+            let known = c.at;
+            Header { known, next }
+        }
+        LineStep::Done => {
+            let known = [0usize; 10];
+            Header { known, next: at }
+        }
+    }
+}
+
 // Must known column k be present, and is its column p none?
 fn is_missing(f: usize, k: usize, p: usize) -> bool
     requires { ⌜ (f < 7) × (k < 10) ⌝ }
@@ -194,6 +221,28 @@ pub fn locate(l: &[u8], at: [usize; 10]) -> Cells
             }
             Step::Done => {
                 return cells;
+            }
+        }
+    }
+}
+
+// Where the field in column p of a line begins; 0 where there is none.
+pub fn field_start(l: &[u8], p: usize) -> usize
+    ensures { λ r. ⌜ (r ≡ fieldAt (now (l .entry)) p .start) × (r ≤ length (now (l .entry))) ⌝ }
+{
+    let mut c = Cursor::new();
+    let mut n: usize = 1;
+    loop {
+        match c.next(l) {
+            Step::Field { start, end, next } => {
+                if n == p {
+                    return start;
+                }
+                n += 1;
+                c = next;
+            }
+            Step::Done => {
+                return 0;
             }
         }
     }

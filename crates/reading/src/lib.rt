@@ -327,7 +327,7 @@ fn read_lines(f: usize, c: Columns, s: &[u8], from: usize) -> Verdict
 }
 
 // The first line of a file that breaks a rule.
-fn read_file(f: usize, s: &[u8]) -> Verdict
+pub fn read_file(f: usize, s: &[u8]) -> Verdict
     requires { ⌜ f < 7 ⌝ }
     ensures { λ r. ⌜ r ≡ speaks (inFile f (linesOf (now (s .entry)))) ⌝ }
 {

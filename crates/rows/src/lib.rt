@@ -4,7 +4,7 @@ ghost use mathlib.Core.List.{_∷_, []};
 ghost use Prim.Native.Nat.{ℕ, _+_, _*_, _^_, _<_, _≤_};
 ghost use lib.IntN.{pos};
 ghost use lib.ListN.{length, set};
-ghost use Rattle.meaning.specs.Tables.{widthOf};
+ghost use Rattle.meaning.specs.Tables.{widthOf, idColumn};
 ghost use Rattle.rows.specs.Cells.{putAt, natAt, boundsAt, timeAt};
 ghost use Rattle.rows.specs.Waiting.{unmark, packed, settledAt};
 use meaning::Bounds;
@@ -473,4 +473,14 @@ pub fn width_of(file: usize) -> usize
         Dates::FILE => Dates::WIDTH,
         _ => 0,
     }
+}
+
+// Where in the schema a file's own id stands.
+pub fn id_column(f: usize) -> usize
+    ensures { λ r. ⌜ (r ≡ idColumn f) × (r < 10) ⌝ }
+{
+    if f == Trips::FILE {
+        return 2;
+    }
+    0
 }

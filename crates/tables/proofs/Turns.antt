@@ -10,20 +10,17 @@ use lib.IntN.{ℤ, pos}
 use lib.ListN.{length, getD, take, drop, replicate, length-drop, length-map, length-replicate}
 use lib.Seq.{getD-drop, take-all}
 use Rattle.meaning.specs.Lists.{flat, laid}
-use Rattle.meaning.specs.Bytes.{Line, bounds, part, values, startOf, countLf, linesFrom, linesOf}
-use Rattle.meaning.specs.Columns.{headerOf}
+use Rattle.meaning.specs.Bytes.{Line, bounds, part, countLf, linesFrom, linesOf}
 use Rattle.meaning.specs.Tables.{widths, widthOf}
 use Rattle.text.specs.Lines.{LineStands}
 use Rattle.text.proofs.Laws.{part-length}
 use Rattle.text.proofs.Lines.{lines-all}
-use Rattle.text.proofs.Walk.{header-is, header-past, line-inside, line-here, line-past}
-use Rattle.columns.specs.Columns.{placesOf}
-use Rattle.columns.proofs.Laws.{places-at}
+use Rattle.text.proofs.Walk.{line-inside, line-here, line-past}
 use Rattle.rows.specs.Cells.{putAt}
 use Rattle.meaning.proofs.Laws.{getD-map-in}
 use Rattle.rows.proofs.Records.{Wide, wide-map, rows-first, rows-turn}
 use Rattle.records.specs.Line.{line}
-use Rattle.tables.specs.Fill.{Heading, Room}
+use Rattle.tables.specs.Fill.{Room}
 use Rattle.tables.specs.Walk.{tabled}
 
 pub three-wide : (f : ℕ) → 1 ≤ f → f ≤ 6 → 2 < widthOf f
@@ -127,19 +124,6 @@ pub walk-first :
     → t ≡ laid (flat (take 1 (tabled f g s))) t₀
 unfolding tabled
 walk-first f g s t t₀ e = e ∙ rows-first (replicate (widthOf f) (pos 0)) (map g (drop 1 (linesOf s))) t₀
-
--- the header's line
-pub header-found :
-    (s : List ℕ) (at : ℕ)
-    → at ≡ startOf s
-    → (f : ℕ) (known : List ℕ) (a e n : ℕ)
-    → LineStands s at a e n
-    → known ≡ placesOf f (values (part s (bounds a e)))
-    → Heading f s known n
-header-found s at starts f known a e n stands p = record {
-  after = header-past s at starts a e n stands;
-  columns = λ k. ap (λ ps. getD ps k 0) (p ∙ ap (placesOf f) (header-is s at starts a e n stands)) ∙ places-at f (headerOf (linesOf s)) k;
-}
 
 -- room for record 0
 pub first-room : (f : ℕ) (s : List ℕ) (t : List ℤ) (width : ℕ) → Room f s t → width ≡ widthOf f → width ≤ length t

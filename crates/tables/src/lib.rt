@@ -13,7 +13,8 @@ ghost use Rattle.marks.specs.Marks.{marked, Blank};
 ghost use Rattle.marks.specs.Noted.{Noted, TripsNoted};
 ghost use Rattle.ordering.specs.Ids.{Placed, Arranged};
 ghost use Rattle.records.specs.Refers.{Lists, Indexed, Refers, Sought};
-ghost use Rattle.tables.specs.Fill.{Heading, Room, Fits};
+ghost use Rattle.columns.specs.Heading.{Heading};
+ghost use Rattle.tables.specs.Fill.{Room, Fits};
 ghost use Rattle.tables.specs.Walk.{writtenAll, written, Ordered, OrderedIf, IndexedIf, ListsIf, Settled};
 use rows::Calendar;
 use rows::Dates;
@@ -26,31 +27,6 @@ mod placing; // placing.rt: the first walk along files 1 to 4 and 6, and the ord
 mod parents; // parents.rt: the parents of stops, once every stop's id is in the table
 mod services; // services.rt: the first exceptions of trips' services, once those of file 6 are in the table
 mod times; // times.rt: the lines of stop_times, which wait in their table while they are put in trip order
-
-// What a file's header tells: the columns of its known names, and where the next line starts.
-struct Header {
-    known: [usize; 10],
-    next: usize,
-}
-
-// The header of a file that has a line.
-fn read_header(f: usize, s: &[u8]) -> Header
-    requires { ⌜ (f < 7) × (1 ≤ countLf (now s)) ⌝ }
-    ensures { λ r. ⌜ Heading f (now (s .entry)) (r .known) (r .next) ⌝ }
-{
-    let at = text::body_start(s);
-    match text::next_line(s, at) {
-        LineStep::Line { start, end, next } => {
-            let c = columns::columns_of(f, &s[start..end]);
-            let known = c.at;
-            Header { known, next }
-        }
-        LineStep::Done => {
-            let known = [0usize; 10];
-            Header { known, next: at }
-        }
-    }
-}
 
 // The second walk from `at` on, where the line of record 1 starts; how many records there are.
 fn fill_lines(
@@ -131,7 +107,7 @@ fn fill(
         → now (t .exit) ≡ written f w (now (s .entry)) (now (t .entry))) ⌝ }
     ensures { λ r. ⌜ r + 1 ≡ countLf (now (s .entry)) ⌝ }
 {
-    let h = read_header(f, s);
+    let h = columns::read_header(f, s);
     rows::cells::zero_record(t, rows::width_of(f));
     let known = h.known;
     let next = h.next;

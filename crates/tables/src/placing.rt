@@ -18,7 +18,8 @@ ghost use Rattle.repeats.specs.Repeats.{Marking as Repeated};
 ghost use Rattle.values.specs.Located.{Within, Located};
 ghost use Rattle.records.specs.Line.{line, Lies};
 ghost use Rattle.records.specs.Waiting.{waitingColumn};
-ghost use Rattle.tables.specs.Fill.{Heading, Room, Fits};
+ghost use Rattle.columns.specs.Heading.{Heading};
+ghost use Rattle.tables.specs.Fill.{Room, Fits};
 ghost use Rattle.tables.specs.Noting.{noted, noteMark, Telling, Marking};
 ghost use Rattle.tables.specs.Walk.{dateKey, placing, placedOf, Ordered, OrderedIf};
 use columns::Cells;
@@ -29,16 +30,6 @@ use rows::Routes;
 use rows::Stops;
 use rows::Trips;
 use text::LineStep;
-
-// Where in the schema a file's own id stands.
-fn id_column(f: usize) -> usize
-    ensures { λ r. ⌜ (r ≡ idColumn f) × (r < 10) ⌝ }
-{
-    if f == Trips::FILE {
-        return 2;
-    }
-    0
-}
 
 // Where in the schema the field stands that waits: a trip's service, a stop's parent.
 fn waiting_column(f: usize) -> usize
@@ -69,7 +60,7 @@ fn put_places(f: usize, l: &[u8], at: usize, q: Cells, t: &mut [i32], r: usize)
     ensures { λ _. ⌜ ((ps : List ℕ) → Located (now (l .entry)) ps (q .start) (q .end)
         → now (t .exit) ≡ putAt (now (t .entry)) (r * widthOf f) (placing f ps (line at (now (l .entry))))) ⌝ }
 {
-    let id = records::field_place(l, at, q, id_column(f));
+    let id = records::field_place(l, at, q, rows::id_column(f));
     let key = date_key(f, l, q);
     let other = records::field_place(l, at, q, waiting_column(f));
     rows::cells::put_places(t, r, rows::width_of(f), id, key, other);
@@ -159,7 +150,7 @@ fn place_file(f: usize, s: &[u8], t: &mut [i32], m: &mut [u16]) -> usize
     ensures { λ _. ⌜ Telling (λ i. noted f (getD (rowsOf f (now (s .entry))) (i - 1) [])) (noteMark f) (countLf (now (s .entry))) (now (m .entry)) (now (m .exit)) ⌝ }
     ensures { λ r. ⌜ r + 1 ≡ countLf (now (s .entry)) ⌝ }
 {
-    let h = crate::read_header(f, s);
+    let h = columns::read_header(f, s);
     rows::cells::zero_record(t, rows::width_of(f));
     let known = h.known;
     let next = h.next;

@@ -1,10 +1,10 @@
--- `tables::placing::id_column` meets its contract.
+-- `rows::id_column` meets its contract.
 use Rattle.meaning.specs.Tables.{idColumn}
 use borrow.Author.Tests.{eq-eqb, ne-eqb}
 use Prim.Native.Nat.{_-_}
 use native.Mathlib.Omega.{arith}
-use Rattle.tables.proofs.placing.id_column.Statement.{statement}
-use Rattle.tables.proofs.placing.id_column.Tie as tie
+use Rattle.rows.proofs.id_column.Statement.{statement}
+use Rattle.rows.proofs.id_column.Tie as tie
 
 returns : tie.Need-returns
 unfolding idColumn

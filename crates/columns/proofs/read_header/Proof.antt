@@ -1,13 +1,13 @@
--- `tables::read_header` meets its contract.
+-- `columns::read_header` meets its contract.
 use Rattle.meaning.specs.Bytes.{part}
 use Rattle.text.proofs.Lines.{line-found, line-none}
 use Rattle.text.proofs.Walk.{no-header}
-use Rattle.tables.proofs.Turns.{header-found}
+use Rattle.columns.proofs.Headings.{header-found}
 use mathlib.Core.Path.{sym, _∙_}
 use native.Mathlib.Omega.{arith}
 use borrow.Author.Needs.{needs}
-use Rattle.tables.proofs.read_header.Statement.{statement}
-use Rattle.tables.proofs.read_header.Tie as tie
+use Rattle.columns.proofs.read_header.Statement.{statement}
+use Rattle.columns.proofs.read_header.Tie as tie
 
 body-start-requires : tie.Need-body-start-requires
 body-start-requires c κs = search needs

@@ -1,0 +1,1 @@
+-- What is said of a file by itself stands in indexes.
