@@ -1,0 +1,2 @@
+-- The laws that the proofs apply, and that the crates above cite.
+pub mod Ends

@@ -1,0 +1,2 @@
+-- Where the ids of a file's records begin.
+pub mod Places
