@@ -14,7 +14,7 @@ use Rattle.meaning.specs.Lists.{same, some, find, stands}
 use Rattle.meaning.specs.Rules.{rule20}
 use Rattle.meaning.specs.Promises.{Ordered}
 use Rattle.meaning.proofs.ListLaws.{both, same-equal, same-self}
-use Rattle.meaning.proofs.Laws.{each-cons, getD-mem, At, place-of, in-order}
+use Rattle.meaning.proofs.Laws.{each-cons, At, place-of, in-order}
 use Rattle.meaning.proofs.References.{First, absent, found, find-first, any-yes, twentieth}
 use Rattle.meaning.proofs.Tests.{untrue, Found, some-found, some-none, Standing, below, level, over, standing}
 use Rattle.text.proofs.Laws.{same-no}
