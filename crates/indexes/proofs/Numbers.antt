@@ -43,6 +43,10 @@ read-number (suc k) b at small h =
     let q : (x + 256 * y) / 256 ≡ y = omega (arith, small at) in
     rw (p, q, drop-cons b at 0 (omega arith), ← add-one at) (ap (λ l. x ∷ l) (read-number k b (at + 1) small (omega arith)))
 
+-- a number that is read, and what follows it
+pub read-front : (k : ℕ) (b : List ℕ) (at n : ℕ) → Bytes b → at + k ≤ length b → numberAt k b at ≡ n → lowFirst k n ++ drop (at + k) b ≡ drop at b
+read-front k b at n small h e = rw (← e, read-number k b at small h, ← drop-drop k at b) (take-append-drop k (drop at b))
+
 -- ---- numbers one after the other
 
 -- n numbers of so many bytes each, from `at` on
