@@ -14,8 +14,7 @@ use Rattle.meaning.specs.declared.Verdict.{Verdict}
 use Rattle.meaning.specs.declared.Verdict.the-variants.{Readable, Unreadable}
 use Rattle.meaning.specs.Lists.{empty, any, laid}
 use Rattle.meaning.specs.Bytes.{countLf}
-use Rattle.meaning.specs.Columns.{rowsOf}
-use Rattle.meaning.specs.Tables.{under, idColumn, fileOf}
+use Rattle.meaning.specs.Tables.{fileOf}
 use Rattle.meaning.specs.Refusals.{Test, claim, rule1, rule2, mayLack, rule4}
 use Rattle.meaning.specs.Promises.{noClaim, FirstBroken}
 use Rattle.meaning.proofs.ListLaws.{both, and-both}
@@ -132,7 +131,7 @@ module _ (f : ℕ) (s : List ℕ) where
   unfolding idsOf loneVerdict loneClaims rule2
   few r =
       let k : countLf s ≤ 65536 = ltb-false _ _ (silent-none (loneClaims f s) .0 (r .verdict) (claim 2 f 0 (rule2 f s 0)) (List·Memᴰ·tail (List·Memᴰ·head refl))) in
-      rw (length-map (rowsOf f s) (under (idColumn f)), rows-count f s, lines-all s) (omega arith)
+      rw (length-map, rows-count f s, lines-all s) (omega arith)
 
   -- ---- the writer
 

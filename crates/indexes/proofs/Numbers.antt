@@ -18,12 +18,6 @@ unfolding lowFirst
 low-length zero n = refl
 low-length (suc k) n = ap suc (low-length k (n / 256))
 
-pub low-bytes : (k n i : ℕ) → getD (lowFirst k n) i 0 < 256
-unfolding lowFirst
-low-bytes zero n i = omega arith
-low-bytes (suc k) n zero = omega arith
-low-bytes (suc k) n (suc i) = low-bytes k (n / 256) i
-
 -- a number that is written is read
 pub written-number : (k n : ℕ) (a c : List ℕ) → n < 256 ^ k → numberAt k (a ++ (lowFirst k n ++ c)) (length a) ≡ n
 unfolding lowFirst numberAt

@@ -104,7 +104,7 @@ versionTwo = checking 2 routes (0x54 ∷ 0x54 ∷ 0x58 ∷ 2 ∷ 0 ∷ 2 ∷ 3 �
 abbrev pub version257 : Case
 version257 = checking 2 routes (0x54 ∷ 0x54 ∷ 0x58 ∷ 1 ∷ 1 ∷ 2 ∷ 2 ∷ 0 ∷ 2 ∷ 0 ∷ 3 ∷ 0 ∷ []) (barred 41)
 
--- 42: another file's number; two records of three, and 259; a byte more than the count needs
+-- 42: another file's number; two records of three, and 259; a byte more than the count needs, and one less, which is 0
 abbrev pub wrongFile : Case
 wrongFile = checking 2 routes (one (1 ∷ 3 ∷ 0 ∷ 2 ∷ 0 ∷ 3 ∷ 0 ∷ 1 ∷ 0 ∷ [])) (barred 42)
 
@@ -116,6 +116,9 @@ highCount = checking 2 routes (one (2 ∷ 3 ∷ 1 ∷ 2 ∷ 0 ∷ 3 ∷ 0 ∷ 1 
 
 abbrev pub byteMore : Case
 byteMore = checking 2 routes (ofRoutes ++ sevens 1) (barred 42)
+
+abbrev pub byteLess : Case
+byteLess = checking 2 routes (one (2 ∷ 3 ∷ 0 ∷ 2 ∷ 0 ∷ 3 ∷ 0 ∷ 1 ∷ [])) (barred 42)
 
 -- 43: record 0, though the two before it fall; record 4 of three; record 257
 abbrev pub recordZero : Case
@@ -174,6 +177,7 @@ worked =
     ∷ oneLess
     ∷ highCount
     ∷ byteMore
+    ∷ byteLess
     ∷ recordZero
     ∷ beyondLast
     ∷ highRecord
