@@ -65,5 +65,6 @@ pub record Beside (f : ℕ) (s : List ℕ) : Type 0 where
   pub unchanged : (lent : List ℕ) → ((n : ℕ) → wrote f s (length lent) ≡ Whole n → ⊥) → written f s lent ≡ lent
   -- otherwise it writes exactly the accepted bytes and leaves the rest of the buffer unchanged.
   pub writes : (lent : List ℕ) (n : ℕ) → wrote f s (length lent) ≡ Whole n → Lists f (idsOf f s) (take n (written f s lent))
+  pub agrees : (lent : List ℕ) (n : ℕ) → wrote f s (length lent) ≡ Whole n → checked f s (take n (written f s lent)) ≡ Whole n
   pub leaves : (lent : List ℕ) (n : ℕ) → wrote f s (length lent) ≡ Whole n → (length (written f s lent) ≡ length lent) × (drop n (written f s lent) ≡ drop n lent)
   pub told : (lent : List ℕ) (n : ℕ) → wrote f s (length lent) ≡ Whole n → n ≡ 8 + 2 * length (idsOf f s)
