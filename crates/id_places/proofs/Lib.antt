@@ -1,2 +1,4 @@
 -- The laws that the proofs apply, and that the crates above cite.
 pub mod Ends
+pub mod Starts
+pub mod Own

@@ -39,7 +39,7 @@ module _ (f : ℕ) (s : List ℕ) (quiet : NoneBroken (inFile f (linesOf s))) wh
     abbrev text : List ℕ
     text = getD (linesOf s) (i + 2 - 1) noLine .text
 
-    row-is : getD (rowsOf f s) i [] ≡ rowOf (places f header) text
+    pub row-is : getD (rowsOf f s) i [] ≡ rowOf (places f header) text
     unfolding rowsOf
     row-is =
         let ls = linesOf s in

@@ -1,0 +1,92 @@
+-- Where the ids of a readable file begin: the fields there have the ids' values, and rise with the records.
+use mathlib.Core.Path.{_≡_, refl, sym, ap, _∙_}
+use mathlib.Core.Bool.{Bool, true, false, _&&_}
+use mathlib.Core.List.{List, [], map, List·Memᴰ·tail}
+use Prim.Native.Nat.{ℕ, zero, suc, _+_, _-_, _≤_, _<_}
+use native.Mathlib.Omega.{arith}
+use lib.Dec.{ltb}
+use lib.ListN.{length, getD, drop, length-map, length-drop}
+use borrow.Author.Tests.{ltb-true}
+use Rattle.meaning.specs.declared.Column.{Column}
+use Rattle.meaning.specs.Lists.{empty}
+use Rattle.meaning.specs.Bytes.{Line, linesFrom, linesOf, startOf, countLf}
+use Rattle.meaning.specs.Columns as C
+use Rattle.meaning.specs.Columns.{columnOf, countOf, places, headerOf, cell, rowOf, rowsOf}
+use Rattle.meaning.specs.Tables.{under, idColumn}
+use Rattle.meaning.specs.Refusals.{inFile, blank}
+use Rattle.meaning.specs.Promises.{noLine, NoneBroken}
+use Rattle.meaning.proofs.ListLaws.{and-both}
+use Rattle.meaning.proofs.Laws.{getD-map-in}
+use Rattle.meaning.proofs.FirstBroken.{silent-none}
+use Rattle.meaning.proofs.Columns.{row-at}
+use Rattle.meaning.proofs.Readable.{row-is, no-stray, line-kept}
+use Rattle.text.proofs.Lines.{lines-all}
+use Rattle.ordering.specs.Ids.{valueOn}
+use Rattle.indexes.specs.Order.{idsOf, idOf}
+use Rattle.indexes.specs.Index.{indexed, loneClaims, loneVerdict}
+use Rattle.indexes.specs.Promises.{Reads}
+use Rattle.id_places.specs.Places.{startIn, ownColumn, idStart}
+use Rattle.id_places.proofs.Starts.{Stood, Among, among, start-within, value-on}
+
+-- the id of each of files 1 to 4 is known and needed
+pub record Needed (f : ℕ) : Type 0 where
+  pub known : idColumn f < countOf f
+  pub need : columnOf f (idColumn f) .need ≡ true
+
+pub needed : (f : ℕ) → indexed f ≡ true → Needed f
+unfolding indexed idColumn countOf columnOf C.knownAt C.schema C.schemas C.stopsColumns C.routesColumns C.calendarColumns C.tripsColumns
+needed zero h = let z : _≡_ {A = ℕ} 0 1 = ap (λ (t : Bool). two t) h in absurd (omega arith)
+  where
+    two : Bool → ℕ
+    two true = 1
+    two false = 0
+needed (suc zero) h = record { known = omega arith; need = refl }
+needed (suc (suc zero)) h = record { known = omega arith; need = refl }
+needed (suc (suc (suc zero))) h = record { known = omega arith; need = refl }
+needed (suc (suc (suc (suc zero)))) h = record { known = omega arith; need = refl }
+needed (suc (suc (suc (suc (suc f))))) h = let z = ltb-true (suc (suc (suc (suc (suc f))))) 5 (and-both _ _ h .1) in absurd (omega (arith, z))
+
+module _ (f : ℕ) (s : List ℕ) (reads : Reads f s) where
+  quiet : NoneBroken (inFile f (linesOf s))
+  unfolding loneVerdict loneClaims
+  quiet p m = silent-none (loneClaims f s) .0 (reads .verdict) p (List·Memᴰ·tail (List·Memᴰ·tail (List·Memᴰ·tail m)))
+
+  module _ (r : ℕ) (first : 0 < r) (last : r < length (linesOf s)) where
+    row-in : r - 1 < length (rowsOf f s)
+    unfolding rowsOf
+    row-in = simp (length-map, length-drop) (omega arith)
+
+    abbrev line : Line
+    line = getD (linesOf s) r noLine
+
+    there : r - 1 + 2 - 1 ≡ r
+    there = omega arith
+
+    id-is : idOf (idsOf f s) r ≡ cell (line .text) (ownColumn f s)
+    unfolding idOf idsOf ownColumn
+    id-is =
+        getD-map-in (under (idColumn f)) (rowsOf f s) (r - 1) [] [] row-in
+        ∙ ap (λ (w : List (List ℕ)). getD w (idColumn f) []) (rw there at (row-is f s quiet (r - 1) row-in))
+        ∙ row-at (places f (headerOf (linesOf s))) (line .text) (idColumn f)
+
+    id-there : empty (cell (line .text) (ownColumn f s)) ≡ false
+    unfolding blank idOf idsOf
+    id-there =
+        let n = needed f (reads .asked) in
+        let k = line-kept f s quiet (r - 1) row-in (idColumn f) (n .known) .there in
+        let z : empty (getD (getD (rowsOf f s) (r - 1) []) (idColumn f) []) ≡ false = rw (n .need) at k in
+        rw (getD-map-in (under (idColumn f)) (rowsOf f s) (r - 1) [] [] row-in, id-is) at z
+
+    stands : Among s (startOf s) r
+    unfolding linesOf
+    stands = among r s (startOf s) last
+
+    -- the field that begins where the id of a record does has the id's value
+    pub start-value : valueOn s (idStart f s r) ≡ idOf (idsOf f s) r
+    unfolding idStart linesOf
+    start-value = value-on s line (stands .over) (ownColumn f s) (stands .stood) (rw there at (no-stray f s quiet (r - 1) row-in)) id-there ∙ sym id-is
+
+    -- ids of later records begin later
+    pub start-rise : (q : ℕ) → r < q → q < length (linesOf s) → idStart f s r < idStart f s q
+    unfolding idStart linesOf
+    start-rise q h l = omega arith
