@@ -52,7 +52,10 @@ fn around(line: &str, field: &Range<usize>) -> Range<usize> {
     let after = |room: usize| fitting(line[field.end..].chars(), room);
     // What one side doesn't need is the other's.
     let before = fitting(line[..field.start].chars().rev(), left - after(left / 2).wide);
-    field.start - before.bytes..field.end + after(left - before.wide).bytes
+    let start = field.start - before.bytes;
+    // Marks go with the letter that they stand on.
+    let marks = if start > 0 { fitting(line[start..field.start].chars(), 0).bytes } else { 0 };
+    start + marks..field.end + after(left - before.wide).bytes
 }
 
 /// A run of characters: its bytes, and how wide it is shown.
@@ -193,10 +196,17 @@ mod tests {
         assert_eq!(shown(&line, 2), [text, format!("{}^", " ".repeat(37))]);
         let line = format!("a,{}", "東".repeat(39));
         assert_eq!(shown(&line, 2), [format!("... {} ...", "東".repeat(33)), format!("    {}", "^".repeat(66))]);
+        // A mark on a letter isn't cut from it, on either side; one at the line's own beginning has none, and stays.
+        let line = format!("{0},b,{0}", "e\u{301}".repeat(40));
+        let text = format!("... {0},b,{0} ...", "e\u{301}".repeat(32));
+        assert_eq!(shown(&line, 2), [text, format!("{}^", " ".repeat(37))]);
+        let line = format!("\u{301},b,{}", "x".repeat(100));
+        assert_eq!(shown(&line, 2), [format!("\u{301},b,{} ...", "x".repeat(64)), " ^".to_string()]);
         // Marks that take no room are no reason to show a line of any length.
         let line = format!("e{},b", "\u{301}".repeat(1000));
-        let [text, carets] = shown(&line, 2);
-        assert_eq!((text.len(), &carets[..]), (4 + 199 * 2 + 1 + 1, "     ^"));
+        assert_eq!(shown(&line, 2), ["... ,b", "     ^"]);
+        let line = format!("b,e{}", "\u{301}".repeat(1000));
+        assert_eq!(shown(&line, 1), [format!("b,e{} ...", "\u{301}".repeat(199)), "^".to_string()]);
     }
 
     /// The characters that begin above the carets.

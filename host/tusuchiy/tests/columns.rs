@@ -66,6 +66,11 @@ fn a_field_far_behind() {
     let report = document(&[with_stops(format!("{STOPS}A,{note},Alder,1.5,x\n")).path()]);
     let refusal = report.get("refusal");
     assert_eq!((refusal.get("cut"), refusal.get("text").text().len()), (&Json::Bool(true), 400));
+    // A syllable in three parts is shown whole or not at all: a vowel without its consonant would take room of its own.
+    let syllable = "\u{1112}\u{1161}\u{11ab}";
+    let shown = format!("    ... {},Alder,1.5,x", syllable.repeat(27));
+    let carets = format!("    {}^", " ".repeat(4 + 2 * 27 + 11));
+    assert_printed(&format!("A,{},Alder,1.5,x", syllable.repeat(400)), ":2:5", &[&shown, &carets]);
 }
 
 /// The header of refusal 8: of all second standings the one furthest left, behind the mark of UTF-8 and before CR too.
