@@ -13,7 +13,7 @@ use Rattle.meaning.specs.Bytes.{Line, linesFrom, linesOf, startOf, countLf}
 use Rattle.meaning.specs.Columns as C
 use Rattle.meaning.specs.Columns.{columnOf, countOf, places, headerOf, cell, rowOf, rowsOf}
 use Rattle.meaning.specs.Tables.{under, idColumn}
-use Rattle.meaning.specs.Refusals.{inFile, blank}
+use Rattle.meaning.specs.Refusals.{inFile, rule5, blank}
 use Rattle.meaning.specs.Promises.{noLine, NoneBroken}
 use Rattle.meaning.proofs.ListLaws.{and-both}
 use Rattle.meaning.proofs.Laws.{getD-map-in}
@@ -44,49 +44,69 @@ needed (suc zero) h = record { known = omega arith; need = refl }
 needed (suc (suc zero)) h = record { known = omega arith; need = refl }
 needed (suc (suc (suc zero))) h = record { known = omega arith; need = refl }
 needed (suc (suc (suc (suc zero)))) h = record { known = omega arith; need = refl }
-needed (suc (suc (suc (suc (suc f))))) h = let z = ltb-true (suc (suc (suc (suc (suc f))))) 5 (and-both _ _ h .1) in absurd (omega (arith, z))
+needed (suc (suc (suc (suc (suc f))))) h = let z = ltb-true (suc (suc (suc (suc (suc f))))) 5 (and-both (ltb 0 (suc (suc (suc (suc (suc f)))))) _ h .1) in absurd (omega (arith, z))
 
 module _ (f : ℕ) (s : List ℕ) (reads : Reads f s) where
   quiet : NoneBroken (inFile f (linesOf s))
   unfolding loneVerdict loneClaims
   quiet p m = silent-none (loneClaims f s) .0 (reads .verdict) p (List·Memᴰ·tail (List·Memᴰ·tail (List·Memᴰ·tail m)))
 
-  module _ (r : ℕ) (first : 0 < r) (last : r < length (linesOf s)) where
-    row-in : r - 1 < length (rowsOf f s)
+  -- a record, by its index
+  module _ (i : ℕ) (last : suc i < length (linesOf s)) where
+    row-in : i < length (rowsOf f s)
     unfolding rowsOf
     row-in = simp (length-map, length-drop) (omega arith)
 
     abbrev line : Line
-    line = getD (linesOf s) r noLine
+    line = getD (linesOf s) (suc i) noLine
 
-    there : r - 1 + 2 - 1 ≡ r
+    there : i + 2 - 1 ≡ suc i
     there = omega arith
 
-    id-is : idOf (idsOf f s) r ≡ cell (line .text) (ownColumn f s)
+    id-is : idOf (idsOf f s) (suc i) ≡ cell (line .text) (ownColumn f s)
     unfolding idOf idsOf ownColumn
     id-is =
-        getD-map-in (under (idColumn f)) (rowsOf f s) (r - 1) [] [] row-in
-        ∙ ap (λ (w : List (List ℕ)). getD w (idColumn f) []) (rw there at (row-is f s quiet (r - 1) row-in))
-        ∙ row-at (places f (headerOf (linesOf s))) (line .text) (idColumn f)
+        let e : suc i - 1 ≡ i = omega arith in
+        let z : getD (rowsOf f s) i [] ≡ rowOf (places f (headerOf (linesOf s))) (getD (linesOf s) (i + 2 - 1) noLine .text) = row-is f s quiet i row-in in
+        rw e
+        (getD-map-in (under (idColumn f)) (rowsOf f s) i [] [] row-in
+        ∙ ap (λ (w : List (List ℕ)). getD w (idColumn f) []) (rw there at z)
+        ∙ row-at (places f (headerOf (linesOf s))) (line .text) (idColumn f))
+
+    calm-line : rule5 (line .text) ≡ false
+    calm-line = let z : rule5 (getD (linesOf s) (i + 2 - 1) noLine .text) ≡ false = no-stray f s quiet i row-in in rw there at z
 
     id-there : empty (cell (line .text) (ownColumn f s)) ≡ false
     unfolding blank idOf idsOf
     id-there =
         let n = needed f (reads .asked) in
-        let k = line-kept f s quiet (r - 1) row-in (idColumn f) (n .known) .there in
-        let z : empty (getD (getD (rowsOf f s) (r - 1) []) (idColumn f) []) ≡ false = rw (n .need) at k in
-        rw (getD-map-in (under (idColumn f)) (rowsOf f s) (r - 1) [] [] row-in, id-is) at z
+        let k = line-kept f s quiet i row-in (idColumn f) (n .known) .there in
+        let z : empty (getD (getD (rowsOf f s) i []) (idColumn f) []) ≡ false = rw (n .need) at k in
+        let e : suc i - 1 ≡ i = omega arith in
+        rw (← id-is, e, getD-map-in (under (idColumn f)) (rowsOf f s) i [] [] row-in) z
 
-    stands : Among s (startOf s) r
+    stands : Among s (startOf s) (suc i)
     unfolding linesOf
-    stands = among r s (startOf s) last
+    stands = among (suc i) s (startOf s) last
 
     -- the field that begins where the id of a record does has the id's value
-    pub start-value : valueOn s (idStart f s r) ≡ idOf (idsOf f s) r
+    pub start-value : valueOn s (idStart f s (suc i)) ≡ idOf (idsOf f s) (suc i)
     unfolding idStart linesOf
-    start-value = value-on s line (stands .over) (ownColumn f s) (stands .stood) (rw there at (no-stray f s quiet (r - 1) row-in)) id-there ∙ sym id-is
+    start-value = value-on s line (stands .over) (ownColumn f s) (stands .stood) calm-line id-there ∙ sym id-is
 
-    -- ids of later records begin later
-    pub start-rise : (q : ℕ) → r < q → q < length (linesOf s) → idStart f s r < idStart f s q
+    start-inside : (line .start ≤ idStart f s (suc i)) × (idStart f s (suc i) < stands .over)
     unfolding idStart linesOf
-    start-rise q h l = omega arith
+    start-inside =
+        let w = start-within s line (stands .over) (ownColumn f s) (stands .stood) in
+        (w .0, omega (arith, w .1, stands .stood .past))
+
+    -- .. and begins within the file
+    pub start-fits : idStart f s (suc i) < length s
+    start-fits = omega (arith, start-inside .1, stands .stood .within)
+
+  -- ids of later records begin later
+  pub start-rise : (i j : ℕ) → i < j → suc j < length (linesOf s) → idStart f s (suc i) < idStart f s (suc j)
+  unfolding linesOf
+  start-rise i j h l =
+      let a = stands i (omega arith) .later (suc j) (omega arith) l in
+      omega (arith, a, start-inside i (omega arith) .1, start-inside j l .0)

@@ -33,10 +33,10 @@ module _ (f : ℕ) (s : List ℕ) (quiet : NoneBroken (inFile f (linesOf s))) wh
     unfolding rowsOf
     line-in = omega (arith, simp (length-map, length-drop) at h)
 
-    abbrev header : List (List ℕ)
+    abbrev pub header : List (List ℕ)
     header = headerOf (linesOf s)
 
-    abbrev text : List ℕ
+    abbrev pub text : List ℕ
     text = getD (linesOf s) (i + 2 - 1) noLine .text
 
     pub row-is : getD (rowsOf f s) i [] ≡ rowOf (places f header) text

@@ -1,0 +1,1 @@
+-- What an index is stands in indexes.

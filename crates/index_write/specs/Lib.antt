@@ -1,0 +1,2 @@
+-- What the writer of an index holds on its way.
+pub mod Writing

@@ -1,0 +1,179 @@
+// The writer of an index: the one that lists every record of its file once, in rising order of ids.
+ghost use mathlib.Core.Path.{_≡_};
+ghost use mathlib.Core.Bool.{false};
+ghost use Prim.Native.Nat.{ℕ, _+_, _*_, _-_, _/_, _%_, _^_, _<_, _≤_};
+ghost use lib.ListN.{length, set, drop};
+ghost use Rattle.meaning.specs.Bytes.{countLf, linesFrom, linesOf};
+ghost use Rattle.meaning.specs.Lists.{some};
+ghost use Rattle.meaning.specs.Refusals.{maxBytes};
+ghost use Rattle.ordering.specs.Cells.{cellAt, RoomAt};
+ghost use Rattle.ordering.specs.Ids.{inOrder, alike, Sorted, Stands, Apart};
+ghost use Rattle.ordering.specs.declared.By.the-variants.{Field};
+ghost use Rattle.indexes.specs.Order.{idsOf, ranked, repeats};
+ghost use Rattle.indexes.specs.Index.{version1, indexOf, indexLength, writerTests, spoken, barredOr, leftBy, wrote, written};
+ghost use Rattle.indexes.specs.Promises.{Reads};
+ghost use Rattle.id_places.specs.Places.{ownColumn};
+ghost use Rattle.index_write.specs.Writing.{Ranked, Headed, Entered, Within};
+use indexes::IndexAnswer;
+use meaning::MAX_LINES;
+use meaning::Verdict;
+use ordering::By;
+use text::LineStep;
+
+// How many bytes stand before the record numbers.
+const HEAD: usize = 8;
+
+// Have the fields in cells k and k + 1 one value?
+fn is_repeat(s: &[u8], t: &[i32], k: usize) -> bool
+    requires { ⌜ RoomAt 0 1 (k + 1) (now t) ⌝ }
+    ensures { λ r. ⌜ r ≡ alike Field (now (s .entry)) (now (t .entry)) 1 (cellAt 0 (now (t .entry)) 1 k) (cellAt 0 (now (t .entry)) 1 (k + 1)) ⌝ }
+{
+    let x = ordering::get(t, 1, 0, k);
+    let y = ordering::get(t, 1, 0, k + 1);
+    ordering::is_alike(By::Field, s, t, 1, x, y)
+}
+
+// Does a value stand in two of n sorted cells?
+fn has_repeat(s: &[u8], t: &[i32], n: usize) -> bool
+    requires { ⌜ RoomAt 0 1 n (now t) ⌝ }
+    ensures { λ r. ⌜ r ≡ some (λ k. alike Field (now (s .entry)) (now (t .entry)) 1 (cellAt 0 (now (t .entry)) 1 k) (cellAt 0 (now (t .entry)) 1 (k + 1))) 1 (n - 1) ⌝ }
+{
+    let mut k: usize = 1;
+    while k < n {
+        if is_repeat(s, t, k) {
+            return true;
+        }
+        k += 1;
+    }
+    false
+}
+
+// The cell in which the byte x stands, found by halving.
+fn cell_of(s: &[u8], t: &[i32], n: usize, x: usize) -> usize
+    requires { ⌜ RoomAt 0 1 n (now t) × (x < 2 ^ 32) ⌝ }
+    requires { ⌜ Sorted (inOrder Field (now s) (now t) 1) (cellAt 0 (now t) 1) n × Apart (cellAt 0 (now t) 1) n × Stands (cellAt 0 (now t) 1) n x ⌝ }
+    ensures { λ r. ⌜ (0 < r) × (r ≤ n) × (cellAt 0 (now (t .entry)) 1 r ≡ x) ⌝ }
+{
+    let mut lo: usize = 1;
+    let mut hi = n;
+    while lo < hi {
+        let mid = lo + (hi - lo) / 2;
+        if ordering::no_later(By::Field, s, t, 1, x, ordering::get(t, 1, 0, mid)) {
+            hi = mid;
+        } else {
+            lo = mid + 1;
+        }
+    }
+    lo
+}
+
+// A number in two bytes, low byte first.
+fn put_pair(b: &mut [u8], at: usize, v: usize)
+    requires { ⌜ (at + 2 ≤ length (now b)) × (v < 65536) ⌝ }
+    ensures { λ _. ⌜ now (b .exit) ≡ set (set (now (b .entry)) at (v % 256)) (at + 1) (v / 256) ⌝ }
+{
+    b[at] = (v % 256) as u8;
+    b[at + 1] = (v / 256) as u8;
+}
+
+// The bytes before the record numbers.
+fn put_head(b: &mut [u8], f: usize, n: usize)
+    requires { ⌜ (8 ≤ length (now b)) × (f < 256) × (n < 65536) ⌝ }
+    ensures { λ _. ⌜ Headed f n (now (b .entry)) (now (b .exit)) ⌝ }
+{
+    b[0] = b'T';
+    b[1] = b'T';
+    b[2] = b'X';
+    put_pair(b, 3, 1);
+    b[5] = f as u8;
+    put_pair(b, 6, n);
+}
+
+// The number of each record, in the entry whose cell holds where the record's id begins: the lines from `at` on, whose ids stand in column p.
+fn put_entries(f: usize, s: &[u8], at: usize, p: usize, t: &[i32], n: usize, b: &mut [u8])
+    requires { ⌜ Reads f (now s) × Ranked f (now s) n (now t) × (8 + 2 * n ≤ length (now b)) ⌝ }
+    requires { ⌜ (linesFrom (now s) at ≡ drop 1 (linesOf (now s))) × (p ≡ ownColumn f (now s)) ⌝ }
+    ensures { λ _. ⌜ Entered f (now (s .entry)) n (n + 1) (now (t .entry)) (now (b .exit)) × Within n (now (b .entry)) (now (b .exit)) ⌝ }
+{
+    let mut here = at;
+    let mut r = 1;
+    loop {
+        match text::next_line(s, here) {
+            LineStep::Line { start, end, next } => {
+                let field = columns::field_start(&s[start..end], p);
+                let k = cell_of(s, t, n, start + field);
+                put_pair(b, HEAD + (k - 1) * 2, r);
+                here = next;
+                r += 1;
+            }
+            LineStep::Done => {
+                return;
+            }
+        }
+    }
+}
+
+// An index of n records, whose ids begin where the cells say, in their order.
+fn put_index(f: usize, s: &[u8], t: &[i32], n: usize, b: &mut [u8])
+    requires { ⌜ Reads f (now s) × Ranked f (now s) n (now t) × (8 + 2 * n ≤ length (now b)) ⌝ }
+    requires { ⌜ (f < 7) × (repeats (idsOf f (now s)) ≡ false) ⌝ }
+    ensures { λ _. ⌜ now (b .exit) ≡ leftBy (IndexAnswer.Whole (8 + 2 * n)) (indexOf version1 f (ranked (idsOf f (now (s .entry))))) (now (b .entry)) ⌝ }
+{
+    let h = columns::read_header(f, s);
+    let known = h.known;
+    let next = h.next;
+    let own = rows::id_column(f);
+    put_head(b, f, n);
+    put_entries(f, s, next, known[own], t, n, b);
+}
+
+// What is written for a file that can be read, with a table of one number a record.
+fn write_read(f: usize, s: &[u8], t: &mut [i32], b: &mut [u8]) -> IndexAnswer
+    requires { ⌜ Reads f (now s) × (countLf (now s) ≤ length (now t)) ⌝ }
+    ensures { λ r. ⌜ r ≡ barredOr (spoken (writerTests version1 (idsOf f (now (s .entry))) (length (now (b .entry))))) (indexLength version1 (length (idsOf f (now (s .entry))))) ⌝ }
+    ensures { λ r. ⌜ now (b .exit) ≡ leftBy r (indexOf version1 f (ranked (idsOf f (now (s .entry))))) (now (b .entry)) ⌝ }
+{
+    let n = id_places::place_ids(f, s, t);
+    sorting::sort(By::Field, s, t, 1, 0, n);
+    if has_repeat(s, t, n) {
+        return IndexAnswer::Barred(45);
+    }
+    let need = HEAD + 2 * n;
+    if b.len() < need {
+        return IndexAnswer::Barred(46);
+    }
+    put_index(f, s, t, n, b);
+    IndexAnswer::Whole(need)
+}
+
+// A number for each record of the longest file.
+fn blank() -> [i32; MAX_LINES] {
+    [0i32; MAX_LINES]
+}
+
+// The same, with a table of its own.
+fn write_alone(f: usize, s: &[u8], b: &mut [u8]) -> IndexAnswer
+    requires { ⌜ Reads f (now s) ⌝ }
+    ensures { λ r. ⌜ r ≡ barredOr (spoken (writerTests version1 (idsOf f (now (s .entry))) (length (now (b .entry))))) (indexLength version1 (length (idsOf f (now (s .entry))))) ⌝ }
+    ensures { λ r. ⌜ now (b .exit) ≡ leftBy r (indexOf version1 f (ranked (idsOf f (now (s .entry))))) (now (b .entry)) ⌝ }
+{
+    let mut t = blank();
+    write_read(f, s, &mut t, b)
+}
+
+// The writer: any file number, any file, any buffer.
+pub fn write_index(f: usize, s: &[u8], b: &mut [u8]) -> IndexAnswer
+    ensures { λ r. ⌜ r ≡ wrote f (now (s .entry)) (length (now (b .entry))) ⌝ }
+    ensures { λ _. ⌜ now (b .exit) ≡ written f (now (s .entry)) (now (b .entry)) ⌝ }
+{
+    if f == 0 {
+        return IndexAnswer::Barred(42);
+    }
+    if 4 < f {
+        return IndexAnswer::Barred(42);
+    }
+    match alone::read_alone(f, s) {
+        Verdict::Readable => write_alone(f, s, b),
+        Verdict::Unreadable(r) => IndexAnswer::Unread(r),
+    }
+}
