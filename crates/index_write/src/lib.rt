@@ -4,7 +4,7 @@ ghost use mathlib.Core.Bool.{false};
 ghost use Prim.Native.Nat.{ℕ, _+_, _*_, _-_, _/_, _%_, _^_, _<_, _≤_};
 ghost use lib.ListN.{length, set, drop};
 ghost use Rattle.meaning.specs.Bytes.{countLf, linesFrom, linesOf};
-ghost use Rattle.meaning.specs.Lists.{some};
+ghost use Rattle.meaning.specs.Lists.{some, laid};
 ghost use Rattle.meaning.specs.Refusals.{maxBytes};
 ghost use Rattle.ordering.specs.Cells.{cellAt, RoomAt};
 ghost use Rattle.ordering.specs.Ids.{inOrder, alike, Sorted, Stands, Apart};
@@ -13,7 +13,7 @@ ghost use Rattle.indexes.specs.Order.{idsOf, ranked, repeats};
 ghost use Rattle.indexes.specs.Index.{version1, indexOf, indexLength, writerTests, spoken, barredOr, leftBy, wrote, written};
 ghost use Rattle.indexes.specs.Promises.{Reads};
 ghost use Rattle.id_places.specs.Places.{ownColumn};
-ghost use Rattle.index_write.specs.Writing.{Ranked, Headed, Entered, Within};
+ghost use Rattle.index_write.specs.Writing.{Ranked, headOf, Entry, Entered, Within};
 use indexes::IndexAnswer;
 use meaning::MAX_LINES;
 use meaning::Verdict;
@@ -77,19 +77,37 @@ fn put_pair(b: &mut [u8], at: usize, v: usize)
 }
 
 // The bytes before the record numbers.
-fn put_head(b: &mut [u8], f: usize, n: usize)
-    requires { ⌜ (8 ≤ length (now b)) × (f < 256) × (n < 65536) ⌝ }
-    ensures { λ _. ⌜ Headed f n (now (b .entry)) (now (b .exit)) ⌝ }
+fn head_of(f: usize, n: usize) -> [u8; 8]
+    requires { ⌜ (f < 256) × (n < 65536) ⌝ }
+    ensures { λ r. ⌜ r ≡ headOf f n ⌝ }
 {
-    b[0] = b'T';
-    b[1] = b'T';
-    b[2] = b'X';
-    put_pair(b, 3, 1);
-    b[5] = f as u8;
-    put_pair(b, 6, n);
+    [b'T', b'T', b'X', 1, 0, f as u8, (n % 256) as u8, (n / 256) as u8]
 }
 
-// The number of each record, in the entry whose cell holds where the record's id begins: the lines from `at` on, whose ids stand in column p.
+// These bytes, at the start of a buffer.
+fn put_head(b: &mut [u8], head: [u8; 8])
+    requires { ⌜ 8 ≤ length (now b) ⌝ }
+    ensures { λ _. ⌜ now (b .exit) ≡ laid head (now (b .entry)) ⌝ }
+{
+    let mut i: usize = 0;
+    while i < HEAD {
+        b[i] = head[i];
+        i += 1;
+    }
+}
+
+// Record r, in the entry whose cell holds the byte x.
+fn put_entry(s: &[u8], t: &[i32], n: usize, x: usize, r: usize, b: &mut [u8])
+    requires { ⌜ RoomAt 0 1 n (now t) × (x < 2 ^ 32) ⌝ }
+    requires { ⌜ Sorted (inOrder Field (now s) (now t) 1) (cellAt 0 (now t) 1) n × Apart (cellAt 0 (now t) 1) n × Stands (cellAt 0 (now t) 1) n x ⌝ }
+    requires { ⌜ (8 + 2 * n ≤ length (now b)) × (r < 65536) ⌝ }
+    ensures { λ _. ⌜ Entry n x r (now (t .entry)) (now (b .entry)) (now (b .exit)) ⌝ }
+{
+    let k = cell_of(s, t, n, x);
+    put_pair(b, HEAD + (k - 1) * 2, r);
+}
+
+// The number of each record, in the entry whose cell holds where its id begins: the lines from `at` on, whose ids stand in column p.
 fn put_entries(f: usize, s: &[u8], at: usize, p: usize, t: &[i32], n: usize, b: &mut [u8])
     requires { ⌜ Reads f (now s) × Ranked f (now s) n (now t) × (8 + 2 * n ≤ length (now b)) ⌝ }
     requires { ⌜ (linesFrom (now s) at ≡ drop 1 (linesOf (now s))) × (p ≡ ownColumn f (now s)) ⌝ }
@@ -101,8 +119,7 @@ fn put_entries(f: usize, s: &[u8], at: usize, p: usize, t: &[i32], n: usize, b: 
         match text::next_line(s, here) {
             LineStep::Line { start, end, next } => {
                 let field = columns::field_start(&s[start..end], p);
-                let k = cell_of(s, t, n, start + field);
-                put_pair(b, HEAD + (k - 1) * 2, r);
+                put_entry(s, t, n, start + field, r, b);
                 here = next;
                 r += 1;
             }
@@ -123,7 +140,7 @@ fn put_index(f: usize, s: &[u8], t: &[i32], n: usize, b: &mut [u8])
     let known = h.known;
     let next = h.next;
     let own = rows::id_column(f);
-    put_head(b, f, n);
+    put_head(b, head_of(f, n));
     put_entries(f, s, next, known[own], t, n, b);
 }
 

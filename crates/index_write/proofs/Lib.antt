@@ -1,0 +1,3 @@
+-- The laws that the proofs apply.
+pub mod Cells
+pub mod Bytes
