@@ -1,23 +1,23 @@
 -- Where the ids of a readable file begin: the fields there have the ids' values, and rise with the records.
 use mathlib.Core.Path.{_≡_, refl, sym, ap, _∙_}
-use mathlib.Core.Bool.{Bool, true, false, _&&_}
-use mathlib.Core.List.{List, [], map, List·Memᴰ·tail}
+use mathlib.Core.Bool.{Bool, true, false, cond, not, _&&_}
+use mathlib.Core.List.{List, [], _∷_, map, List·Memᴰ·head, List·Memᴰ·tail}
 use Prim.Native.Nat.{ℕ, zero, suc, _+_, _-_, _≤_, _<_}
 use native.Mathlib.Omega.{arith}
-use lib.Dec.{ltb}
+use lib.Dec.{ltb, eqb}
 use lib.ListN.{length, getD, drop, length-map, length-drop}
-use borrow.Author.Tests.{ltb-true}
+use borrow.Author.Tests.{ltb-true, ltb-false, eqb-true, eq-eqb, ne-eqb, not-false}
 use Rattle.meaning.specs.declared.Column.{Column}
 use Rattle.meaning.specs.Lists.{empty}
 use Rattle.meaning.specs.Bytes.{Line, linesFrom, linesOf, startOf, countLf}
 use Rattle.meaning.specs.Columns as C
 use Rattle.meaning.specs.Columns.{columnOf, countOf, places, headerOf, cell, rowOf, rowsOf}
 use Rattle.meaning.specs.Tables.{under, idColumn}
-use Rattle.meaning.specs.Refusals.{inFile, rule5, blank}
+use Rattle.meaning.specs.Refusals.{maxBytes, maxLines, claim, rule1, rule2, ended, rule4, inFile, rule5, blank}
 use Rattle.meaning.specs.Promises.{noLine, NoneBroken}
 use Rattle.meaning.proofs.ListLaws.{and-both}
 use Rattle.meaning.proofs.Laws.{getD-map-in}
-use Rattle.meaning.proofs.FirstBroken.{silent-none}
+use Rattle.meaning.proofs.FirstBroken.{spoken-first, silent-none}
 use Rattle.meaning.proofs.Columns.{row-at}
 use Rattle.meaning.proofs.Readable.{row-is, no-stray, line-kept}
 use Rattle.text.proofs.Lines.{lines-all}
@@ -25,6 +25,7 @@ use Rattle.ordering.specs.Ids.{valueOn}
 use Rattle.indexes.specs.Order.{idsOf, idOf}
 use Rattle.indexes.specs.Index.{indexed, loneClaims, loneVerdict}
 use Rattle.indexes.specs.Promises.{Reads}
+use Rattle.indexes.proofs.Beside.{beside}
 use Rattle.id_places.specs.Places.{startIn, ownColumn, idStart}
 use Rattle.id_places.proofs.Starts.{Stood, Among, among, start-within, value-on}
 
@@ -46,10 +47,56 @@ needed (suc (suc (suc zero))) h = record { known = omega arith; need = refl }
 needed (suc (suc (suc (suc zero)))) h = record { known = omega arith; need = refl }
 needed (suc (suc (suc (suc (suc f))))) h = let z = ltb-true (suc (suc (suc (suc (suc f))))) 5 (and-both (ltb 0 (suc (suc (suc (suc (suc f)))))) _ h .1) in absurd (omega (arith, z))
 
+-- an LF byte is counted
+lf-counted : (s : List ℕ) (i : ℕ) → i < length s → getD s i 0 ≡ 10 → 1 ≤ countLf s
+unfolding countLf
+lf-counted [] i h e = absurd (omega arith)
+lf-counted (b ∷ r) zero h e = rw (eq-eqb b 10 e) (omega arith)
+lf-counted (b ∷ r) (suc i) h e = go (eqb b 10) (lf-counted r i (omega arith) e)
+  where
+    go : (t : Bool) → 1 ≤ countLf r → 1 ≤ cond t (countLf r + 1) (countLf r)
+    go true k = omega arith
+    go false k = k
+
+-- a file that isn't empty and keeps rule 4 has a line
+ended-some : (f : ℕ) (s : List ℕ) → (s ≡ [] → ⊥) → rule4 [] f s 0 ≡ false → 1 ≤ countLf s
+unfolding rule4 empty ended
+ended-some f [] h e = absurd (h refl)
+ended-some f (b ∷ r) h e =
+    let z : not (eqb (getD (b ∷ r) (suc (length r) - 1) 0) 10) ≡ false = rw (ne-eqb (suc (length r)) 0 (λ q. omega arith)) at e in
+    lf-counted (b ∷ r) (suc (length r) - 1) (omega arith) (eqb-true _ _ (not-false _ z))
+
+-- how long a readable file is, and how many lines it has
+pub record Sized (s : List ℕ) : Type 0 where
+  pub short : length s ≤ maxBytes
+  pub few : countLf s ≤ maxLines
+  pub some : 1 ≤ countLf s
+
 module _ (f : ℕ) (s : List ℕ) (reads : Reads f s) where
+  whole : NoneBroken (loneClaims f s)
+  unfolding loneVerdict
+  whole = silent-none (loneClaims f s) .0 (reads .verdict)
+
+  unempty : s ≡ [] → ⊥
+  unfolding loneVerdict
+  unempty e =
+      let v = spoken-first (loneClaims f s) _ .1 (beside f s .empty (reads .asked) e) in
+      let r = reads .verdict in
+      let z : _≡_ {A = ℕ} 0 1 = cc in
+      omega arith
+
+  -- rules 1, 2 and 4
+  pub sized : Sized s
+  unfolding loneClaims rule1 rule2
+  sized = record {
+    short = ltb-false _ _ (whole (claim 1 f 0 (rule1 f s 0)) (List·Memᴰ·head refl));
+    few = ltb-false _ _ (whole (claim 2 f 0 (rule2 f s 0)) (List·Memᴰ·tail (List·Memᴰ·head refl)));
+    some = ended-some f s unempty (whole (claim 4 f 0 (rule4 [] f s 0)) (List·Memᴰ·tail (List·Memᴰ·tail (List·Memᴰ·head refl))));
+  }
+
   quiet : NoneBroken (inFile f (linesOf s))
-  unfolding loneVerdict loneClaims
-  quiet p m = silent-none (loneClaims f s) .0 (reads .verdict) p (List·Memᴰ·tail (List·Memᴰ·tail (List·Memᴰ·tail m)))
+  unfolding loneClaims
+  quiet p m = whole p (List·Memᴰ·tail (List·Memᴰ·tail (List·Memᴰ·tail m)))
 
   -- a record, by its index
   module _ (i : ℕ) (last : suc i < length (linesOf s)) where
