@@ -1,3 +1,4 @@
 -- The laws that the proofs apply.
 pub mod Cells
 pub mod Bytes
+pub mod Entries

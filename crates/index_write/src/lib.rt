@@ -81,7 +81,16 @@ fn head_of(f: usize, n: usize) -> [u8; 8]
     requires { ⌜ (f < 256) × (n < 65536) ⌝ }
     ensures { λ r. ⌜ r ≡ headOf f n ⌝ }
 {
-    [b'T', b'T', b'X', 1, 0, f as u8, (n % 256) as u8, (n / 256) as u8]
+    [
+        b'T',
+        b'T',
+        b'X',
+        1,
+        0,
+        f as u8,
+        (n % 256) as u8,
+        (n / 256) as u8,
+    ]
 }
 
 // These bytes, at the start of a buffer.
@@ -111,6 +120,7 @@ fn put_entry(s: &[u8], t: &[i32], n: usize, x: usize, r: usize, b: &mut [u8])
 fn put_entries(f: usize, s: &[u8], at: usize, p: usize, t: &[i32], n: usize, b: &mut [u8])
     requires { ⌜ Reads f (now s) × Ranked f (now s) n (now t) × (8 + 2 * n ≤ length (now b)) ⌝ }
     requires { ⌜ (linesFrom (now s) at ≡ drop 1 (linesOf (now s))) × (p ≡ ownColumn f (now s)) ⌝ }
+    requires { ⌜ (length (now s) ≤ maxBytes) × (n < 65536) ⌝ }
     ensures { λ _. ⌜ Entered f (now (s .entry)) n (n + 1) (now (t .entry)) (now (b .exit)) × Within n (now (b .entry)) (now (b .exit)) ⌝ }
 {
     let mut here = at;
@@ -133,7 +143,8 @@ fn put_entries(f: usize, s: &[u8], at: usize, p: usize, t: &[i32], n: usize, b: 
 // An index of n records, whose ids begin where the cells say, in their order.
 fn put_index(f: usize, s: &[u8], t: &[i32], n: usize, b: &mut [u8])
     requires { ⌜ Reads f (now s) × Ranked f (now s) n (now t) × (8 + 2 * n ≤ length (now b)) ⌝ }
-    requires { ⌜ (f < 7) × (repeats (idsOf f (now s)) ≡ false) ⌝ }
+    requires { ⌜ (f < 5) × (repeats (idsOf f (now s)) ≡ false) ⌝ }
+    requires { ⌜ (length (now s) ≤ maxBytes) × (n < 65536) ⌝ }
     ensures { λ _. ⌜ now (b .exit) ≡ leftBy (IndexAnswer.Whole (8 + 2 * n)) (indexOf version1 f (ranked (idsOf f (now (s .entry))))) (now (b .entry)) ⌝ }
 {
     let h = columns::read_header(f, s);
