@@ -7,8 +7,7 @@ use native.Mathlib.Omega.{arith}
 use native.Mathlib.Nat.{div-add-mod'}
 use lib.IntN.{ℤ}
 use lib.ListN.{length, getD, set, take, drop, length-set}
-use lib.Seq.{length-take-le, drop-cons, take-suc, append-snoc, set-at, take-all, getD-set-same, getD-set-other}
-use Rattle.meaning.specs.Lists.{laid}
+use lib.Seq.{length-take-le, drop-cons, take-suc, append-snoc, set-at, getD-set-same, getD-set-other}
 use Rattle.ordering.specs.Cells.{cellAt}
 use Rattle.indexes.specs.Index.{numberAt, version1, entry}
 use Rattle.index_write.specs.Writing.{Within, Entry}
@@ -26,9 +25,8 @@ module _ (head lent b : List ℕ) (i : ℕ) (inv : b ≡ take i head ++ drop i l
       )
       (sym (append-snoc (take i head) (getD head i 0) (drop (suc i) lent)))
 
-  pub copy-end : length head ≡ i → b ≡ laid head lent
-  unfolding laid
-  copy-end e = inv ∙ rw (e, take-all i head (omega (arith, e)))
+  pub copy-end : (n : ℕ) → i ≡ n → b ≡ take n head ++ drop n lent
+  copy-end n e = rw (← e) inv
 
 -- ---- a record number in its entry
 

@@ -2,3 +2,5 @@
 pub mod Cells
 pub mod Bytes
 pub mod Entries
+pub mod Whole
+pub mod Answers

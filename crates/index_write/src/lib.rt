@@ -2,14 +2,15 @@
 ghost use mathlib.Core.Path.{_≡_};
 ghost use mathlib.Core.Bool.{false};
 ghost use Prim.Native.Nat.{ℕ, _+_, _*_, _-_, _/_, _%_, _^_, _<_, _≤_};
-ghost use lib.ListN.{length, set, drop};
+ghost use lib.ListN.{length, set, take, drop};
+ghost use mathlib.Core.List.{_++_};
 ghost use Rattle.meaning.specs.Bytes.{countLf, linesFrom, linesOf};
-ghost use Rattle.meaning.specs.Lists.{some, laid};
+ghost use Rattle.meaning.specs.Lists.{some};
 ghost use Rattle.meaning.specs.Refusals.{maxBytes};
 ghost use Rattle.ordering.specs.Cells.{cellAt, RoomAt};
 ghost use Rattle.ordering.specs.Ids.{inOrder, alike, Sorted, Stands, Apart};
 ghost use Rattle.ordering.specs.declared.By.the-variants.{Field};
-ghost use Rattle.indexes.specs.Order.{idsOf, ranked, repeats};
+ghost use Rattle.indexes.specs.Order.{idsOf, ranked};
 ghost use Rattle.indexes.specs.Index.{version1, indexOf, indexLength, writerTests, spoken, barredOr, leftBy, wrote, written};
 ghost use Rattle.indexes.specs.Promises.{Reads};
 ghost use Rattle.id_places.specs.Places.{ownColumn};
@@ -96,7 +97,7 @@ fn head_of(f: usize, n: usize) -> [u8; 8]
 // These bytes, at the start of a buffer.
 fn put_head(b: &mut [u8], head: [u8; 8])
     requires { ⌜ 8 ≤ length (now b) ⌝ }
-    ensures { λ _. ⌜ now (b .exit) ≡ laid head (now (b .entry)) ⌝ }
+    ensures { λ _. ⌜ now (b .exit) ≡ take 8 head ++ drop 8 (now (b .entry)) ⌝ }
 {
     let mut i: usize = 0;
     while i < HEAD {
@@ -143,7 +144,7 @@ fn put_entries(f: usize, s: &[u8], at: usize, p: usize, t: &[i32], n: usize, b: 
 // An index of n records, whose ids begin where the cells say, in their order.
 fn put_index(f: usize, s: &[u8], t: &[i32], n: usize, b: &mut [u8])
     requires { ⌜ Reads f (now s) × Ranked f (now s) n (now t) × (8 + 2 * n ≤ length (now b)) ⌝ }
-    requires { ⌜ (f < 5) × (repeats (idsOf f (now s)) ≡ false) ⌝ }
+    requires { ⌜ (f < 5) × (some (λ k. alike Field (now s) (now t) 1 (cellAt 0 (now t) 1 k) (cellAt 0 (now t) 1 (k + 1))) 1 (n - 1) ≡ false) ⌝ }
     requires { ⌜ (length (now s) ≤ maxBytes) × (n < 65536) ⌝ }
     ensures { λ _. ⌜ now (b .exit) ≡ leftBy (IndexAnswer.Whole (8 + 2 * n)) (indexOf version1 f (ranked (idsOf f (now (s .entry))))) (now (b .entry)) ⌝ }
 {

@@ -48,7 +48,7 @@ add-put-entry c = let h = line-found _ _ _ _ _ (sym (c .before .before .before .
 put-entry-requires : tie.Need-put-entry-requires Inv-loop μ-loop
 unfolding part
 put-entry-requires c κs =
-    let h = line-found _ _ _ _ _ (sym (c .before .before .before .before .before .before .next-line .ensures) ∙ c .before .before .before .before .start .given .1) in 
+    let h = line-found _ _ _ _ _ (sym (c .before .before .before .before .before .before .next-line .ensures) ∙ c .before .before .before .before .start .given .1) in
     let g = c .before .before .before .before .before .before .before .before .before .before in
     let l = c .before .before .before .before .before .before .before .loop in
     let w = g .pre .0 .1 in
@@ -68,7 +68,7 @@ loop-less c = let h = line-found _ _ _ _ _ (sym (c .before .before .before .befo
 loop-again : tie.Need-loop-again Inv-loop μ-loop
 unfolding part
 loop-again c =
-    let h = line-found _ _ _ _ _ (sym (c .before .before .before .before .before .before .before .before .before .next-line .ensures) ∙ c .before .before .before .before .before .before .before .start .given .1) in 
+    let h = line-found _ _ _ _ _ (sym (c .before .before .before .before .before .before .before .before .before .next-line .ensures) ∙ c .before .before .before .before .before .before .before .start .given .1) in
     let g = c .before .before .before .before .before .before .before .before .before .before .before .before .before in
     let l = c .before .before .before .before .before .before .before .before .before .before .loop in
     let w = g .pre .0 .1 in

@@ -37,8 +37,8 @@ same-length c = c .before .loop .inv .1
 
 returns : tie.Need-returns Inv-loop μ-loop
 returns c =
-    let e : length (c .before .before .blocks) ≡ c .before .loop .i = omega (arith, c .before .before .good) in
-    copy-end (c .before .before .blocks) _ _ _ (c .before .loop .inv .2) e
+    let e : c .before .loop .i ≡ 8 = omega arith in
+    copy-end (c .before .before .args .t2) (c .before .before .args .b .now) _ _ (c .before .loop .inv .2) 8 e
 
 pub put-head-spec : {M : Type 1} → statement M
 put-head-spec =

@@ -1,46 +1,39 @@
+-- `index_write::write_index` meets its contract.
+use Rattle.index_write.proofs.Answers.{asked-is, asked-zero, asked-past, wrote-outside, wrote-unread, wrote-read}
+use mathlib.Core.Path.{sym, _∙_}
+use native.Mathlib.Omega.{arith}
 use borrow.Author.Needs.{needs}
 use Rattle.index_write.proofs.write_index.Statement.{statement}
 use Rattle.index_write.proofs.write_index.Tie as tie
-use Rattle.index_write.proofs.write_index.Reads as reads
-use Rattle.index_write.proofs.write_index.Lts as lts
-use Rattle.alone.proofs.read_alone.Reads as read-alone-reads
-use Rattle.index_write.proofs.write_alone.Reads as write-alone-reads
 
--- src/lib.rt:198:9
 returns : tie.Need-returns
-returns c = ?
+returns c = wrote-outside _ _ _ (asked-zero _ (c .if1 .taken))
 
--- src/lib.rt:201:9
 returns-2 : tie.Need-returns-2
-returns-2 c = ?
+returns-2 c = wrote-outside _ _ _ (asked-past _ (c .if2 .taken))
 
--- src/lib.rt:203:11
 read-alone-requires : tie.Need-read-alone-requires
 read-alone-requires c κs = search needs
 
--- src/lib.rt:204:48
 enum-told : tie.Need-enum-told
 enum-told c = search needs
 
--- src/lib.rt:204:30
 write-alone-requires : tie.Need-write-alone-requires
-write-alone-requires c κs = ?
+write-alone-requires c κs = record { asked = asked-is _ (omega (arith, c .before .before .before .before .before .if1 .left)) (c .before .before .before .before .if2 .left); verdict = sym (c .before .before .before .read-alone .ensures) ∙ c .before .enum-told .given .1 }
 
--- src/lib.rt:205:29
 enum-known-r : tie.Need-enum-known-r
 enum-known-r c = search needs
 
--- src/lib.rt:193:1
 same-length : tie.Need-same-length
 same-length c = search needs
 
--- src/lib.rt:193:1
 returns-3 : tie.Need-returns-3
-returns-3 c = ?
+returns-3 c =
+    let e = c .before .before .write-alone .ensures in
+    wrote-read _ _ _ (asked-is _ (omega (arith, c .before .before .before .before .before .before .before .before .if1 .left)) (c .before .before .before .before .before .before .before .if2 .left)) (sym (c .before .before .before .before .before .before .read-alone .ensures) ∙ c .before .before .before .before .enum-told .given .1) _ _ (e .0) (e .1)
 
--- src/lib.rt:193:1
 returns-4 : tie.Need-returns-4
-returns-4 c = ?
+returns-4 c = wrote-unread _ _ _ (asked-is _ (omega (arith, c .before .before .before .before .before .if1 .left)) (c .before .before .before .before .if2 .left)) _ (sym (c .before .before .before .read-alone .ensures) ∙ c .before .r .given .1)
 
 pub write-index-spec : {M : Type 1} → statement M
 write-index-spec =

@@ -1,64 +1,88 @@
+-- `index_write::write_read` meets its contract.
+use Rattle.id_places.proofs.Own.{sized}
+use Rattle.index_write.proofs.Whole.{room-of, ids-count, ranked-of, none-twins, some-twins}
+use Rattle.index_write.proofs.Answers.{asked-low, repeated, short, roomy}
+use mathlib.Core.Path.{refl, sym, _∙_}
+use native.Mathlib.Omega.{arith}
 use borrow.Author.Needs.{needs}
 use Rattle.index_write.proofs.write_read.Statement.{statement}
 use Rattle.index_write.proofs.write_read.Tie as tie
-use Rattle.index_write.proofs.write_read.Reads as reads
-use Rattle.index_write.proofs.write_read.Lts as lts
-use Rattle.id_places.proofs.place_ids.Reads as place-ids-reads
-use Rattle.index_write.proofs.has_repeat.Reads as has-repeat-reads
-use Rattle.index_write.proofs.put_index.Reads as put-index-reads
-use Rattle.sorting.proofs.sort.Reads as sort-reads
 
--- src/lib.rt:164:9
 place-ids-requires : tie.Need-place-ids-requires
-place-ids-requires c κs = ?
+place-ids-requires c κs =
+    let g = c .before .before .before in
+    let z = sized _ _ (g .pre .0) in
+    (omega (arith, asked-low _ _ (g .pre .0)), z .some, g .pre .1, z .short)
 
--- src/lib.rt:165:5
 sort-requires : tie.Need-sort-requires
 sort-requires c κs = search needs
 
--- src/lib.rt:166:8
 has-repeat-requires : tie.Need-has-repeat-requires
 has-repeat-requires c κs = search needs
 
--- src/lib.rt:167:9
 same-length : tie.Need-same-length
 same-length c = search needs
 
--- src/lib.rt:167:9
 returns : tie.Need-returns
-returns c = ?
+returns c =
+    let g = c .before .before .before .before .before .before .before .before .before .before .before in
+    let a = g .args in
+    let i = c .before .before .before .before .before .before .before .place-ids .ensures .0 in
+    let o = c .before .before .before .before .sort .ensures in
+    let room = room-of _ (a .s .now) (a .t .now) _ (i .count) (g .pre .1) (c .before .before .before .before .before .before .before .place-ids .ensures .1) in
+    let w = ranked-of (a .f) (a .s .now) (g .pre .0) _ _ _ i room (o .1 .1 .1) (o .0) (o .1 .0) in
+    let n = ids-count (a .f) (a .s .now) (g .pre .0) _ (i .count) in
+    (repeated _ _ (some-twins (a .f) (a .s .now) (g .pre .0) _ _ w (sym (c .before .has-repeat .ensures) ∙ c .if1 .taken)), refl)
 
--- src/lib.rt:169:23
 mul-need : tie.Need-mul-need
 mul-need c = search needs
 
--- src/lib.rt:169:16
 add-need : tie.Need-add-need
 add-need c = search needs
 
--- src/lib.rt:171:9
 same-length-2 : tie.Need-same-length-2
 same-length-2 c = search needs
 
--- src/lib.rt:171:9
 returns-2 : tie.Need-returns-2
-returns-2 c = ?
+returns-2 c =
+    let g = c .before .before .before .before .before .before .before .before .before .before .before .before in
+    let a = g .args in
+    let i = c .before .before .before .before .before .before .before .before .place-ids .ensures .0 in
+    let o = c .before .before .before .before .before .sort .ensures in
+    let room = room-of _ (a .s .now) (a .t .now) _ (i .count) (g .pre .1) (c .before .before .before .before .before .before .before .before .place-ids .ensures .1) in
+    let w = ranked-of (a .f) (a .s .now) (g .pre .0) _ _ _ i room (o .1 .1 .1) (o .0) (o .1 .0) in
+    let n = ids-count (a .f) (a .s .now) (g .pre .0) _ (i .count) in
+    (short _ _ (none-twins (a .f) (a .s .now) (g .pre .0) _ _ w (sym (c .before .before .has-repeat .ensures) ∙ c .before .if1 .left)) _ n (c .if2 .taken), refl)
 
--- src/lib.rt:173:5
 put-index-requires : tie.Need-put-index-requires
-put-index-requires c κs = ?
+put-index-requires c κs =
+    let g = c .before .before .before .before .before .before .before .before .before .before .before .before .before .before in
+    let a = g .args in
+    let i = c .before .before .before .before .before .before .before .before .before .before .place-ids .ensures .0 in
+    let o = c .before .before .before .before .before .before .before .sort .ensures in
+    let room = room-of _ (a .s .now) (a .t .now) _ (i .count) (g .pre .1) (c .before .before .before .before .before .before .before .before .before .before .place-ids .ensures .1) in
+    let w = ranked-of (a .f) (a .s .now) (g .pre .0) _ _ _ i room (o .1 .1 .1) (o .0) (o .1 .0) in
+    let n = ids-count (a .f) (a .s .now) (g .pre .0) _ (i .count) in
+    let z = sized _ _ (g .pre .0) in
+    let none = sym (c .before .before .before .before .has-repeat .ensures) ∙ c .before .before .before .if1 .left in
+    ((g .pre .0, w, c .before .before .if2 .left), ((asked-low _ _ (g .pre .0), none), (z .short, omega (arith, i .count, z .few))))
 
--- src/lib.rt:159:1
 same-length-3 : tie.Need-same-length-3
 same-length-3 c = search needs
 
--- src/lib.rt:159:1
 same-length-4 : tie.Need-same-length-4
 same-length-4 c = search needs
 
--- src/lib.rt:159:1
 returns-3 : tie.Need-returns-3
-returns-3 c = ?
+returns-3 c =
+    let g = c .before .before .before .before .before .before .before .before .before .before .before .before .before .before .before .before .before in
+    let a = g .args in
+    let i = c .before .before .before .before .before .before .before .before .before .before .before .before .before .place-ids .ensures .0 in
+    let o = c .before .before .before .before .before .before .before .before .before .before .sort .ensures in
+    let room = room-of _ (a .s .now) (a .t .now) _ (i .count) (g .pre .1) (c .before .before .before .before .before .before .before .before .before .before .before .before .before .place-ids .ensures .1) in
+    let w = ranked-of (a .f) (a .s .now) (g .pre .0) _ _ _ i room (o .1 .1 .1) (o .0) (o .1 .0) in
+    let n = ids-count (a .f) (a .s .now) (g .pre .0) _ (i .count) in
+    (roomy _ _ (none-twins (a .f) (a .s .now) (g .pre .0) _ _ w (sym (c .before .before .before .before .before .before .before .has-repeat .ensures) ∙ c .before .before .before .before .before .before .if1 .left)) _ n (c .before .before .before .before .before .if2 .left), c .before .before .put-index .ensures)
 
 pub write-read-spec : {M : Type 1} → statement M
 write-read-spec =

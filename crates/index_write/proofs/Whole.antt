@@ -1,0 +1,230 @@
+-- The cells of a file's ranked records: what repeats, and that an index written from them is the one that is accepted.
+use mathlib.Core.Path.{_≡_, refl, sym, ap, _∙_}
+use mathlib.Core.Bool.{Bool, true, false}
+use mathlib.Core.List.{List, [], _∷_, _++_}
+use Prim.Native.Nat.{ℕ, zero, suc, _+_, _*_, _-_, _/_, _%_, _^_, _≤_, _<_}
+use native.Mathlib.Omega.{arith}
+use native.Mathlib.Nat.{div-add-mod'}
+use lib.IntN.{ℤ}
+use lib.ListN.{length, getD, take, drop, length-map, length-drop, take-append-drop, List·getD-eq-default}
+use lib.Dec.{ltb}
+use lib.Seq.{length-take-le, getD-take, getD-drop, getD-append-add, ext-getD}
+use borrow.Author.Tests.{ltb-true, ltb-false}
+use Rattle.meaning.specs.Lists.{same, some, laid}
+use Rattle.meaning.specs.Bytes.{countLf, linesOf}
+use Rattle.meaning.specs.Columns.{rowsOf}
+use Rattle.meaning.proofs.ListLaws.{both, same-equal, same-self}
+use Rattle.meaning.proofs.Tests.{Found, some-found, some-none, found-some, Standing, below, level, over, standing}
+use Rattle.text.proofs.Lines.{lines-all}
+use Rattle.ranking.specs.Ranks.{before}
+use Rattle.ordering.specs.Cells.{cellAt, RoomAt, KeptAt, Moved}
+use Rattle.ordering.specs.Ids.{valueOn, inOrder, alike, Sorted, Stands, Apart}
+use Rattle.ordering.specs.declared.By.the-variants.{Field}
+use Rattle.ordering.proofs.Laws.{room-kept, moved-all, moved-stands, moved-apart, kept-order}
+use Rattle.ordering.proofs.Alikes.{alike-between}
+use Rattle.indexes.specs.Order.{idsOf, idOf, ranked, repeats}
+use Rattle.indexes.specs.Index.{numberAt, version1, mark, indexOf, indexLength, entry}
+use Rattle.indexes.specs.Promises.{Reads, Bytes}
+use Rattle.indexes.proofs.Order.{no-repeat, repeat-none}
+use Rattle.indexes.proofs.Accepted.{Sound, sound, accepted-is}
+use Rattle.id_places.specs.Places.{idStart, Ids}
+use Rattle.id_places.proofs.Own.{start-value, start-rise}
+use Rattle.index_write.specs.Writing.{Begins, Ranked, headOf, Within, Entered}
+use Rattle.index_write.proofs.Cells.{order-before}
+
+-- do two neighbouring cells hold one value
+abbrev pub twins : List ℕ → List ℤ → ℕ → Bool
+twins s t k = alike Field s t 1 (cellAt 0 t 1 k) (cellAt 0 t 1 (k + 1))
+
+-- a number for each record is room for its cell
+pub room-of : (n : ℕ) (s : List ℕ) (t u : List ℤ) → n + 1 ≡ countLf s → countLf s ≤ length t → length u ≡ length t → RoomAt 0 1 n u
+room-of n s t u c h e = record { wide = omega arith; narrow = omega arith; rows = omega arith }
+
+module _ (f : ℕ) (s : List ℕ) (reads : Reads f s) where
+  -- as many ids as lines after the header
+  pub ids-count : (n : ℕ) → n + 1 ≡ countLf s → length (idsOf f s) ≡ n
+  unfolding idsOf rowsOf
+  ids-count n e = simp (length-map, length-drop) (omega (arith, lines-all s))
+
+  value-of : (n r : ℕ) → n + 1 ≡ countLf s → 0 < r → r ≤ n → valueOn s (idStart f s r) ≡ idOf (idsOf f s) r
+  value-of n zero e a b = absurd (omega arith)
+  value-of n (suc r) e a b = start-value f s reads r (omega (arith, lines-all s))
+
+  starts-apart : (n : ℕ) → n + 1 ≡ countLf s → (i j : ℕ) → 0 < i → i < j → j ≤ n → idStart f s i < idStart f s j
+  starts-apart n e zero j a b c = absurd (omega arith)
+  starts-apart n e (suc i) zero a b c = absurd (omega arith)
+  starts-apart n e (suc i) (suc j) a b c = start-rise f s reads i j (omega arith) (omega (arith, lines-all s))
+
+  -- sorted cells rank the records
+  pub ranked-of : (n : ℕ) (t u : List ℤ) → Ids f s n t → RoomAt 0 1 n t → KeptAt 0 1 n t u → Sorted (inOrder Field s t 1) (cellAt 0 u 1) n → Moved n (cellAt 0 t 1) (cellAt 0 u 1) → Ranked f s n u
+  unfolding Apart
+  ranked-of n t u ids room kept sorted moved = record {
+    count = ids .count;
+    room = room-kept kept room;
+    sorted = rw (kept-order Field s {o = 0} (omega arith) (omega arith) kept) sorted;
+    apart = moved-apart moved (λ i j a b c e. let z = starts-apart n (ids .count) i j a b c in omega (arith, z, e, ids .starts i a (omega arith), ids .starts j (omega arith) c));
+    only = moved-all (Begins f s n) n moved (λ k a b. record { record-number = k; low = a; high = b; is = ids .starts k a b });
+    every = λ r a b. moved-stands (idStart f s r) moved (record { place = r; low = a; high = b; is = ids .starts r a b });
+  }
+
+  module _ (n : ℕ) (t : List ℤ) (w : Ranked f s n t) where
+    abbrev ids : List (List ℕ)
+    ids = idsOf f s
+
+    -- the id of the record that a cell ranks
+    cell-value : (k : ℕ) (r : Begins f s n (cellAt 0 t 1 k)) → valueOn s (cellAt 0 t 1 k) ≡ idOf ids (r .record-number)
+    cell-value k r = ap (valueOn s) (r .is) ∙ value-of n (r .record-number) (w .count) (r .low) (r .high)
+
+    -- a value that stands in two cells stands in neighbours
+    near : (j k : ℕ) → 0 < j → j < k → k ≤ n → valueOn s (cellAt 0 t 1 j) ≡ valueOn s (cellAt 0 t 1 k) → some (twins s t) 1 (n - 1) ≡ true
+    unfolding alike Sorted
+    near j k a b c e = found-some (twins s t) 1 (n - 1) j a (omega arith) (go (standing (j + 1) k))
+      where
+        far : same (valueOn s (cellAt 0 t 1 j)) (valueOn s (cellAt 0 t 1 k)) ≡ true
+        far = rw e (same-self (valueOn s (cellAt 0 t 1 k)))
+
+        go : Standing (j + 1) k → twins s t j ≡ true
+        go (below l) = alike-between s t 1 Field (cellAt 0 t 1 j) (cellAt 0 t 1 (j + 1)) (cellAt 0 t 1 k) (w .sorted j (j + 1) a (omega arith) (omega arith)) (w .sorted (j + 1) k (omega arith) l c) far
+        go (level q) = rw q far
+        go (over l) = absurd (omega arith)
+
+    -- no neighbours are twins exactly where no id repeats
+    pub none-twins : some (twins s t) 1 (n - 1) ≡ false → repeats ids ≡ false
+    none-twins e = repeat-none ids (λ r q a b c same-id. clash r q a b (omega (arith, c, ids-count n (w .count))) same-id)
+      where
+        clash : (r q : ℕ) → 1 ≤ r → r < q → q ≤ n → idOf ids r ≡ idOf ids q → ⊥
+        clash r q a b c z =
+            let x = w .every r a (omega arith) in
+            let y = w .every q (omega arith) c in
+            let v : valueOn s (cellAt 0 t 1 (x .place)) ≡ valueOn s (cellAt 0 t 1 (y .place)) = ap (valueOn s) (x .is) ∙ value-of n r (w .count) a (omega arith) ∙ z ∙ sym (value-of n q (w .count) (omega arith) c) ∙ ap (valueOn s) (sym (y .is)) in
+            side x y v (standing (x .place) (y .place))
+          where
+            side : (x : Stands (cellAt 0 t 1) n (idStart f s r)) (y : Stands (cellAt 0 t 1) n (idStart f s q)) → valueOn s (cellAt 0 t 1 (x .place)) ≡ valueOn s (cellAt 0 t 1 (y .place)) → Standing (x .place) (y .place) → ⊥
+            side x y v (below l) = both (some (twins s t) 1 (n - 1)) (near (x .place) (y .place) (x .low) l (y .high) v) e
+            side x y v (over l) = both (some (twins s t) 1 (n - 1)) (near (y .place) (x .place) (y .low) l (x .high) (sym v)) e
+            side x y v (level l) =
+                let g : idStart f s r ≡ idStart f s q = sym (x .is) ∙ ap (cellAt 0 t 1) l ∙ y .is in
+                omega (arith, g, starts-apart n (w .count) r q a b c)
+
+    pub some-twins : some (twins s t) 1 (n - 1) ≡ true → repeats ids ≡ true
+    unfolding alike Apart
+    some-twins e = go (repeats ids) refl (some-found (twins s t) 1 (n - 1) e)
+      where
+        go : (b : Bool) → repeats ids ≡ b → Found (twins s t) 1 (n - 1) → b ≡ true
+        go true q d = refl
+        go false q d =
+            let k = d .place in
+            let x = w .only k (d .low) (omega (arith, d .high)) in
+            let y = w .only (k + 1) (omega arith) (omega (arith, d .high)) in
+            let v : idOf ids (x .record-number) ≡ idOf ids (y .record-number) = sym (cell-value k x) ∙ same-equal _ _ (d .is) ∙ cell-value (k + 1) y in
+            let c = ids-count n (w .count) in
+            absurd (side k x y v (d .low) (omega (arith, d .high)) c (standing (x .record-number) (y .record-number)))
+          where
+            side : (k : ℕ) (x : Begins f s n (cellAt 0 t 1 k)) (y : Begins f s n (cellAt 0 t 1 (k + 1))) → idOf ids (x .record-number) ≡ idOf ids (y .record-number) → 1 ≤ k → k + 1 ≤ n → length ids ≡ n
+                → Standing (x .record-number) (y .record-number) → ⊥
+            side k x y v a b c (below l) = no-repeat ids q (x .record-number) (y .record-number) (x .low) l (omega (arith, y .high)) v
+            side k x y v a b c (over l) = no-repeat ids q (y .record-number) (x .record-number) (y .low) l (omega (arith, x .high)) (sym v)
+            side k x y v a b c (level l) = w .apart k (k + 1) a (omega arith) b (x .is ∙ ap (idStart f s) l ∙ sym (y .is))
+
+    -- ---- an index whose head and entries are written
+
+    module _ (none : some (twins s t) 1 (n - 1) ≡ false) (lent h b : List ℕ) (headed : h ≡ take 8 (headOf f n) ++ drop 8 lent)
+        (entered : Entered f s n (n + 1) t b) (within : Within n h b) (room : 8 + 2 * n ≤ length lent) where
+      head-length : length h ≡ length lent
+      head-length = ap length headed ∙ omega (arith, length-drop 8 lent)
+
+      abbrev index : List ℕ
+      index = take (8 + 2 * n) b
+
+      index-long : length index ≡ 8 + 2 * n
+      index-long = length-take-le (8 + 2 * n) b (omega (arith, within .size, head-length))
+
+      index-at : (i : ℕ) → i < 8 + 2 * n → getD index i 0 ≡ getD b i 0
+      index-at i l = getD-take (8 + 2 * n) b i 0 l
+
+      head-at : (i : ℕ) → i < 8 → getD index i 0 ≡ getD (take 8 (headOf f n) ++ drop 8 lent) i 0
+      head-at i l = index-at i (omega arith) ∙ within .head i l ∙ ap (λ x. getD x i 0) headed
+
+      entry-at : (i : ℕ) → i < n → entry version1 index i ≡ entry version1 b i
+      unfolding entry numberAt
+      entry-at i l = rw (index-at (8 + i * 2) (omega arith), index-at (8 + i * 2 + 1) (omega arith))
+
+      marks : take 3 index ≡ mark
+      unfolding mark
+      marks = ext-getD 0 (take 3 index) mark (length-take-le 3 index (omega (arith, index-long))) (λ i l. getD-take 3 index i 0 (small i l) ∙ go i (small i l))
+        where
+          small : (i : ℕ) → i < length (take 3 index) → i < 3
+          small i l = omega (arith, length-take-le 3 index (omega (arith, index-long)))
+
+          go : (i : ℕ) → i < 3 → getD index i 0 ≡ getD mark i 0
+          go zero l = head-at 0 (omega arith)
+          go (suc zero) l = head-at 1 (omega arith)
+          go (suc (suc zero)) l = head-at 2 (omega arith)
+          go (suc (suc (suc i))) l = absurd (omega arith)
+
+      version-is : numberAt 2 index 3 ≡ 1
+      unfolding numberAt
+      version-is = rw (head-at 3 (omega arith), head-at 4 (omega arith))
+
+      count-is : numberAt 2 index 6 ≡ n
+      unfolding numberAt
+      count-is = rw (head-at 6 (omega arith), head-at 7 (omega arith)) (omega (arith, div-add-mod' n 256))
+
+      -- the entry of a cell names the record that the cell ranks
+      entry-is : (i : ℕ) → i < n → (r : Begins f s n (cellAt 0 t 1 (i + 1))) → entry version1 index i ≡ r .record-number
+      entry-is i l r =
+          let e : i + 1 - 1 ≡ i = omega arith in
+          entry-at i l ∙ rw e at (entered (r .record-number) (i + 1) (r .low) (omega (arith, r .high)) (omega arith) (omega arith) (r .is))
+
+      rises : (i : ℕ) → i + 1 < n → before (idOf ids (entry version1 index i)) (idOf ids (entry version1 index (i + 1))) ≡ true
+      unfolding Sorted
+      rises i l =
+          let x = w .only (i + 1) (omega arith) (omega arith) in
+          let y = w .only (i + 1 + 1) (omega arith) (omega arith) in
+          rw (entry-is i (omega arith) x, entry-is (i + 1) l y, sym (cell-value (i + 1) x), sym (cell-value (i + 1 + 1) y))
+          (order-before s t 1 (cellAt 0 t 1 (i + 1)) (cellAt 0 t 1 (i + 1 + 1)) (w .sorted (i + 1) (i + 1 + 1) (omega arith) (omega arith) (omega arith)) (some-none (twins s t) 1 (n - 1) none (i + 1) (omega arith) (omega arith)))
+
+      is-sound : Sound version1 f ids index
+      unfolding indexLength
+      is-sound =
+          let c = ids-count n (w .count) in
+          record {
+            long = omega (arith, index-long);
+            marked = marks;
+            version = version-is;
+            file = head-at 5 (omega arith);
+            count = count-is ∙ sym c;
+            size = omega (arith, index-long, c);
+            records = λ i l. let k : i < n = omega (arith, l, c) in let r = w .only (i + 1) (omega arith) (omega arith) in rw (entry-is i k r) (r .low, omega (arith, r .high, c));
+            rise = λ i l. rises i (omega (arith, l, c));
+          }
+
+      rest-is : drop (8 + 2 * n) b ≡ drop (8 + 2 * n) lent
+      rest-is = ext-getD 0 (drop (8 + 2 * n) b) (drop (8 + 2 * n) lent) (omega (arith, length-drop (8 + 2 * n) b, length-drop (8 + 2 * n) lent, within .size, head-length)) (λ i l. go i)
+        where
+          go : (i : ℕ) → getD (drop (8 + 2 * n) b) i 0 ≡ getD (drop (8 + 2 * n) lent) i 0
+          go i =
+              let e : 8 + 2 * n + i ≡ 8 + (2 * n + i) = omega arith in
+              getD-drop (8 + 2 * n) b i 0
+              ∙ within .rest (8 + 2 * n + i) (omega arith)
+              ∙ ap (λ x. getD x (8 + 2 * n + i) 0) headed
+              ∙ ap (λ k. getD (take 8 (headOf f n) ++ drop 8 lent) k 0) e
+              ∙ getD-append-add (take 8 (headOf f n)) (drop 8 lent) (2 * n + i) 0
+              ∙ getD-drop 8 lent (2 * n + i) 0
+              ∙ ap (λ k. getD lent k 0) (sym e)
+              ∙ sym (getD-drop (8 + 2 * n) lent i 0)
+
+      bytes-of : Bytes b → Bytes index
+      bytes-of small i = go (ltb i (8 + 2 * n)) refl
+        where
+          go : (q : Bool) → ltb i (8 + 2 * n) ≡ q → getD index i 0 < 256
+          go true e = rw (index-at i (ltb-true i (8 + 2 * n) e)) (small i)
+          go false e = rw (List·getD-eq-default index 0 {n = i} (omega (arith, index-long, ltb-false i (8 + 2 * n) e))) (omega arith)
+
+      -- it is the one that is accepted, and the rest of the buffer is unchanged
+      pub index-written : Bytes b → b ≡ laid (indexOf version1 f (ranked ids)) lent
+      unfolding laid
+      index-written small =
+          let i : index ≡ indexOf version1 f (ranked ids) = accepted-is f ids index (bytes-of small) (sound version1 f ids index .1 is-sound) in
+          let l : length (indexOf version1 f (ranked ids)) ≡ 8 + 2 * n = ap length (sym i) ∙ index-long in
+          rw l (sym (take-append-drop (8 + 2 * n) b) ∙ rw (rest-is, i))
