@@ -13,7 +13,7 @@ use Rattle.meaning.specs.declared.Verdict.the-variants.{Readable, Unreadable}
 use Rattle.meaning.specs.Lists.{same, some}
 use Rattle.meaning.specs.Bytes.{countLf, linesOf, value}
 use Rattle.meaning.proofs.Records.{rows-count}
-use Rattle.meaning.proofs.Tests.{some-none}
+use Rattle.meaning.proofs.Tests.{untrue, some-none}
 use Rattle.text.specs.Fields.{fieldOn}
 use Rattle.text.proofs.Lines.{lines-all}
 use Rattle.ranking.specs.declared.Order.{Order}
@@ -27,7 +27,7 @@ use Rattle.indexes.specs.declared.IndexAnswer.the-variants.{Whole, Unread, Barr
 use Rattle.indexes.specs.Order.{idsOf, idOf}
 use Rattle.indexes.specs.Index.{numberAt, version1, mark, indexLength, entry, rule40, rule41, rule42, strays, rule43, rule44, indexTests, spoken, indexed, loneVerdict, askedOf, barredOr, checked}
 use Rattle.indexes.specs.Promises.{Reads}
-use Rattle.indexes.proofs.Beside.{few}
+use Rattle.indexes.proofs.Beside.{beside}
 use Rattle.id_places.specs.Places.{idStart, Ids}
 use Rattle.id_places.proofs.Own.{sized, start-value}
 use Rattle.index_check.specs.Entries.{Entries}
@@ -88,6 +88,9 @@ known-entry n b e i h =
     let k : (eqb (entry version1 b i) 0 ≡ false) × (ltb n (entry version1 b i) ≡ false) = or-none _ _ (some-none _ 0 n (e .known) i (omega arith) (omega arith)) in
     (omega (arith, eqb-false (entry version1 b i) 0 (k .0)), ltb-false n (entry version1 b i) (k .1))
 
+pub entries-as : (m n k : ℕ) (b : List ℕ) → m + 1 ≡ k → n + 1 ≡ k → Entries n b → Entries m b
+entries-as m n k b p q e = let z : m ≡ n = omega arith in rw z e
+
 -- ---- the ids of two records
 
 -- does a comparison say that the first comes before
@@ -135,3 +138,71 @@ module _ (f : ℕ) (s : List ℕ) (n : ℕ) (t : List ℤ) (reads : Reads f s) (
   pub falls-at : (b : List ℕ) → Entries n b → (i : ℕ) → i + 1 < n → (x y : ℕ) → x ≡ entry version1 b i → y ≡ entry version1 b (i + 1)
       → (r : Bool) → r ≡ before (valueOn s (cellAt 0 t 1 x)) (valueOn s (cellAt 0 t 1 y)) → not r ≡ falling (idsOf f s) b i
   falls-at b listed i more x y p q r e = rw (← listed-id b listed i (omega arith) x p, ← listed-id b listed (i + 1) more y q, e)
+
+-- ---- the lowest number that speaks
+
+module _ (f : ℕ) (s b : List ℕ) (n : ℕ) (count : n + 1 ≡ countLf s) where
+  pub told-40 : rule40 b ≡ true → 40 ≡ spoken (indexTests version1 f (idsOf f s) b)
+  unfolding spoken indexTests
+  told-40 h = rw h
+
+  module _ (marked : rule40 b ≡ false) where
+    pub told-41 : (numberAt 2 b 3 ≡ 1 → ⊥) → 41 ≡ spoken (indexTests version1 f (idsOf f s) b)
+    unfolding spoken indexTests rule41
+    told-41 h = rw (marked, ne-eqb _ _ h)
+
+    module _ (version : numberAt 2 b 3 ≡ 1) where
+      pub told-42 : rule42 version1 f n b ≡ true → 42 ≡ spoken (indexTests version1 f (idsOf f s) b)
+      unfolding spoken indexTests rule41
+      told-42 h = rw (marked, eq-eqb _ _ version, ids-count f s n count, h)
+
+      module _ (own : rule42 version1 f n b ≡ false) where
+        pub told-43 : rule43 version1 n b ≡ true → 43 ≡ spoken (indexTests version1 f (idsOf f s) b)
+        unfolding spoken indexTests rule41
+        told-43 h = rw (marked, eq-eqb _ _ version, ids-count f s n count, own, h)
+
+        module _ (known : rule43 version1 n b ≡ false) where
+          pub told-44 : rule44 version1 (idsOf f s) b ≡ true → 44 ≡ spoken (indexTests version1 f (idsOf f s) b)
+          unfolding spoken indexTests rule41
+          told-44 h = rw (marked, eq-eqb _ _ version, ids-count f s n count, own, known, h)
+
+          pub told-none : rule44 version1 (idsOf f s) b ≡ false → 0 ≡ spoken (indexTests version1 f (idsOf f s) b)
+          unfolding spoken indexTests rule41
+          told-none h = rw (marked, eq-eqb _ _ version, ids-count f s n count, own, known, h)
+
+pub fewer : (f : ℕ) (s : List ℕ) (n : ℕ) → Reads f s → n + 1 ≡ countLf s → n < 65536
+fewer f s n reads count = omega (arith, sized f s reads .few)
+
+-- ---- the answer
+
+pub barred : (k m size : ℕ) → k ≡ m → (k ≡ 0 → ⊥) → Barred k ≡ barredOr m size
+unfolding barredOr
+barred k m size e h = rw (← e, ne-eqb k 0 h)
+
+pub whole : (k m size : ℕ) → k ≡ m → k ≡ 0 → Whole size ≡ barredOr m size
+unfolding barredOr
+whole k m size e h = rw (← e, eq-eqb k 0 h)
+
+module _ (f : ℕ) (s b : List ℕ) where
+  pub no-file : f ≡ 0 → Barred 42 ≡ checked f s b
+  unfolding checked askedOf indexed
+  no-file h = rw (le-ltb 0 f (omega arith))
+
+  pub past-files : 4 < f → Barred 42 ≡ checked f s b
+  unfolding checked
+  past-files h = sym (beside f s .at-once (untrue (indexed f) (λ e. omega (arith, beside f s .outside .0 e))) b 0 .0)
+
+  module _ (low : (f ≡ 0 → ⊥)) (high : f ≤ 4) where
+    file : indexed f ≡ true
+    file = beside f s .outside .1 (omega arith, high)
+
+    pub reads-it : Readable ≡ loneVerdict f s → Reads f s
+    reads-it e = record { asked = file; verdict = sym e }
+
+    pub unread : (r : Refusal) → Unreadable r ≡ loneVerdict f s → Unread r ≡ checked f s b
+    unfolding checked askedOf
+    unread r e = rw (file, ← e)
+
+    pub read : (a : IndexAnswer) → Readable ≡ loneVerdict f s → a ≡ barredOr (spoken (indexTests version1 f (idsOf f s) b)) (length b) → a ≡ checked f s b
+    unfolding checked askedOf
+    read a e h = rw (file, ← e, h)

@@ -1,42 +1,33 @@
+-- `index_check::check_index` meets its contract.
+use Rattle.index_check.proofs.Laws.{no-file, past-files, reads-it, unread, read}
+use mathlib.Core.Path.{sym, _∙_}
 use borrow.Author.Needs.{needs}
 use Rattle.index_check.proofs.check_index.Statement.{statement}
 use Rattle.index_check.proofs.check_index.Tie as tie
-use Rattle.index_check.proofs.check_index.Reads as reads
-use Rattle.index_check.proofs.check_index.Lts as lts
-use Rattle.alone.proofs.read_alone.Reads as read-alone-reads
-use Rattle.index_check.proofs.judge.Reads as judge-reads
 
--- src/lib.rt:179:9
 returns : tie.Need-returns
-returns c = ?
+returns c = no-file _ _ _ (c .if1 .taken)
 
--- src/lib.rt:182:9
 returns-2 : tie.Need-returns-2
-returns-2 c = ?
+returns-2 c = past-files _ _ _ (c .if2 .taken)
 
--- src/lib.rt:184:11
 read-alone-requires : tie.Need-read-alone-requires
 read-alone-requires c κs = search needs
 
--- src/lib.rt:185:30
 enum-told : tie.Need-enum-told
 enum-told c = search needs
 
--- src/lib.rt:185:30
 judge-requires : tie.Need-judge-requires
-judge-requires c κs = ?
+judge-requires c κs = let b = c .before .before in reads-it _ _ (b .before .before .before .before .before .args .b .now) (b .before .before .if1 .left) (b .before .if2 .left) (sym (c .enum-told .given .1) ∙ b .read-alone .ensures)
 
--- src/lib.rt:186:29
 enum-known-r : tie.Need-enum-known-r
 enum-known-r c = search needs
 
--- src/lib.rt:175:1
 returns-3 : tie.Need-returns-3
-returns-3 c = ?
+returns-3 c = let b = c .before .before .before in read _ _ _ (b .before .before .if1 .left) (b .before .if2 .left) _ (sym (c .before .enum-told .given .1) ∙ b .read-alone .ensures) (c .judge .ensures)
 
--- src/lib.rt:175:1
 returns-4 : tie.Need-returns-4
-returns-4 c = ?
+returns-4 c = let b = c .before .before .before in unread _ _ _ (b .before .before .if1 .left) (b .before .if2 .left) _ (sym (c .before .r .given .1) ∙ b .read-alone .ensures)
 
 pub check-index-spec : {M : Type 1} → statement M
 check-index-spec =

@@ -1,57 +1,55 @@
+-- `index_check::fault` meets its contract.
+use Rattle.index_check.proofs.Laws.{head-long, size-is, told-40, told-41, told-42, told-43, told-44, told-none, fewer}
+use mathlib.Core.Path.{sym, _∙_}
+use native.Mathlib.Omega.{arith}
 use borrow.Author.Needs.{needs}
 use Rattle.index_check.proofs.fault.Statement.{statement}
 use Rattle.index_check.proofs.fault.Tie as tie
-use Rattle.index_check.proofs.fault.Reads as reads
-use Rattle.index_check.proofs.fault.Lts as lts
-use Rattle.index_check.proofs.has_stray.Reads as has-stray-reads
-use Rattle.index_check.proofs.is_falling.Reads as is-falling-reads
-use Rattle.index_check.proofs.is_other.Reads as is-other-reads
-use Rattle.index_check.proofs.is_unmarked.Reads as is-unmarked-reads
-use Rattle.index_check.proofs.pair_at.Reads as pair-at-reads
 
--- src/lib.rt:144:8
 is-unmarked-requires : tie.Need-is-unmarked-requires
 is-unmarked-requires c κs = search needs
 
--- src/lib.rt:145:9
 returns : tie.Need-returns
-returns c = ?
+returns c =
+    let z = c .before .before .before .before in
+    told-40 (z .args .f) (z .args .s .now) (z .args .b .now) (z .args .n) (z .pre .1) (sym (c .before .is-unmarked .ensures) ∙ c .if1 .taken)
 
--- src/lib.rt:147:8
 pair-at-requires : tie.Need-pair-at-requires
-pair-at-requires c κs = ?
+pair-at-requires c κs = omega (arith, head-long _ (sym (c .before .is-unmarked .ensures) ∙ c .if1 .left))
 
--- src/lib.rt:148:9
 returns-2 : tie.Need-returns-2
-returns-2 c = ?
+returns-2 c =
+    let z = c .before .before .before .before .before .before in
+    told-41 (z .args .f) (z .args .s .now) (z .args .b .now) (z .args .n) (z .pre .1) (sym (c .before .before .before .is-unmarked .ensures) ∙ c .before .before .if1 .left) (λ e. c .if2 .taken (c .before .pair-at .ensures .0 ∙ e))
 
--- src/lib.rt:150:8
 is-other-requires : tie.Need-is-other-requires
-is-other-requires c κs = ?
+is-other-requires c κs = (head-long _ (sym (c .before .before .before .is-unmarked .ensures) ∙ c .before .before .if1 .left), fewer (c .before .before .before .before .before .before .args .f) (c .before .before .before .before .before .before .args .s .now) (c .before .before .before .before .before .before .args .n) (c .before .before .before .before .before .before .pre .0) (c .before .before .before .before .before .before .pre .1))
 
--- src/lib.rt:151:9
 returns-3 : tie.Need-returns-3
-returns-3 c = ?
+returns-3 c =
+    let z = c .before .before .before .before .before .before .before .before in
+    told-42 (z .args .f) (z .args .s .now) (z .args .b .now) (z .args .n) (z .pre .1) (sym (c .before .before .before .before .before .is-unmarked .ensures) ∙ c .before .before .before .before .if1 .left) (sym (c .before .before .before .pair-at .ensures .0) ∙ c .before .before .if2 .left) (sym (c .before .is-other .ensures) ∙ c .if3 .taken)
 
--- src/lib.rt:153:8
 has-stray-requires : tie.Need-has-stray-requires
-has-stray-requires c κs = ?
+has-stray-requires c κs = (size-is _ (c .before .before .before .before .before .before .before .before .args .f) _ (sym (c .before .is-other .ensures) ∙ c .if3 .left), fewer (c .before .before .before .before .before .before .before .before .args .f) (c .before .before .before .before .before .before .before .before .args .s .now) (c .before .before .before .before .before .before .before .before .args .n) (c .before .before .before .before .before .before .before .before .pre .0) (c .before .before .before .before .before .before .before .before .pre .1))
 
--- src/lib.rt:154:9
 returns-4 : tie.Need-returns-4
-returns-4 c = ?
+returns-4 c =
+    let z = c .before .before .before .before .before .before .before .before .before .before in
+    told-43 (z .args .f) (z .args .s .now) (z .args .b .now) (z .args .n) (z .pre .1) (sym (c .before .before .before .before .before .before .before .is-unmarked .ensures) ∙ c .before .before .before .before .before .before .if1 .left) (sym (c .before .before .before .before .before .pair-at .ensures .0) ∙ c .before .before .before .before .if2 .left) (sym (c .before .before .before .is-other .ensures) ∙ c .before .before .if3 .left) (sym (c .before .has-stray .ensures) ∙ c .if4 .taken)
 
--- src/lib.rt:156:8
 is-falling-requires : tie.Need-is-falling-requires
-is-falling-requires c κs = ?
+is-falling-requires c κs = (c .before .before .before .before .before .before .before .before .before .before .pre, record { size = size-is _ (c .before .before .before .before .before .before .before .before .before .before .args .f) _ (sym (c .before .before .before .is-other .ensures) ∙ c .before .before .if3 .left); few = fewer (c .before .before .before .before .before .before .before .before .before .before .args .f) (c .before .before .before .before .before .before .before .before .before .before .args .s .now) (c .before .before .before .before .before .before .before .before .before .before .args .n) (c .before .before .before .before .before .before .before .before .before .before .pre .0) (c .before .before .before .before .before .before .before .before .before .before .pre .1); known = (sym (c .before .has-stray .ensures) ∙ c .if4 .left) })
 
--- src/lib.rt:157:9
 returns-5 : tie.Need-returns-5
-returns-5 c = ?
+returns-5 c =
+    let z = c .before .before .before .before .before .before .before .before .before .before .before .before in
+    told-44 (z .args .f) (z .args .s .now) (z .args .b .now) (z .args .n) (z .pre .1) (sym (c .before .before .before .before .before .before .before .before .before .is-unmarked .ensures) ∙ c .before .before .before .before .before .before .before .before .if1 .left) (sym (c .before .before .before .before .before .before .before .pair-at .ensures .0) ∙ c .before .before .before .before .before .before .if2 .left) (sym (c .before .before .before .before .before .is-other .ensures) ∙ c .before .before .before .before .if3 .left) (sym (c .before .before .before .has-stray .ensures) ∙ c .before .before .if4 .left) (sym (c .before .is-falling .ensures) ∙ c .if5 .taken)
 
--- src/lib.rt:140:1
 returns-6 : tie.Need-returns-6
-returns-6 c = ?
+returns-6 c =
+    let z = c .before .before .before .before .before .before .before .before .before .before .before .before in
+    told-none (z .args .f) (z .args .s .now) (z .args .b .now) (z .args .n) (z .pre .1) (sym (c .before .before .before .before .before .before .before .before .before .is-unmarked .ensures) ∙ c .before .before .before .before .before .before .before .before .if1 .left) (sym (c .before .before .before .before .before .before .before .pair-at .ensures .0) ∙ c .before .before .before .before .before .before .if2 .left) (sym (c .before .before .before .before .before .is-other .ensures) ∙ c .before .before .before .before .if3 .left) (sym (c .before .before .before .has-stray .ensures) ∙ c .before .before .if4 .left) (sym (c .before .is-falling .ensures) ∙ c .if5 .left)
 
 pub fault-spec : {M : Type 1} → statement M
 fault-spec =

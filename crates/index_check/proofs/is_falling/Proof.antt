@@ -1,33 +1,34 @@
+-- `index_check::is_falling` meets its contract.
+use Rattle.index_check.proofs.Laws.{entries-as}
+use Rattle.indexes.proofs.Beside.{beside}
+use Rattle.id_places.proofs.Own.{sized}
+use native.Mathlib.Omega.{arith}
 use borrow.Author.Needs.{needs}
 use Rattle.index_check.proofs.is_falling.Statement.{statement}
 use Rattle.index_check.proofs.is_falling.Tie as tie
-use Rattle.index_check.proofs.is_falling.Reads as reads
-use Rattle.index_check.proofs.is_falling.Lts as lts
-use Rattle.id_places.proofs.place_ids.Reads as place-ids-reads
-use Rattle.index_check.proofs.blank.Reads as blank-reads
-use Rattle.index_check.proofs.falls.Reads as falls-reads
 
--- src/lib.rt:134:17
 blank-requires : tie.Need-blank-requires
 blank-requires c κs = search needs
 
--- src/lib.rt:135:40
 slice-aggregate-place-ids : tie.Need-slice-aggregate-place-ids
 slice-aggregate-place-ids c = search needs
 
--- src/lib.rt:135:9
 place-ids-requires : tie.Need-place-ids-requires
-place-ids-requires c κs = ?
+place-ids-requires c κs =
+    let z = c .before .before .before .before in
+    let k = sized (z .args .f) (z .args .s .now) (z .pre .0 .0) in
+    (omega (arith, beside (z .args .f) (z .args .s .now) .outside .0 (z .pre .0 .0 .asked)), k .some, omega (arith, k .few), k .short)
 
--- src/lib.rt:136:17
 slice-aggregate-falls : tie.Need-slice-aggregate-falls
 slice-aggregate-falls c = search needs
 
--- src/lib.rt:136:5
 falls-requires : tie.Need-falls-requires
-falls-requires c κs = ?
+falls-requires c κs =
+    let z = c .before .before .before .before .before .before .before in
+    let k = sized (z .args .f) (z .args .s .now) (z .pre .0 .0) in
+    let p = c .before .before .place-ids .ensures in
+    ((z .pre .0 .0, p .0, omega (arith, k .few, p .1)), entries-as _ _ _ _ (p .0 .count) (z .pre .0 .1) (z .pre .1))
 
--- src/lib.rt:129:1
 returns : tie.Need-returns
 returns c = search needs
 
