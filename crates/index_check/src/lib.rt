@@ -1,19 +1,16 @@
 // The reader of an index: is it the one that lists every record of its file once, in rising order of ids?
 ghost use mathlib.Core.Path.{_≡_};
-ghost use mathlib.Core.Bool.{false};
-ghost use mathlib.Core.List.{_∷_, []};
-ghost use Prim.Native.Nat.{ℕ, _+_, _*_, _<_, _≤_};
-ghost use lib.ListN.{length, take};
+ghost use Prim.Native.Nat.{_+_, _*_, _<_, _≤_};
+ghost use lib.ListN.{length};
 ghost use Rattle.meaning.specs.Bytes.{countLf};
-ghost use Rattle.meaning.specs.Lists.{same};
-ghost use Rattle.meaning.specs.Refusals.{test};
 ghost use Rattle.ranking.specs.Ranks.{before};
 ghost use Rattle.ordering.specs.Cells.{cellAt};
 ghost use Rattle.ordering.specs.Ids.{valueOn};
 ghost use Rattle.indexes.specs.Order.{idsOf};
-ghost use Rattle.indexes.specs.Index.{numberAt, version1, mark, entry, rule40, rule41, rule42, strays, rule43, rule44, indexTests, spoken, barredOr, checked};
+ghost use Rattle.indexes.specs.Index.{numberAt, version1, entry, rule40, rule42, strays, rule43, rule44, indexTests, spoken, barredOr, checked};
 ghost use Rattle.indexes.specs.Promises.{Reads};
 ghost use Rattle.id_places.specs.Places.{Ids};
+ghost use Rattle.index_check.specs.Entries.{Entries};
 use indexes::IndexAnswer;
 use meaning::MAX_LINES;
 use meaning::Verdict;
@@ -37,39 +34,28 @@ fn pair_at(b: &[u8], at: usize) -> usize
     wide(b[at]) + 256 * wide(b[at + 1])
 }
 
-// Does an index begin with the mark?
-fn is_marked(b: &[u8]) -> bool
-    requires { ⌜ 8 ≤ length (now b) ⌝ }
-    ensures { λ r. ⌜ r ≡ same (take 3 (now (b .entry))) mark ⌝ }
-{
-    text::same_bytes(&b[..3], b"TTX")
-}
-
-// The first of 40 to 42 that an index breaks beside file f, which has n records; 0 where it breaks none.
-fn head_fault(f: usize, n: usize, b: &[u8]) -> usize
-    requires { ⌜ n < 65536 ⌝ }
-    ensures { λ r. ⌜ r ≡ spoken (test 40 (rule40 (now (b .entry))) ∷ test 41 (rule41 version1 (now (b .entry))) ∷ test 42 (rule42 version1 f n (now (b .entry))) ∷ []) ⌝ }
-    ensures { λ r. ⌜ (r ≡ 0 → length (now (b .entry)) ≡ 8 + 2 * n) ⌝ }
+// 40: is an index shorter than 8 bytes, or has it a wrong mark?
+fn is_unmarked(b: &[u8]) -> bool
+    ensures { λ r. ⌜ r ≡ rule40 (now (b .entry)) ⌝ }
 {
     if b.len() < HEAD {
-        return 40;
+        return true;
     }
-    if !is_marked(b) {
-        return 40;
-    }
-    if pair_at(b, 3) != 1 {
-        return 41;
-    }
+    !text::same_bytes(&b[..3], b"TTX")
+}
+
+// 42: has it a wrong file number, count or length, beside file f, which has n records?
+fn is_other(f: usize, n: usize, b: &[u8]) -> bool
+    requires { ⌜ (8 ≤ length (now b)) × (n < 65536) ⌝ }
+    ensures { λ r. ⌜ r ≡ rule42 version1 f n (now (b .entry)) ⌝ }
+{
     if wide(b[5]) != f {
-        return 42;
+        return true;
     }
     if pair_at(b, 6) != n {
-        return 42;
+        return true;
     }
-    if b.len() != HEAD + 2 * n {
-        return 42;
-    }
-    0
+    b.len() != HEAD + 2 * n
 }
 
 // The record number with index i.
@@ -121,12 +107,12 @@ fn is_before(s: &[u8], t: &[i32], x: usize, y: usize) -> bool
 // 44: do the ids of the records listed not rise strictly?
 fn falls(f: usize, s: &[u8], t: &[i32], b: &[u8], n: usize) -> bool
     requires { ⌜ Reads f (now s) × Ids f (now s) n (now t) × (countLf (now s) ≤ length (now t)) ⌝ }
-    requires { ⌜ (length (now b) ≡ 8 + 2 * n) × (n < 65536) × (rule43 version1 n (now b) ≡ false) ⌝ }
+    requires { ⌜ Entries n (now b) ⌝ }
     ensures { λ r. ⌜ r ≡ rule44 version1 (idsOf f (now (s .entry))) (now (b .entry)) ⌝ }
 {
-    let mut i: usize = 1;
-    while i < n {
-        if !is_before(s, t, entry_at(b, i - 1), entry_at(b, i)) {
+    let mut i: usize = 0;
+    while i + 1 < n {
+        if !is_before(s, t, entry_at(b, i), entry_at(b, i + 1)) {
             return true;
         }
         i += 1;
@@ -142,7 +128,7 @@ fn blank() -> [i32; MAX_LINES] {
 // 44, of a file whose ids have yet to be placed.
 fn is_falling(f: usize, s: &[u8], b: &[u8], n: usize) -> bool
     requires { ⌜ Reads f (now s) × (n + 1 ≡ countLf (now s)) ⌝ }
-    requires { ⌜ (length (now b) ≡ 8 + 2 * n) × (n < 65536) × (rule43 version1 n (now b) ≡ false) ⌝ }
+    requires { ⌜ Entries n (now b) ⌝ }
     ensures { λ r. ⌜ r ≡ rule44 version1 (idsOf f (now (s .entry))) (now (b .entry)) ⌝ }
 {
     let mut t = blank();
@@ -150,21 +136,37 @@ fn is_falling(f: usize, s: &[u8], b: &[u8], n: usize) -> bool
     falls(f, s, &t, b, m)
 }
 
+// The first of 40 to 44 that an index breaks beside file f, which has n records; 0 where it breaks none.
+fn fault(f: usize, s: &[u8], b: &[u8], n: usize) -> usize
+    requires { ⌜ Reads f (now s) × (n + 1 ≡ countLf (now s)) ⌝ }
+    ensures { λ r. ⌜ r ≡ spoken (indexTests version1 f (idsOf f (now (s .entry))) (now (b .entry))) ⌝ }
+{
+    if is_unmarked(b) {
+        return 40;
+    }
+    if pair_at(b, 3) != 1 {
+        return 41;
+    }
+    if is_other(f, n, b) {
+        return 42;
+    }
+    if has_stray(b, n) {
+        return 43;
+    }
+    if is_falling(f, s, b, n) {
+        return 44;
+    }
+    0
+}
+
 // What is answered of an index beside a file that can be read.
 fn judge(f: usize, s: &[u8], b: &[u8]) -> IndexAnswer
     requires { ⌜ Reads f (now s) ⌝ }
     ensures { λ r. ⌜ r ≡ barredOr (spoken (indexTests version1 f (idsOf f (now (s .entry))) (now (b .entry)))) (length (now (b .entry))) ⌝ }
 {
-    let n = text::count_lf(s) - 1;
-    let head = head_fault(f, n, b);
-    if head != 0 {
-        return IndexAnswer::Barred(head);
-    }
-    if has_stray(b, n) {
-        return IndexAnswer::Barred(43);
-    }
-    if is_falling(f, s, b, n) {
-        return IndexAnswer::Barred(44);
+    let k = fault(f, s, b, text::count_lf(s) - 1);
+    if k != 0 {
+        return IndexAnswer::Barred(k);
     }
     IndexAnswer::Whole(b.len())
 }

@@ -1,0 +1,43 @@
+-- `index_check::check_index` meets its contract.
+use Rattle.index_check.proofs.Laws.{no-file, past-files, reads-it, unread, read}
+use mathlib.Core.Path.{sym, _∙_}
+use borrow.Author.Needs.{needs}
+use Rattle.index_check.proofs.check_index.Statement.{statement}
+use Rattle.index_check.proofs.check_index.Tie as tie
+
+returns : tie.Need-returns
+returns c = no-file _ _ _ (c .if1 .taken)
+
+returns-2 : tie.Need-returns-2
+returns-2 c = past-files _ _ _ (c .if2 .taken)
+
+read-alone-requires : tie.Need-read-alone-requires
+read-alone-requires c κs = search needs
+
+enum-told : tie.Need-enum-told
+enum-told c = search needs
+
+judge-requires : tie.Need-judge-requires
+judge-requires c κs = let b = c .before .before in reads-it _ _ (b .before .before .before .before .before .args .b .now) (b .before .before .if1 .left) (b .before .if2 .left) (sym (c .enum-told .given .1) ∙ b .read-alone .ensures)
+
+enum-known-r : tie.Need-enum-known-r
+enum-known-r c = search needs
+
+returns-3 : tie.Need-returns-3
+returns-3 c = let b = c .before .before .before in read _ _ _ (b .before .before .if1 .left) (b .before .if2 .left) _ (sym (c .before .enum-told .given .1) ∙ b .read-alone .ensures) (c .judge .ensures)
+
+returns-4 : tie.Need-returns-4
+returns-4 c = let b = c .before .before .before in unread _ _ _ (b .before .before .if1 .left) (b .before .if2 .left) _ (sym (c .before .r .given .1) ∙ b .read-alone .ensures)
+
+pub check-index-spec : {M : Type 1} → statement M
+check-index-spec =
+    tie.close
+    (tie.spec
+    returns
+    returns-2
+    read-alone-requires
+    enum-told
+    judge-requires
+    enum-known-r
+    returns-3
+    returns-4)
