@@ -3,7 +3,10 @@
 pub mod edges;
 pub mod generate;
 
+use model::fields::line_ends;
 use model::index::{self, Answer};
+use model::reading::read_alone;
+use model::records::KEYS;
 
 /// Which of the two functions is called.
 #[derive(Clone, Copy, Debug, PartialEq, Eq)]
@@ -30,10 +33,10 @@ pub struct Outcome {
 }
 
 impl Case {
-    /// A call that is named by what goes into it.
-    pub fn new(asked: Asked, number: i32, file: &[u8], lent: Vec<u8>) -> Self {
-        let name = format!("{asked:?} of file number {number}: {}, lent {}", file.escape_ascii(), lent.escape_ascii());
-        Case { name, asked, number, file: file.to_vec(), lent }
+    /// All that goes into the call, to be read where it fails.
+    pub fn words(&self) -> String {
+        let Case { name, asked, number, file, lent } = self;
+        format!("{name}, {asked:?} of file number {number}: {}, lent {}", file.escape_ascii(), lent.escape_ascii())
     }
 }
 
@@ -45,4 +48,22 @@ pub fn by_model(case: &Case) -> Outcome {
         Asked::Check => index::check(case.number, &case.file, &lent),
     };
     Outcome { answer, lent }
+}
+
+/// The records of a file by their ids, equal ones in file order; of a file that can't be read one for each line behind the first.
+pub fn sorted(number: usize, file: &[u8]) -> Vec<usize> {
+    let Ok(sheet) = read_alone(file, number) else { return (1..line_ends(file)).collect() };
+    let ids: Vec<&[u8]> = sheet.rows().map(|row| row.value(KEYS[number - 1][0])).collect();
+    let mut records: Vec<usize> = (1..=ids.len()).collect();
+    records.sort_by_key(|record| ids[record - 1]);
+    records
+}
+
+/// Says in a line where two outcomes of a call differ; none if they agree.
+pub fn difference(wanted: &Outcome, got: &Outcome) -> Option<String> {
+    if wanted.answer != got.answer {
+        return Some(format!("wanted {:?}, got {:?}", wanted.answer, got.answer));
+    }
+    let place = (0..wanted.lent.len()).find(|&place| wanted.lent[place] != got.lent[place])?;
+    Some(format!("what was lent differs at {place}: wanted {}, got {}", wanted.lent[place], got.lent[place]))
 }

@@ -1,1 +1,341 @@
-//! placeholder
+//! Indexes at their edges: every two ids in either order, every way to be a wrong index beside every other, files that can't be read, buffers.
+
+use super::{sorted, Asked, Case};
+use crate::edges::BASE;
+use model::columns::COLUMNS;
+use model::fields::value;
+use model::forms::Form;
+use model::index::bytes;
+use model::records::KEYS;
+use std::collections::BTreeSet;
+
+/// Numbers that are no file's with an index: those of other files, and those that a narrower number would take for one.
+pub const OUTSIDE: [i32; 11] = [0, 5, 6, -1, 255, 257, 65_537, 65_540, i32::MIN + 1, i32::MIN, i32::MAX];
+
+/// Ids as raw fields, in spellings that only the right comparison tells apart or takes for one.
+const IDS: [&str; 45] = [
+    // Prefixes of one another, letters of either case, digits, and bytes below and above a mark.
+    "A",
+    "AA",
+    "AB",
+    "B",
+    "a",
+    "b",
+    "1",
+    "10",
+    "9",
+    "01",
+    " A",
+    "A ",
+    "!",
+    "A!",
+    "A#",
+    "\0",
+    "A\0",
+    "A\0B",
+    "A\0C",
+    // In quotes: the same ids again, commas, doubled marks.
+    "\"A\"",
+    "\"AB\"",
+    "\"!\"",
+    "\"\0\"",
+    "\"A,\"",
+    "\"A,B\"",
+    "\"A\"\"B\"",
+    "\"A\"\"\"",
+    "\"\"\"\"",
+    "\"\"\"A\"",
+    "\"\"\"A\"\"\"",
+    "\"\"\"\"\"\"",
+    // Bytes above 127, and characters at the edges of their lengths.
+    "z",
+    "z\u{7f}",
+    "zé",
+    "\u{7f}",
+    "\u{80}",
+    "é",
+    "ê",
+    "\"é\"",
+    "éA",
+    "駅",
+    "\u{feff}",
+    "\u{ffff}",
+    "\u{10000}",
+    "\u{10ffff}",
+];
+
+/// The ids, and longer ones that differ in the last byte of 64, or not at all.
+fn ids() -> Vec<Vec<u8>> {
+    let x = |count: usize| "x".repeat(count);
+    let long = [x(63), x(64), x(63) + "a", x(63) + "b", format!("\"{}b\"", x(63)), x(62) + "é", x(62) + "ê"];
+    IDS.into_iter().map(String::from).chain(long).map(String::into_bytes).collect()
+}
+
+/// How a file is written around its ids.
+struct Layout {
+    before: &'static str,
+    ending: &'static str,
+    /// So many columns that nobody reads stand left of the others.
+    unread: usize,
+    backward: bool,
+}
+
+const PLAIN: Layout = Layout { before: "", ending: "\n", unread: 0, backward: false };
+
+/// The last one fills a line of calendar.txt up to 32 fields.
+const LAYOUTS: [Layout; 4] = [
+    PLAIN,
+    Layout { before: "\u{feff}", ending: "\r\n", unread: 1, backward: true },
+    Layout { before: "", ending: "\r\n", unread: 11, backward: true },
+    Layout { before: "\u{feff}", ending: "\n", unread: 22, backward: false },
+];
+
+/// A file with these ids as raw fields, all other values being those of the base feed.
+fn file<I: AsRef<[u8]>>(number: usize, layout: &Layout, ids: &[I]) -> Vec<u8> {
+    let mut lines = BASE[number - 1].lines().map(|line| line.split(',').map(str::as_bytes).collect::<Vec<_>>());
+    let (names, good) = (lines.next().expect("a header"), lines.next().expect("a line"));
+    let place = names.iter().position(|name| *name == KEYS[number - 1][0].as_bytes()).expect("a column of ids");
+    let line = |mut fields: Vec<&[u8]>, unread: &[u8]| {
+        if layout.backward {
+            fields.reverse();
+        }
+        let fields = [vec![unread; layout.unread], fields].concat();
+        [&fields.join(&b","[..])[..], layout.ending.as_bytes()].concat()
+    };
+    let mut file = [layout.before.as_bytes(), &line(names, b"note")].concat();
+    for id in ids {
+        let mut fields = good.clone();
+        fields[place] = id.as_ref();
+        file.extend(line(fields, b"\"a,b\""));
+    }
+    file
+}
+
+/// A call of the reader.
+fn check(number: i32, file: &[u8], index: Vec<u8>) -> Case {
+    Case { name: String::new(), asked: Asked::Check, number, file: file.to_vec(), lent: index }
+}
+
+/// A call of the writer with a buffer of so many bytes, no two of which in a row are alike.
+fn write(number: i32, file: &[u8], length: usize) -> Case {
+    let buffer = (0..length).map(|place| (place * 7 + 1) as u8).collect();
+    Case { asked: Asked::Write, ..check(number, file, buffer) }
+}
+
+/// Every two ids, each before the other: the writer, and the reader with the records as they stand.
+fn pairs() -> Vec<Case> {
+    let ids = ids();
+    let mut cases = Vec::new();
+    for (place, one) in ids.iter().enumerate() {
+        for (beside, other) in ids.iter().enumerate() {
+            // Files and layouts by turns.
+            let (number, layout) = (1 + (place + beside) % 4, &LAYOUTS[(place + beside * 3) / 2 % 4]);
+            let file = file(number, layout, &[one, other]);
+            cases.push(write(number as i32, &file, 13));
+            cases.push(check(number as i32, &file, bytes(number, &[1, 2])));
+        }
+    }
+    cases
+}
+
+/// All ids that differ in one file: the right index, and each two neighbours in it the other way round.
+fn all_ids() -> Vec<Case> {
+    let mut ids = ids();
+    let mut seen = BTreeSet::new();
+    ids.retain(|id| seen.insert(value(id)));
+    let mut cases = Vec::new();
+    for (number, layout) in (1..=4).flat_map(|number| LAYOUTS.iter().map(move |layout| (number, layout))) {
+        let file = file(number, layout, &ids);
+        let right = sorted(number, &file);
+        cases.push(write(number as i32, &file, 8 + 2 * ids.len()));
+        cases.push(check(number as i32, &file, bytes(number, &right)));
+        for place in 1..right.len() {
+            let mut swapped = right.clone();
+            swapped.swap(place - 1, place);
+            cases.push(check(number as i32, &file, bytes(number, &swapped)));
+        }
+    }
+    cases
+}
+
+/// Ids of three records; the right order is 2, 3, 1.
+const THREE: [&str; 3] = ["B", "A", "\"AB\""];
+
+/// Lists of three records that are wrong in one way, or in two: 43 in either place beside 44.
+const LISTS: [[usize; 3]; 9] =
+    [[2, 3, 1], [2, 3, 0], [2, 3, 4], [3, 2, 1], [2, 2, 3], [3, 2, 0], [0, 3, 2], [4, 2, 3], [512, 768, 256]];
+
+/// Every mark, version, file number, count, list and end beside every other.
+fn every_way_at_once() -> Vec<Case> {
+    let mut cases = Vec::new();
+    for list in LISTS {
+        for count in [3, 2, 4, 3 * 256] {
+            for (mark, version) in [b"TTX", b"TTY"].into_iter().flat_map(|mark| [1, 0, 2, 256].map(|of| (mark, of))) {
+                for (more, end) in [0, 1].into_iter().flat_map(|more| [14, 13, 12, 15, 16].map(|end| (more, end))) {
+                    let number = 1 + cases.len() % 4;
+                    let mut index = bytes(number, &list);
+                    index[..3].copy_from_slice(mark);
+                    index[3..5].copy_from_slice(&u16::to_le_bytes(version));
+                    index[5] += more;
+                    index[6..8].copy_from_slice(&u16::to_le_bytes(count));
+                    index.resize(end, 0);
+                    cases.push(check(number as i32, &file(number, &PLAIN, &THREE), index));
+                }
+            }
+        }
+    }
+    cases
+}
+
+/// Every list of three records, over ids that fall, rise and repeat.
+fn every_list() -> Vec<Case> {
+    let mut cases = Vec::new();
+    for ids in [THREE, ["A", "B", "C"], ["B", "A", "\"B\""]] {
+        let number = 1 + cases.len() % 4;
+        let file = file(number, &PLAIN, &ids);
+        let lists = (0..125).map(|list| [list / 25, list / 5 % 5, list % 5]);
+        cases.extend(lists.map(|list| check(number as i32, &file, bytes(number, &list))));
+    }
+    cases
+}
+
+/// Every length and every changed byte of an index, of each file, with records and without.
+fn every_byte() -> Vec<Case> {
+    let mut cases = Vec::new();
+    for (number, ids) in (1..=4).flat_map(|number| [&THREE[..], &[]].map(|ids| (number, ids))) {
+        let file = file(number, &PLAIN, ids);
+        let right = bytes(number, &sorted(number, &file));
+        for length in 0..right.len() + 4 {
+            let mut index = right.clone();
+            index.resize(length, 0);
+            cases.push(check(number as i32, &file, index));
+        }
+        for place in 0..right.len() {
+            // Among these are all file numbers for one another, and small letters.
+            let changed = [1, 2, 3, 4, 5, 6, 7, 0x20, 0x80, 0xFF].map(|change| right[place] ^ change);
+            for byte in changed {
+                let mut index = right.clone();
+                index[place] = byte;
+                cases.push(check(number as i32, &file, index));
+            }
+        }
+        cases.extend((0..right.len() + 6).map(|length| write(number as i32, &file, length)));
+    }
+    cases
+}
+
+/// More records than a byte counts, the ids falling: the right index, and with one entry or its count off by 256.
+fn many_records() -> Vec<Case> {
+    let mut cases = Vec::new();
+    for count in [255, 256, 257, 300] {
+        let ids: Vec<String> = (0..count).map(|id| format!("i{:03}", 999 - id)).collect();
+        let (number, length) = (1 + count % 4, 8 + 2 * count);
+        let file = file(number, &PLAIN, &ids);
+        let right = bytes(number, &sorted(number, &file));
+        cases.extend([length - 1, length, length + 1].map(|length| write(number as i32, &file, length)));
+        for place in [5, 6, 7, 8, 9, length - 2, length - 1] {
+            for change in [0, 1] {
+                let mut index = right.clone();
+                index[place] ^= change;
+                cases.push(check(number as i32, &file, index));
+            }
+        }
+        cases.push(check(number as i32, &file, right[..8 + 2 * (count % 256)].to_vec()));
+    }
+    cases
+}
+
+/// A file of three records with another text in place of one of its lines (0 is the header).
+fn with_line(number: usize, place: usize, text: &[u8]) -> Vec<u8> {
+    let good = file(number, &PLAIN, &THREE);
+    let mut lines: Vec<&[u8]> = good.split_inclusive(|&byte| byte == b'\n').collect();
+    let text = [text, b"\n"].concat();
+    lines[place] = &text;
+    lines.concat()
+}
+
+/// Files that break rules 5 to 14, one each; then one that breaks 13 on a line and 5 on the next.
+fn broken_lines(number: usize) -> Vec<Vec<u8>> {
+    let good = file(number, &PLAIN, &THREE);
+    let lines: Vec<&[u8]> = good.split(|&byte| byte == b'\n').collect();
+    let fields = |place: usize| lines[place].split(|&byte| byte == b',').collect::<Vec<_>>();
+    let with_field = |place: usize, column: usize, field: &[u8]| {
+        let mut fields = fields(place);
+        fields[column] = field;
+        with_line(number, place, &fields.join(&b","[..]))
+    };
+    let id = fields(0).iter().position(|name| *name == KEYS[number - 1][0].as_bytes()).unwrap_or(0);
+    let form = COLUMNS[number - 1].iter().position(|column| !matches!(column.form, Form::Text)).unwrap_or(0);
+    let two = with_field(1, form, b"x");
+    vec![
+        with_line(number, 2, &[lines[2], b"\t"].concat()),
+        with_line(number, 2, &[b"\"", lines[2]].concat()),
+        with_line(number, 0, &[lines[0], &[b','; 32]].concat()),
+        with_line(number, 0, &[lines[0], b",", fields(0)[id]].concat()),
+        with_line(number, 0, b"note"),
+        with_line(number, 2, &[lines[2], b",x"].concat()),
+        with_field(3, id, &[b'i'; 65]),
+        with_field(2, id, b"\"\""),
+        two.clone(),
+        with_line(number, 0, &[lines[0], b",\xFF"].concat()),
+        [&two[..], b"\t\n"].concat(),
+    ]
+}
+
+/// A file in every state: good, without records, with an id twice, empty, without its end, or broken on a line; the last ones also break rules 5 and 9.
+fn states(number: usize) -> Vec<Vec<u8>> {
+    let good = file(number, &PLAIN, &THREE);
+    let mut states: Vec<Vec<u8>> =
+        [&THREE[..], &[], &["B", "A", "\"B\""], &["A", "A"]].map(|ids| file(number, &PLAIN, ids)).to_vec();
+    states.extend([&b""[..], b"\xEF\xBB\xBF", b"\n", b"\t\n\t", &good[..good.len() - 1]].map(<[u8]>::to_vec));
+    states.extend(broken_lines(number));
+    // Rule 2 speaks before 4.
+    states.push([&[b'\n'; 65_537][..], b"x"].concat());
+    states
+}
+
+/// Indexes of three records: right, wrong in each way, and wrong in every way from each number on.
+fn indexes(number: usize) -> Vec<Vec<u8>> {
+    let right = bytes(number, &[2, 3, 1]);
+    let changed = |changes: &[(usize, u8)]| {
+        let mut index = right.clone();
+        changes.iter().for_each(|&(place, byte)| index[place] = byte);
+        index
+    };
+    let all = [(8, 3), (10, 2), (12, 0), (6, 9), (3, 2), (0, 0)];
+    let mut indexes = vec![right.clone(), Vec::new(), right[..7].to_vec(), right[..8].to_vec(), right[..13].to_vec()];
+    indexes.extend([(0, b't'), (3, 2), (4, 1), (5, 9), (6, 2), (12, 0), (12, 4), (10, 2)].map(|one| changed(&[one])));
+    indexes.extend((2..=all.len()).map(|count| changed(&all[..count])));
+    indexes.push([&right[..], &[0, 0]].concat());
+    indexes.extend([&[][..], &[1, 2], &[2, 1]].map(|records| bytes(number, records)));
+    indexes
+}
+
+/// Every state of a file beside every index and buffers of each length around the need; and asked for by a number that is no file's.
+fn every_state() -> Vec<Case> {
+    let mut cases = Vec::new();
+    for number in 1..=4 {
+        for (place, file) in states(number).into_iter().enumerate() {
+            cases.extend(indexes(number).into_iter().map(|index| check(number as i32, &file, index)));
+            cases.extend([0, 7, 8, 9, 11, 12, 13, 14, 15, 19].map(|length| write(number as i32, &file, length)));
+            // Another file's number, which its columns don't have, and for one of the files numbers outside.
+            cases.push(check(1 + number as i32 % 4, &file, bytes(1 + number % 4, &[2, 3, 1])));
+            for outside in OUTSIDE.into_iter().filter(|_| place % 4 == number - 1) {
+                cases.extend([0, 14, 19].map(|length| write(outside, &file, length)));
+                cases.extend(
+                    [bytes(number, &[2, 3, 1]), bytes(outside as u8 as usize, &[2, 3, 1]), Vec::new()]
+                        .map(|index| check(outside, &file, index)),
+                );
+            }
+        }
+    }
+    cases
+}
+
+/// Every call about an index; those that tell most apart come first.
+pub fn cases() -> Vec<Case> {
+    let lists = [every_list(), every_byte(), many_records(), every_way_at_once()].concat();
+    let mut cases = [every_state(), lists, all_ids(), pairs()].concat();
+    cases.iter_mut().enumerate().for_each(|(place, case)| case.name = format!("edge case {place}"));
+    cases
+}
