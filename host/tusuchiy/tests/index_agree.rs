@@ -1,0 +1,104 @@
+//! Writer and reader of an index in the archive against the model and the customer's cases: the answer, and what was lent, whole.
+
+use cases::agree::{self, with_index_outcome};
+use cases::index::{by_model, sorted, Asked, Case, Outcome};
+use model::index::{bytes, Answer};
+use tusuchiy::index::{check, write};
+
+/// How many seeds the archive and the model are compared on.
+const SEEDS: usize = 4000;
+
+/// What the archive makes of a call, with guards around what is lent: nothing outside may change.
+fn by_archive(case: &Case) -> Outcome {
+    const GUARD: usize = 16;
+    let mut guarded = [&[77; GUARD][..], &case.lent, &[77; GUARD]].concat();
+    let inside = GUARD..GUARD + case.lent.len();
+    let answer = match case.asked {
+        Asked::Write => write(case.number, &case.file, &mut guarded[inside.clone()]),
+        Asked::Check => check(case.number, &case.file, &guarded[inside.clone()]),
+    };
+    assert!(guarded[..GUARD].iter().chain(&guarded[inside.end..]).all(|&byte| byte == 77), "{}", case.name);
+    let numbers = [answer.number, answer.file, answer.line, answer.column, answer.length];
+    let [number, file, line, column, length] = numbers.map(|number| usize::try_from(number).expect("none is below 0"));
+    Outcome { answer: Answer { number, file, line, column, length }, lent: guarded[inside].to_vec() }
+}
+
+#[test]
+fn on_every_vector() {
+    agree::on_every_vector_about_an_index(by_archive);
+}
+
+#[test]
+fn on_every_edge_case() {
+    agree::on_every_edge_case_about_an_index(by_archive);
+}
+
+#[test]
+fn on_generated_calls() {
+    agree::on_generated_calls_about_an_index(by_archive, SEEDS);
+}
+
+/// A call about routes.txt.
+fn of_routes(asked: Asked, file: &[u8], lent: Vec<u8>) -> Case {
+    Case { name: format!("{} bytes of routes.txt", file.len()), asked, number: 2, file: file.to_vec(), lent }
+}
+
+/// Fails unless a call about routes.txt that is refused by a rule of whole files is so.
+fn refused(asked: Asked, file: &[u8], number: usize) {
+    let case = of_routes(asked, file, vec![5; 140_000]);
+    let answer = Answer { number, file: 2, ..Answer::default() };
+    with_index_outcome(by_archive, &case, &Outcome { answer, lent: case.lent.clone() });
+}
+
+/// As many records as rule 2 allows, in no order: the number of each is taken from a place of its own among all 16-bit numbers.
+fn most_routes() -> Vec<u8> {
+    let lines: String = (1..65_536).map(|record| format!("{:x},3\n", record * 40_503 % 65_536)).collect();
+    format!("route_id,route_type\n{lines}").into_bytes()
+}
+
+#[test]
+fn rule_2_at_its_edge_and_over_it() {
+    let mut file = most_routes();
+    let right = sorted(2, &file);
+    let mut swapped = right.clone();
+    swapped.swap(65_533, 65_534);
+    let calls = [
+        (Asked::Write, vec![5; 131_079], 0),
+        (Asked::Write, vec![5; 131_077], 46),
+        (Asked::Check, bytes(2, &right), 0),
+        (Asked::Check, bytes(2, &swapped), 44),
+    ];
+    for (asked, lent, number) in calls {
+        let case = of_routes(asked, &file, lent);
+        let wanted = by_model(&case);
+        assert_eq!(wanted.answer.number, number);
+        with_index_outcome(by_archive, &case, &wanted);
+    }
+    // The last id once more, on as many lines as before.
+    let end = file.len() - 1 - file.iter().rev().skip(1).position(|&byte| byte == b'\n').expect("a line before");
+    let repeated = [&file[..20], &file[end..], &file[20 + first_line(&file[20..])..]].concat();
+    let case = of_routes(Asked::Write, &repeated, vec![5; 131_078]);
+    let wanted = Outcome { answer: Answer { number: 45, ..Answer::default() }, lent: case.lent.clone() };
+    with_index_outcome(by_archive, &case, &wanted);
+    file.extend(b"more,3\n");
+    refused(Asked::Write, &file, 2);
+    refused(Asked::Check, &file, 2);
+}
+
+/// How long the first line is, its LF counted.
+fn first_line(text: &[u8]) -> usize {
+    text.iter().position(|&byte| byte == b'\n').map_or(0, |end| end + 1)
+}
+
+#[test]
+fn rule_1_at_its_edge_and_over_it() {
+    let mut file = b"route_id,route_type,note\nR,3,".to_vec();
+    file.resize(16_777_215, b'x');
+    file.push(b'\n');
+    let case = of_routes(Asked::Write, &file, vec![5; 11]);
+    let lent = b"TTX\x01\0\x02\x01\0\x01\0\x05".to_vec();
+    with_index_outcome(by_archive, &case, &Outcome { answer: Answer { length: 10, ..Answer::default() }, lent });
+    file.insert(0, b'x');
+    refused(Asked::Write, &file, 1);
+    refused(Asked::Check, &file, 1);
+}
