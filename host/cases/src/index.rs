@@ -3,10 +3,9 @@
 pub mod edges;
 pub mod generate;
 
+use crate::edges::BASE;
 use model::fields::line_ends;
 use model::index::{self, Answer};
-use model::reading::read_alone;
-use model::records::KEYS;
 
 /// Which of the two functions is called.
 #[derive(Clone, Copy, Debug, PartialEq, Eq)]
@@ -52,11 +51,16 @@ pub fn by_model(case: &Case) -> Outcome {
 
 /// The records of a file by their ids, equal ones in file order; of a file that can't be read one for each line behind the first.
 pub fn sorted(number: usize, file: &[u8]) -> Vec<usize> {
-    let Ok(sheet) = read_alone(file, number) else { return (1..line_ends(file)).collect() };
-    let ids: Vec<&[u8]> = sheet.rows().map(|row| row.value(KEYS[number - 1][0])).collect();
+    let Ok(ids) = index::ids(number as i32, file) else { return (1..line_ends(file)).collect() };
     let mut records: Vec<usize> = (1..=ids.len()).collect();
-    records.sort_by_key(|record| ids[record - 1]);
+    records.sort_by_key(|record| &ids[record - 1]);
     records
+}
+
+/// The names of a file's columns in the base feed, and the fields of its first line.
+fn base_line(number: usize) -> [Vec<&'static str>; 2] {
+    let mut lines = BASE[number - 1].lines().map(|line| line.split(',').collect());
+    [lines.next().expect("a header"), lines.next().expect("a line")]
 }
 
 /// Says in a line where two outcomes of a call differ; none if they agree.

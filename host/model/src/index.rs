@@ -32,7 +32,7 @@ fn good(length: usize) -> Answer {
 }
 
 /// The ids of the file by record, the first one's being record 1's; 42 at once for another number, else the file's own refusal.
-fn ids(file_number: i32, file: &[u8]) -> Result<Vec<Vec<u8>>, Answer> {
+pub fn ids(file_number: i32, file: &[u8]) -> Result<Vec<Vec<u8>>, Answer> {
     if !(1..=4).contains(&file_number) {
         return Err(refused(42));
     }

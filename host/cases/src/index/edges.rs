@@ -1,7 +1,6 @@
 //! Indexes at their edges: every two ids in either order, every way to be a wrong index beside every other, files that can't be read, buffers.
 
-use super::{sorted, Asked, Case};
-use crate::edges::BASE;
+use super::{base_line, sorted, Asked, Case};
 use model::columns::COLUMNS;
 use model::fields::value;
 use model::forms::Form;
@@ -92,8 +91,7 @@ const LAYOUTS: [Layout; 4] = [
 
 /// A file with these ids as raw fields, all other values being those of the base feed.
 fn file<I: AsRef<[u8]>>(number: usize, layout: &Layout, ids: &[I]) -> Vec<u8> {
-    let mut lines = BASE[number - 1].lines().map(|line| line.split(',').map(str::as_bytes).collect::<Vec<_>>());
-    let (names, good) = (lines.next().expect("a header"), lines.next().expect("a line"));
+    let [names, good] = base_line(number).map(|fields| fields.into_iter().map(str::as_bytes).collect::<Vec<_>>());
     let place = names.iter().position(|name| *name == KEYS[number - 1][0].as_bytes()).expect("a column of ids");
     let line = |mut fields: Vec<&[u8]>, unread: &[u8]| {
         if layout.backward {
@@ -224,7 +222,7 @@ fn every_byte() -> Vec<Case> {
     cases
 }
 
-/// More records than a byte counts, the ids falling: the right index, and with one entry or its count off by 256.
+/// About as many records as a byte counts, and more, the ids falling: the right index, and with one byte of a number changed.
 fn many_records() -> Vec<Case> {
     let mut cases = Vec::new();
     for count in [255, 256, 257, 300] {
@@ -282,7 +280,7 @@ fn broken_lines(number: usize) -> Vec<Vec<u8>> {
     ]
 }
 
-/// A file in every state: good, without records, with an id twice, empty, without its end, or broken on a line; the last ones also break rules 5 and 9.
+/// A file in every state: good, without records, with an id twice, empty, without its end, broken on a line, of too many lines.
 fn states(number: usize) -> Vec<Vec<u8>> {
     let good = file(number, &PLAIN, &THREE);
     let mut states: Vec<Vec<u8>> =

@@ -1,9 +1,8 @@
 //! Makes a call about an index from a seed: a file, mostly readable, and a buffer of any length, or an index, mostly with some damage.
 
 use super::edges::OUTSIDE;
-use super::{sorted, Asked, Case};
+use super::{base_line, sorted, Asked, Case};
 use crate::damage::{break_bytes, break_values, mutate};
-use crate::edges::BASE;
 use crate::feeds::Grid;
 use crate::random::Random;
 use crate::render::{arrange, write};
@@ -32,9 +31,9 @@ pub fn case(seed: u64) -> Case {
 
 /// A file with ids of all kinds, in any layout; one in six is broken in some way.
 fn file(number: usize, random: &mut Random) -> Vec<u8> {
-    let mut lines = BASE[number - 1].lines().map(|line| line.split(',').collect::<Vec<_>>());
-    let mut grid = Grid::new(&lines.next().expect("a header"));
-    let good: Vec<Vec<u8>> = lines.next().expect("a line").into_iter().map(Into::into).collect();
+    let [names, good] = base_line(number);
+    let mut grid = Grid::new(&names);
+    let good: Vec<Vec<u8>> = good.into_iter().map(Into::into).collect();
     for (row, id) in ids(random).into_iter().enumerate() {
         grid.rows.push(good.clone());
         grid.set(row, KEYS[number - 1][0], id);
