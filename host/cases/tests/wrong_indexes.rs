@@ -11,7 +11,7 @@ use model::records::KEYS;
 use std::cmp::Ordering;
 
 /// How many seeds are looked at: as many as the archive is compared with the model on.
-const SEEDS: u64 = 4000;
+const SEEDS: u64 = 1500;
 
 /// An id: its raw field and its value.
 #[derive(Clone, PartialEq)]
@@ -562,10 +562,9 @@ fn by_the_vectors() {
     told_apart(vectors::indexes().into_iter().map(|(case, _)| case), &but);
 }
 
-/// Half of them tells as much as all.
 #[test]
 fn by_the_edge_cases() {
-    told_apart(edges::cases().into_iter().step_by(2), &[]);
+    told_apart(edges::cases().into_iter(), &[]);
 }
 
 /// Files of too many lines are left to the edge cases.

@@ -6,7 +6,7 @@ use model::index::{bytes, Answer};
 use tusuchiy::index::{check, write};
 
 /// How many seeds the archive and the model are compared on.
-const SEEDS: usize = 4000;
+const SEEDS: usize = 1500;
 
 /// What the archive makes of a call, with guards around what is lent: nothing outside may change.
 fn by_archive(case: &Case) -> Outcome {
@@ -52,7 +52,7 @@ fn refused(asked: Asked, file: &[u8], number: usize) {
 
 /// As many records as rule 2 allows, in no order: the number of each is taken from a place of its own among all 16-bit numbers.
 fn most_routes() -> Vec<u8> {
-    let lines: String = (1..65_536).map(|record| format!("{:x},3\n", record * 40_503 % 65_536)).collect();
+    let lines: String = (1..65_536_usize).map(|record| format!("{:x},3\n", record * 40_503 % 65_536)).collect();
     format!("route_id,route_type\n{lines}").into_bytes()
 }
 

@@ -6,6 +6,7 @@ use model::fields::value;
 use model::forms::Form;
 use model::index::bytes;
 use model::records::KEYS;
+use std::array::from_fn;
 use std::collections::BTreeSet;
 
 /// Numbers that are no file's with an index: those of other files, and those that a narrower number would take for one.
@@ -120,17 +121,20 @@ fn write(number: i32, file: &[u8], length: usize) -> Case {
     Case { asked: Asked::Write, ..check(number, file, buffer) }
 }
 
-/// Every two ids, each before the other: the writer, and the reader with the records as they stand.
+/// Every two ids, and each id twice: the writer, or the reader with the records as they stand, one of them before the other.
 fn pairs() -> Vec<Case> {
     let ids = ids();
     let mut cases = Vec::new();
     for (place, one) in ids.iter().enumerate() {
-        for (beside, other) in ids.iter().enumerate() {
-            // Files and layouts by turns.
-            let (number, layout) = (1 + (place + beside) % 4, &LAYOUTS[(place + beside * 3) / 2 % 4]);
-            let file = file(number, layout, &[one, other]);
-            cases.push(write(number as i32, &file, 13));
-            cases.push(check(number as i32, &file, bytes(number, &[1, 2])));
+        for other in &ids[place..] {
+            // Files, layouts, functions and orders by turns.
+            let turn = cases.len();
+            let (number, layout) = (1 + turn % 4, &LAYOUTS[turn / 4 % 4]);
+            let file = file(number, layout, &if turn % 3 > 0 { [one, other] } else { [other, one] });
+            cases.push(match turn % 5 {
+                0 | 2 => write(number as i32, &file, 13),
+                _ => check(number as i32, &file, bytes(number, &[1, 2])),
+            });
         }
     }
     cases
@@ -142,7 +146,7 @@ fn all_ids() -> Vec<Case> {
     let mut seen = BTreeSet::new();
     ids.retain(|id| seen.insert(value(id)));
     let mut cases = Vec::new();
-    for (number, layout) in (1..=4).flat_map(|number| LAYOUTS.iter().map(move |layout| (number, layout))) {
+    for (number, layout) in (1..).zip(&LAYOUTS) {
         let file = file(number, layout, &ids);
         let right = sorted(number, &file);
         cases.push(write(number as i32, &file, 8 + 2 * ids.len()));
@@ -159,23 +163,17 @@ fn all_ids() -> Vec<Case> {
 /// Ids of three records; the right order is 2, 3, 1.
 const THREE: [&str; 3] = ["B", "A", "\"AB\""];
 
-/// Lists of three records that are wrong in one way, or in two: 43 in either place beside 44.
-const LISTS: [[usize; 3]; 9] =
-    [[2, 3, 1], [2, 3, 0], [2, 3, 4], [3, 2, 1], [2, 2, 3], [3, 2, 0], [0, 3, 2], [4, 2, 3], [512, 768, 256]];
-
-/// Every mark, version, file number, count, list and end beside every other.
+/// Every version beside every other number of an index that is right or wrong, for each file by turns.
 fn every_way_at_once() -> Vec<Case> {
     let mut cases = Vec::new();
-    for list in LISTS {
-        for count in [3, 2, 4, 3 * 256] {
-            for (mark, version) in [b"TTX", b"TTY"].into_iter().flat_map(|mark| [1, 0, 2, 256].map(|of| (mark, of))) {
-                for (more, end) in [0, 1].into_iter().flat_map(|more| [14, 13, 12, 15, 16].map(|end| (more, end))) {
-                    let number = 1 + cases.len() % 4;
-                    let mut index = bytes(number, &list);
-                    index[..3].copy_from_slice(mark);
-                    index[3..5].copy_from_slice(&u16::to_le_bytes(version));
-                    index[5] += more;
-                    index[6..8].copy_from_slice(&u16::to_le_bytes(count));
+    // 43 alone, 44 alone, and both, either first.
+    for list in [[2, 3, 1], [2, 3, 0], [3, 2, 1], [3, 2, 4], [0, 3, 2]] {
+        for (count, end) in [3, 2, 4].into_iter().flat_map(|count| [14, 13, 16].map(|end| (count, end))) {
+            for (mark, version) in [b"TTX", b"TTY"].into_iter().flat_map(|mark| [1, 2].map(|version| (mark, version))) {
+                for more in [0, 1] {
+                    let number = 1 + cases.len() / 3 % 4;
+                    let mut index = [&mark[..], &[version, 0, number as u8 + more, count, 0]].concat();
+                    index.extend(&bytes(number, &list)[8..]);
                     index.resize(end, 0);
                     cases.push(check(number as i32, &file(number, &PLAIN, &THREE), index));
                 }
@@ -185,11 +183,10 @@ fn every_way_at_once() -> Vec<Case> {
     cases
 }
 
-/// Every list of three records, over ids that fall, rise and repeat.
+/// Every list of three records, over ids that fall and that repeat.
 fn every_list() -> Vec<Case> {
     let mut cases = Vec::new();
-    for ids in [THREE, ["A", "B", "C"], ["B", "A", "\"B\""]] {
-        let number = 1 + cases.len() % 4;
+    for (number, ids) in [(4, THREE), (1, ["B", "A", "\"B\""])] {
         let file = file(number, &PLAIN, &ids);
         let lists = (0..125).map(|list| [list / 25, list / 5 % 5, list % 5]);
         cases.extend(lists.map(|list| check(number as i32, &file, bytes(number, &list))));
@@ -197,35 +194,41 @@ fn every_list() -> Vec<Case> {
     cases
 }
 
-/// Every length and every changed byte of an index, of each file, with records and without.
+/// Every length and every changed byte of an index, of each file, with records and without; every length of a buffer.
 fn every_byte() -> Vec<Case> {
     let mut cases = Vec::new();
     for (number, ids) in (1..=4).flat_map(|number| [&THREE[..], &[]].map(|ids| (number, ids))) {
         let file = file(number, &PLAIN, ids);
         let right = bytes(number, &sorted(number, &file));
-        for length in 0..right.len() + 4 {
-            let mut index = right.clone();
-            index.resize(length, 0);
-            cases.push(check(number as i32, &file, index));
+        let mut indexes = vec![right.clone(); right.len() + 4];
+        indexes.iter_mut().enumerate().for_each(|(length, index)| index.resize(length, 0));
+        for (place, byte) in right.iter().enumerate() {
+            // All files' numbers for one another; the low bit, the one that makes small letters, the sign.
+            let changes: &[u8] = if place == 5 { &[1, 2, 3, 4, 5, 6, 7] } else { &[1, 0x20, 0x80] };
+            indexes
+                .extend(changes.iter().map(|change| [&right[..place], &[byte ^ change], &right[place + 1..]].concat()));
         }
-        for place in 0..right.len() {
-            // Among these are all file numbers for one another, and small letters.
-            let changed = [1, 2, 3, 4, 5, 6, 7, 0x20, 0x80, 0xFF].map(|change| right[place] ^ change);
-            for byte in changed {
-                let mut index = right.clone();
-                index[place] = byte;
-                cases.push(check(number as i32, &file, index));
-            }
-        }
+        cases.extend(indexes.into_iter().map(|index| check(number as i32, &file, index)));
         cases.extend((0..right.len() + 6).map(|length| write(number as i32, &file, length)));
     }
     cases
 }
 
+/// The right index of three records with its numbers' high bytes first: all of them, or only those of one kind.
+fn high_bytes_first() -> Vec<Case> {
+    let (file, right) = (file(2, &PLAIN, &THREE), bytes(2, &[2, 3, 1]));
+    let swapped = |places: &[usize]| {
+        let mut index = right.clone();
+        places.iter().for_each(|&place| index.swap(place, place + 1));
+        check(2, &file, index)
+    };
+    [&[3, 6, 8, 10, 12][..], &[3], &[6], &[8, 10, 12], &[6, 8, 10, 12]].map(swapped).to_vec()
+}
+
 /// About as many records as a byte counts, and more, the ids falling: the right index, and with one byte of a number changed.
 fn many_records() -> Vec<Case> {
     let mut cases = Vec::new();
-    for count in [255, 256, 257, 300] {
+    for count in [255, 256, 300] {
         let ids: Vec<String> = (0..count).map(|id| format!("i{:03}", 999 - id)).collect();
         let (number, length) = (1 + count % 4, 8 + 2 * count);
         let file = file(number, &PLAIN, &ids);
@@ -309,30 +312,39 @@ fn indexes(number: usize) -> Vec<Vec<u8>> {
     indexes
 }
 
-/// Every state of a file beside every index and buffers of each length around the need; and asked for by a number that is no file's.
+/// Every state of a file beside every index, and beside buffers of each length around the need, for each file by turns.
 fn every_state() -> Vec<Case> {
     let mut cases = Vec::new();
-    for number in 1..=4 {
-        for (place, file) in states(number).into_iter().enumerate() {
-            cases.extend(indexes(number).into_iter().map(|index| check(number as i32, &file, index)));
-            cases.extend([0, 7, 8, 9, 11, 12, 13, 14, 15, 19].map(|length| write(number as i32, &file, length)));
-            // Another file's number, which its columns don't have, and for one of the files numbers outside.
-            cases.push(check(1 + number as i32 % 4, &file, bytes(1 + number % 4, &[2, 3, 1])));
-            for outside in OUTSIDE.into_iter().filter(|_| place % 4 == number - 1) {
-                cases.extend([0, 14, 19].map(|length| write(outside, &file, length)));
-                cases.extend(
-                    [bytes(number, &[2, 3, 1]), bytes(outside as u8 as usize, &[2, 3, 1]), Vec::new()]
-                        .map(|index| check(outside, &file, index)),
-                );
-            }
+    let all: [Vec<Vec<u8>>; 4] = from_fn(|file| states(file + 1));
+    for state in 0..all[0].len() {
+        for place in 0..indexes(1).len() {
+            let number = 1 + (state + place) % 4;
+            cases.push(check(number as i32, &all[number - 1][state], indexes(number).swap_remove(place)));
+        }
+        for length in [0, 7, 8, 9, 11, 12, 13, 14, 15, 19] {
+            let number = 1 + (state + length / 2) % 4;
+            cases.push(write(number as i32, &all[number - 1][state], length));
+        }
+        for (place, outside) in OUTSIDE.into_iter().enumerate() {
+            let number = 1 + (state + place) % 4;
+            let file = &all[number - 1][state];
+            cases.push(match (state + place / 4) % 5 {
+                0 => write(outside, file, 0),
+                1 => write(outside, file, 19),
+                2 => check(outside, file, bytes(number, &[2, 3, 1])),
+                3 => check(outside, file, bytes(outside as u8 as usize, &[2, 3, 1])),
+                _ => check(outside, file, Vec::new()),
+            });
         }
     }
+    // A file under another one's number.
+    cases.extend((1..=4).map(|number| check(number as i32, &all[number % 4][0], bytes(number, &[2, 3, 1]))));
     cases
 }
 
 /// Every call about an index; those that tell most apart come first.
 pub fn cases() -> Vec<Case> {
-    let lists = [every_list(), every_byte(), many_records(), every_way_at_once()].concat();
+    let lists = [every_list(), every_byte(), high_bytes_first(), many_records(), every_way_at_once()].concat();
     let mut cases = [every_state(), lists, all_ids(), pairs()].concat();
     cases.iter_mut().enumerate().for_each(|(place, case)| case.name = format!("edge case {place}"));
     cases

@@ -52,7 +52,7 @@ fn file(number: usize, random: &mut Random) -> Vec<u8> {
     file
 }
 
-/// Some ids, seldom many; in one of four files they are long, and in three of four none repeats.
+/// Some ids, seldom many; in one of four files they are long, and in one of five one repeats.
 fn ids(random: &mut Random) -> Vec<Vec<u8>> {
     let most = *random.pick(&[3, 6, 6, 12, 40]);
     let long = random.once_in(4);
@@ -60,11 +60,12 @@ fn ids(random: &mut Random) -> Vec<Vec<u8>> {
     if random.once_in(100) {
         ids.extend((0..280).map(|number| format!("{number}").into_bytes()));
     }
-    if !random.once_in(4) {
-        ids.sort();
-        ids.dedup();
-        random.shuffle(&mut ids);
+    ids.sort();
+    ids.dedup();
+    if !ids.is_empty() && random.once_in(5) {
+        ids.push(random.pick(&ids).clone());
     }
+    random.shuffle(&mut ids);
     ids
 }
 
