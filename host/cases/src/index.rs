@@ -32,10 +32,10 @@ pub struct Outcome {
 }
 
 impl Case {
-    /// All that goes into the call, to be read where it fails.
+    /// What goes into the call, to be read where it fails; of large files the beginning.
     pub fn words(&self) -> String {
-        let Case { name, asked, number, file, lent } = self;
-        format!("{name}, {asked:?} of file number {number}: {}, lent {}", file.escape_ascii(), lent.escape_ascii())
+        let [file, lent] = [&self.file, &self.lent].map(|bytes| bytes[..bytes.len().min(4096)].escape_ascii());
+        format!("{}, {:?} of file number {}: {file}, lent {lent}", self.name, self.asked, self.number)
     }
 }
 

@@ -1,7 +1,7 @@
 //! Writer and reader of an index in the archive against the model and the customer's cases: the answer, and what was lent, whole.
 
 use cases::agree::{self, with_index_outcome};
-use cases::index::{by_model, sorted, Asked, Case, Outcome};
+use cases::index::{sorted, Asked, Case, Outcome};
 use model::index::{bytes, Answer};
 use tusuchiy::index::{check, write};
 
@@ -38,16 +38,17 @@ fn on_generated_calls() {
     agree::on_generated_calls_about_an_index(by_archive, SEEDS);
 }
 
-/// A call about routes.txt.
-fn of_routes(asked: Asked, file: &[u8], lent: Vec<u8>) -> Case {
-    Case { name: format!("{} bytes of routes.txt", file.len()), asked, number: 2, file: file.to_vec(), lent }
+/// Fails unless a call about routes.txt answers so, and leaves these bytes of what was lent.
+fn answers(asked: Asked, file: &[u8], lent: Vec<u8>, answer: Answer, left: Vec<u8>) {
+    let name = format!("{} bytes of routes.txt", file.len());
+    let case = Case { name, asked, number: 2, file: file.to_vec(), lent };
+    with_index_outcome(by_archive, &case, &Outcome { answer, lent: left });
 }
 
 /// Fails unless a call about routes.txt that is refused by a rule of whole files is so.
 fn refused(asked: Asked, file: &[u8], number: usize) {
-    let case = of_routes(asked, file, vec![5; 140_000]);
-    let answer = Answer { number, file: 2, ..Answer::default() };
-    with_index_outcome(by_archive, &case, &Outcome { answer, lent: case.lent.clone() });
+    let lent = vec![5; 140_000];
+    answers(asked, file, lent.clone(), Answer { number, file: 2, ..Answer::default() }, lent);
 }
 
 /// As many records as rule 2 allows, in no order: the number of each is taken from a place of its own among all 16-bit numbers.
@@ -59,35 +60,23 @@ fn most_routes() -> Vec<u8> {
 #[test]
 fn rule_2_at_its_edge_and_over_it() {
     let mut file = most_routes();
-    let right = sorted(2, &file);
-    let mut swapped = right.clone();
-    swapped.swap(65_533, 65_534);
-    let calls = [
-        (Asked::Write, vec![5; 131_079], 0),
-        (Asked::Write, vec![5; 131_077], 46),
-        (Asked::Check, bytes(2, &right), 0),
-        (Asked::Check, bytes(2, &swapped), 44),
-    ];
-    for (asked, lent, number) in calls {
-        let case = of_routes(asked, &file, lent);
-        let wanted = by_model(&case);
-        assert_eq!(wanted.answer.number, number);
-        with_index_outcome(by_archive, &case, &wanted);
-    }
-    // The last id once more, on as many lines as before.
-    let end = file.len() - 1 - file.iter().rev().skip(1).position(|&byte| byte == b'\n').expect("a line before");
-    let repeated = [&file[..20], &file[end..], &file[20 + first_line(&file[20..])..]].concat();
-    let case = of_routes(Asked::Write, &repeated, vec![5; 131_078]);
-    let wanted = Outcome { answer: Answer { number: 45, ..Answer::default() }, lent: case.lent.clone() };
-    with_index_outcome(by_archive, &case, &wanted);
+    let mut records = sorted(2, &file);
+    let right = bytes(2, &records);
+    let good = Answer { length: 131_078, ..Answer::default() };
+    answers(Asked::Write, &file, vec![5; 131_079], good, [&right[..], &[5]].concat());
+    answers(Asked::Check, &file, right.clone(), good, right);
+    records.swap(65_533, 65_534);
+    let swapped = bytes(2, &records);
+    answers(Asked::Check, &file, swapped.clone(), Answer { number: 44, ..Answer::default() }, swapped);
+    // The first record's id again on the last line.
+    let first = file[20..].split_inclusive(|&byte| byte == b'\n').next().expect("a line").to_vec();
+    let last = file[..file.len() - 1].iter().rposition(|&byte| byte == b'\n').expect("lines") + 1;
+    let repeated = [&file[..last], &first].concat();
+    let buffer = vec![5; 131_078];
+    answers(Asked::Write, &repeated, buffer.clone(), Answer { number: 45, ..Answer::default() }, buffer);
     file.extend(b"more,3\n");
     refused(Asked::Write, &file, 2);
     refused(Asked::Check, &file, 2);
-}
-
-/// How long the first line is, its LF counted.
-fn first_line(text: &[u8]) -> usize {
-    text.iter().position(|&byte| byte == b'\n').map_or(0, |end| end + 1)
 }
 
 #[test]
@@ -95,9 +84,8 @@ fn rule_1_at_its_edge_and_over_it() {
     let mut file = b"route_id,route_type,note\nR,3,".to_vec();
     file.resize(16_777_215, b'x');
     file.push(b'\n');
-    let case = of_routes(Asked::Write, &file, vec![5; 11]);
-    let lent = b"TTX\x01\0\x02\x01\0\x01\0\x05".to_vec();
-    with_index_outcome(by_archive, &case, &Outcome { answer: Answer { length: 10, ..Answer::default() }, lent });
+    let left = b"TTX\x01\0\x02\x01\0\x01\0\x05".to_vec();
+    answers(Asked::Write, &file, vec![5; 11], Answer { length: 10, ..Answer::default() }, left);
     file.insert(0, b'x');
     refused(Asked::Write, &file, 1);
     refused(Asked::Check, &file, 1);
