@@ -345,7 +345,7 @@ fn every_state() -> Vec<Case> {
 /// Every call about an index; those that tell most apart come first.
 pub fn cases() -> Vec<Case> {
     let lists = [every_list(), every_byte(), high_bytes_first(), many_records(), every_way_at_once()].concat();
-    let mut cases = [every_state(), lists, all_ids(), pairs()].concat();
+    let mut cases = [every_state(), all_ids(), lists, pairs()].concat();
     cases.iter_mut().enumerate().for_each(|(place, case)| case.name = format!("edge case {place}"));
     cases
 }
