@@ -110,7 +110,7 @@ const ORDERS: [(&str, Reading); 12] = [
     ("up to a NUL", order(|one, other| up_to_nul(one) < up_to_nul(other))),
     ("by 63 bytes", order(|one, other| cut(one) < cut(other))),
     ("falling", order(|one, other| one.value > other.value)),
-    ("blanks taken off", order(|one, other| one.value.trim_ascii() < other.value.trim_ascii())),
+    ("blanks taken off", order(|one, other| trimmed(one) < trimmed(other))),
     ("written in file order", Reading { sorts: false, ..RIGHT }),
 ];
 
@@ -410,6 +410,10 @@ fn opened(id: &Id) -> &[u8] {
 
 fn utf_16(id: &Id) -> Vec<u16> {
     String::from_utf8_lossy(&id.value).encode_utf16().collect()
+}
+
+fn trimmed(id: &Id) -> String {
+    String::from_utf8_lossy(&id.value).trim().to_string()
 }
 
 fn up_to_nul(id: &Id) -> &[u8] {
