@@ -1,7 +1,7 @@
-//! A check held to the customer's cases and to the model, on as many threads as there are processors.
+//! A check, and writer and reader of an index, held to the customer's cases and to the model, on as many threads as there are processors.
 
 use crate::large::{self, families::FAMILIES};
-use crate::{by_model, difference, edges, generate, vectors, Case, Outcome};
+use crate::{by_model, difference, edges, generate, index, vectors, Case, Outcome};
 use std::thread;
 
 /// What a check makes of a case.
@@ -57,6 +57,34 @@ pub fn on_the_benchmarks_feeds(check: Checks, sizes: &[(usize, usize)]) {
     }
 }
 
+/// What writer and reader make of a call about an index.
+pub type Indexes = fn(&index::Case) -> index::Outcome;
+
+/// Fails where the outcome of a call about an index is not the one wanted.
+pub fn with_index_outcome(indexes: Indexes, case: &index::Case, wanted: &index::Outcome) {
+    if let Some(difference) = index::difference(wanted, &indexes(case)) {
+        panic!("{difference}: {}", case.words());
+    }
+}
+
+pub fn on_every_vector_about_an_index(indexes: Indexes) {
+    for (case, wanted) in vectors::indexes() {
+        with_index_outcome(indexes, &case, &wanted);
+    }
+}
+
+pub fn on_every_edge_case_about_an_index(indexes: Indexes) {
+    let cases = index::edges::cases();
+    share(cases.len(), |place| with_index_outcome(indexes, &cases[place], &index::by_model(&cases[place])));
+}
+
+pub fn on_generated_calls_about_an_index(indexes: Indexes, seeds: usize) {
+    share(seeds, |seed| {
+        let case = index::generate::case(seed as u64);
+        with_index_outcome(indexes, &case, &index::by_model(&case));
+    });
+}
+
 #[cfg(test)]
 mod tests {
     use super::*;
@@ -104,5 +132,48 @@ mod tests {
     #[should_panic(expected = "thread panicked")]
     fn a_check_without_columns_fails_on_generated_feeds() {
         on_generated_feeds(without_columns, 100);
+    }
+
+    /// The model's outcome, but where the writer is refused its buffer's last byte is lost, the only thing that differs.
+    fn losing_a_byte(case: &index::Case) -> index::Outcome {
+        let mut outcome = index::by_model(case);
+        if let (index::Asked::Write, 45 | 46, Some(last)) = (case.asked, outcome.answer.number, outcome.lent.last_mut())
+        {
+            *last ^= 1;
+        }
+        outcome
+    }
+
+    #[test]
+    #[should_panic(expected = "what was lent differs")]
+    fn a_lost_byte_fails_on_vectors() {
+        on_every_vector_about_an_index(losing_a_byte);
+    }
+
+    #[test]
+    #[should_panic(expected = "thread panicked")]
+    fn a_lost_byte_fails_on_edge_cases() {
+        on_every_edge_case_about_an_index(losing_a_byte);
+    }
+
+    #[test]
+    #[should_panic(expected = "thread panicked")]
+    fn a_lost_byte_fails_on_generated_calls() {
+        on_generated_calls_about_an_index(losing_a_byte, 100);
+    }
+
+    /// Accepts what is right, and refuses all else with 44.
+    fn one_refusal(case: &index::Case) -> index::Outcome {
+        let mut outcome = index::by_model(case);
+        if matches!(outcome.answer.number, 40..=43) {
+            outcome.answer.number = 44;
+        }
+        outcome
+    }
+
+    #[test]
+    #[should_panic(expected = "number: 44")]
+    fn another_refusal_fails_on_vectors() {
+        on_every_vector_about_an_index(one_refusal);
     }
 }

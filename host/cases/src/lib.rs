@@ -9,6 +9,7 @@ pub mod edges;
 pub mod faults;
 pub mod feeds;
 pub mod generate;
+pub mod index;
 pub mod large;
 pub mod lines;
 pub mod orders;

@@ -1,18 +1,36 @@
-//! Reads vector files; their form is explained at the top of vectors/e7.txt.
+//! Reads vector files; their form is explained at the top of vectors/e4.txt.
 
+use crate::index::{self, Asked};
 use crate::{Case, Outcome};
 use model::{Answer, Files, Tables};
 
-/// The customer's vectors for document 01 with E2, E1, E6 and E7; the first line says so.
-pub const E7: &str = include_str!("../vectors/e7.txt");
+/// The customer's vectors for document 01 with E2, E1, E6, E7 and E4; the first line says so.
+pub const E4: &str = include_str!("../vectors/e4.txt");
+
+/// A case of a vector file with what the check must give, and the calls about indexes with what each must give.
+#[derive(Debug)]
+pub struct Vector {
+    pub case: Case,
+    pub outcome: Outcome,
+    pub indexes: Vec<(index::Case, index::Outcome)>,
+}
 
 /// The customer's cases with what each must give.
 pub fn customers() -> Vec<(Case, Outcome)> {
-    read(E7).expect("vectors/e7.txt is well-formed")
+    all_of_e4().into_iter().map(|vector| (vector.case, vector.outcome)).collect()
+}
+
+/// The customer's calls about indexes with what each must give.
+pub fn indexes() -> Vec<(index::Case, index::Outcome)> {
+    all_of_e4().into_iter().flat_map(|vector| vector.indexes).collect()
+}
+
+fn all_of_e4() -> Vec<Vector> {
+    read(E4).expect("vectors/e4.txt is well-formed")
 }
 
 /// The cases of a vector file, or what is wrong with it and where.
-pub fn read(text: &str) -> Result<Vec<(Case, Outcome)>, String> {
+pub fn read(text: &str) -> Result<Vec<Vector>, String> {
     let mut cases = Vec::new();
     let mut open: Option<Vec<Vec<&str>>> = None;
     for (place, line) in text.lines().enumerate() {
@@ -34,10 +52,11 @@ pub fn read(text: &str) -> Result<Vec<(Case, Outcome)>, String> {
 }
 
 /// One case from its lines; what is held is as lent where the file is silent.
-fn case(lines: &[Vec<&str>]) -> Result<(Case, Outcome), String> {
+fn case(lines: &[Vec<&str>]) -> Result<Vector, String> {
     let mut case = Case::default();
     let mut answer = None;
     let mut held: Vec<(usize, Vec<i32>)> = Vec::new();
+    let mut calls: Vec<&[&str]> = Vec::new();
     for words in lines {
         match words[..] {
             ["case", name] => case.name = name.to_string(),
@@ -49,6 +68,7 @@ fn case(lines: &[Vec<&str>]) -> Result<(Case, Outcome), String> {
             ["start", file, line, rule] => case.start = [number(file)?, number(line)?, number(rule)?],
             ["answer", ref words @ ..] => answer = Some(read_answer(words)?),
             ["held", table, ref numbers @ ..] => held.push((number(table)?, all(numbers)?)),
+            ["index_write" | "wrote" | "buffer" | "index_check" | "judged", ..] => calls.push(words),
             _ => return Err(format!("unknown words: {words:?}")),
         }
     }
@@ -57,7 +77,39 @@ fn case(lines: &[Vec<&str>]) -> Result<(Case, Outcome), String> {
     for (table, numbers) in held {
         *slot(&mut outcome.tables, &mut outcome.list, table)? = numbers;
     }
-    Ok((case, outcome))
+    let indexes = indexes_of(&case, &calls)?;
+    Ok(Vector { case, outcome, indexes })
+}
+
+/// The calls about indexes, each with what it answers and leaves.
+fn indexes_of(of: &Case, calls: &[&[&str]]) -> Result<Vec<(index::Case, index::Outcome)>, String> {
+    let mut indexes = Vec::new();
+    let mut rest = calls;
+    while !rest.is_empty() {
+        let (asked, file, lent, answer, after);
+        (asked, file, lent, answer, after, rest) = match rest {
+            [["index_write", file, length, fill], ["wrote", answer @ ..], ["buffer", after], rest @ ..] => {
+                (Asked::Write, file, vec![number(fill)?; number(length)?], answer, hex(after)?, rest)
+            }
+            [["index_check", file, index], ["judged", answer @ ..], rest @ ..] => {
+                (Asked::Check, file, hex(index)?, answer, hex(index)?, rest)
+            }
+            _ => return Err(format!("not the words of a call: {:?}", rest[0])),
+        };
+        let case = index::Case { name: of.name.clone(), asked, number: number(file)?, file: Vec::new(), lent };
+        // Where the case has no such file, file 1 is lent.
+        let place = usize::try_from(case.number).map_or(0, |number| number.wrapping_sub(1));
+        let file = of.files.get(place).unwrap_or(&of.files[0]).clone();
+        indexes.push((index::Case { file, ..case }, index::Outcome { answer: index_answer(answer)?, lent: after }));
+    }
+    Ok(indexes)
+}
+
+/// What a call about an index answers: five numbers.
+fn index_answer(words: &[&str]) -> Result<model::index::Answer, String> {
+    let [number, file, line, column, length] = words else { return Err(format!("not five numbers: {words:?}")) };
+    let [number, file, line, column, length] = [number, file, line, column, length].map(|word| self::number(word));
+    Ok(model::index::Answer { number: number?, file: file?, line: line?, column: column?, length: length? })
 }
 
 /// File K.

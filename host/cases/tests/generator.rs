@@ -2,6 +2,7 @@
 
 use cases::characters::ILL_FORMED;
 use cases::generate::{case, kind, Kind};
+use cases::index::{self, Asked};
 use cases::{by_model, Case};
 use model::characters::first_character;
 use model::columns::COLUMNS;
@@ -155,6 +156,20 @@ fn a_seed_gives_the_same_case_for_ever() {
     for seed in [0, 5, 8, 11, 15] {
         assert_eq!(case(seed), case(seed));
     }
+}
+
+/// Calls about indexes get every answer, of either function.
+#[test]
+fn every_answer_about_an_index_is_reached() {
+    let mut reached = BTreeMap::new();
+    for case in (0..1500).map(index::generate::case) {
+        *reached.entry((case.asked == Asked::Write, index::by_model(&case).answer.number)).or_insert(0) += 1;
+    }
+    println!("{reached:?}");
+    let of_file = [4, 5, 6, 7, 8, 9, 10, 11, 12, 13, 14];
+    let written = [&[0], &of_file[..], &[42, 45, 46]].concat().into_iter().map(|number| (true, number));
+    let judged = [&[0], &of_file[..], &[40, 41, 42, 43, 44]].concat().into_iter().map(|number| (false, number));
+    assert!(reached.keys().copied().eq(judged.chain(written)), "{:?}", reached.keys());
 }
 
 /// The feeds that the limits are tried with.

@@ -1,10 +1,11 @@
 //! The model against the customer's sample of cases: answer, all tables and the list, whole.
 
-use cases::{by_model, difference, vectors};
+use cases::index::Asked;
+use cases::{by_model, difference, index, vectors};
 
 #[test]
 fn the_model_agrees_with_every_vector() {
-    assert_eq!(vectors::E7.lines().next(), Some("# Document 01 with requests E2,E1,E6,E7 in force."));
+    assert_eq!(vectors::E4.lines().next(), Some("# Document 01 with requests E2,E1,E6,E7,E4 in force."));
     let vectors = vectors::customers();
     assert_eq!(vectors.len(), 400);
     for (case, wanted) in &vectors {
@@ -14,11 +15,21 @@ fn the_model_agrees_with_every_vector() {
     }
 }
 
+#[test]
+fn the_model_agrees_with_every_vector_about_an_index() {
+    let vectors = vectors::indexes();
+    assert_eq!(vectors.len(), 800);
+    for (case, wanted) in &vectors {
+        assert_eq!(index::by_model(case), *wanted, "{}: {:?} of {}", case.name, case.asked, case.number);
+    }
+}
+
 /// The reader itself: a case by hand, and files that it must refuse.
 #[test]
 fn the_reader_reads_what_its_form_says() {
     let text = "# note\ncase a\nfile 1 41\nfile 2 -\nlent 0 3 7 -2\nstart 0 -1 2\nanswer refused 4 1 0 9\nend\n";
-    let (case, outcome) = vectors::read(text).unwrap().remove(0);
+    let vector = vectors::read(text).unwrap().remove(0);
+    let (case, outcome) = (vector.case, vector.outcome);
     assert_eq!(case.files[0], b"A");
     assert!(case.files[1].is_empty());
     assert_eq!(case.list, [7, 5, 3]);
@@ -29,4 +40,36 @@ fn the_reader_reads_what_its_form_says() {
     for bad in ["case a\n", "end\n", "case a\nend\n", "case a\nfile 9 41\nend\n", "case a\nfile 1 4\nend\n"] {
         assert!(vectors::read(bad).is_err(), "{bad}");
     }
+}
+
+/// Calls about indexes: by hand, and words that are no call.
+#[test]
+fn the_reader_reads_calls_about_indexes() {
+    let head = "case a\nfile 1 41\nfile 6 42\nstart 0 0 0\nanswer accepted\n";
+    let write = "index_write 6 2 255\nwrote 42 0 0 0 0\nbuffer ffff\n";
+    let check = "index_check -7 5454\njudged 1 2 3 4 5\n";
+    let read = |calls: &str| vectors::read(&format!("{head}{calls}end\n"));
+    let vector = read(&format!("{write}{check}")).unwrap().remove(0);
+    let [(wrote, left), (judged, told)] = &vector.indexes[..] else { panic!("two calls") };
+    assert_eq!(
+        (wrote.asked, wrote.number, &wrote.file[..], &wrote.lent[..]),
+        (Asked::Write, 6, &b"B"[..], &[255; 2][..])
+    );
+    assert_eq!((left.answer.number, left.answer.file, &left.lent[..]), (42, 0, &[255; 2][..]));
+    assert_eq!(
+        (judged.asked, judged.number, &judged.file[..], &judged.lent[..]),
+        (Asked::Check, -7, &b"A"[..], &b"TT"[..])
+    );
+    let answer = model::index::Answer { number: 1, file: 2, line: 3, column: 4, length: 5 };
+    assert_eq!((told.answer, &told.lent[..]), (answer, &b"TT"[..]));
+    for (good, bad) in [
+        ("wrote", "judged"),
+        ("buffer ffff\n", ""),
+        (" 0 0\n", " 0\n"),
+        ("index_write 6", "index_write"),
+        ("ff\n", "f\n"),
+    ] {
+        assert!(read(&write.replacen(good, bad, 1)).is_err(), "{bad} for {good}");
+    }
+    assert!(read(&format!("{write}{write}")).is_ok() && read("judged 0 0 0 0 0\n").is_err());
 }

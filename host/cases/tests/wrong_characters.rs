@@ -202,19 +202,24 @@ fn told_apart(cases: impl Iterator<Item = Case>, but: &[&str]) {
     missed.are(but);
 }
 
-/// What the customer's feeds lack: some ill-formed sequences, a rule from 5 to 7 broken beside 14, 14 in an unread column.
+/// What the customer's feeds lack: several ill-formed sequences, and a rule from 5 to 9 broken beside 14.
 #[test]
 fn by_the_vectors() {
     let but = [
         "14 after 6",
         "14 after 7",
+        "14 after 9",
         "14 before 5",
+        "C0 80 for U+0000",
+        "F5 to F7 begin four bytes",
         "F8 to FB begin five bytes",
         "a cut character at a line's end",
         "a second mark is ill-formed",
+        "any byte after the first of two",
+        "overlong forms of four bytes",
+        "overlong forms of two bytes",
         "surrogates in pairs",
         "the CR of an ending goes on",
-        "unread columns aren't looked at",
     ];
     told_apart(vectors::customers().into_iter().map(|(case, _)| case), &but);
 }

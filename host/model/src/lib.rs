@@ -1,4 +1,5 @@
-//! The whole check of document 01 with requests E2, E1, E6 and E7, written naively from the documents: files in, tables, list and answer out.
+//! The whole check of document 01 with requests E2, E1, E6 and E7, written naively from the documents: files in, tables, list and answer out;
+//! and request E4's index.
 #![forbid(unsafe_code)]
 
 pub mod characters;
@@ -6,6 +7,7 @@ pub mod columns;
 pub mod facts;
 pub mod fields;
 pub mod forms;
+pub mod index;
 pub mod page;
 pub mod reading;
 pub mod records;

@@ -60,27 +60,31 @@ pub type Feed = [Sheet; FILES];
 pub fn read(files: &Files, room: [usize; FILES]) -> Result<Feed, Answer> {
     for number in 1..=4 {
         for file in 1..=FILES {
-            if whole_file_broken(number, files, file, room[file - 1]) {
+            let excused = number == 4 && may_be_absent(files, file);
+            if !excused && whole_file_broken(number, file, &files[file - 1], room[file - 1]) {
                 return Err(Answer::Refused { number, file, line: 0, column: 0 });
             }
         }
     }
-    let mut sheets = Vec::new();
-    for file in 0..FILES {
-        let refuse = |(line, Broken { number, column })| Answer::Refused { number, file: file + 1, line, column };
-        sheets.push(sheet(&files[file], COLUMNS[file]).map_err(refuse)?);
-    }
-    Ok(sheets.try_into().expect("six sheets"))
+    let sheets: Result<Vec<Sheet>, Answer> = (1..=FILES).map(|file| sheet_of(&files[file - 1], file)).collect();
+    Ok(sheets?.try_into().expect("six sheets"))
 }
 
-/// Rules 1 to 4: is this one broken by the file of this number?
-fn whole_file_broken(number: usize, files: &Files, file: usize, room: usize) -> bool {
-    let bytes = &files[file - 1];
+/// One file by its own rules, or its refusal. No table is lent, so rule 3 isn't tested, and an empty file breaks rule 4.
+pub fn read_alone(bytes: &[u8], file: usize) -> Result<Sheet, Answer> {
+    match [1, 2, 4].into_iter().find(|&number| whole_file_broken(number, file, bytes, 0)) {
+        Some(number) => Err(Answer::Refused { number, file, line: 0, column: 0 }),
+        None => sheet_of(bytes, file),
+    }
+}
+
+/// Rules 1 to 4: is this one broken by the file of this number, with room for so many numbers in its table?
+fn whole_file_broken(number: usize, file: usize, bytes: &[u8], room: usize) -> bool {
     match number {
         1 => bytes.len() > 16_777_216,
         2 => line_ends(bytes) > 65_536,
         3 => room < WIDTHS[file - 1] * line_ends(bytes),
-        _ => bytes.last() != Some(&b'\n') && !may_be_absent(files, file),
+        _ => bytes.last() != Some(&b'\n'),
     }
 }
 
@@ -103,6 +107,12 @@ struct Broken {
 /// A rule that names no column.
 fn whole_line(number: usize) -> Broken {
     Broken { number, column: 0 }
+}
+
+/// The lines of the file of this number, or its first refusal by a line.
+fn sheet_of(bytes: &[u8], file: usize) -> Result<Sheet, Answer> {
+    let refuse = |(line, Broken { number, column })| Answer::Refused { number, file, line, column };
+    sheet(bytes, COLUMNS[file - 1]).map_err(refuse)
 }
 
 /// Reads one file, or tells the line of its first refusal and what it breaks. One not supplied isn't read.

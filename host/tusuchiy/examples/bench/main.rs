@@ -1,8 +1,9 @@
-//! A benchmark, not a test: the proved check beside a check by hash maps, on the same feeds, in one run.
-//! Run it with: cargo run --release --example bench -- [--only FEED] [--lines N]
+//! A benchmark, not a test: the proved check beside a check by hash maps, on the same feeds, in one run; then the index beside a sort.
+//! Run it with: cargo run --release --example bench -- [--only FEED] [--lines N], where FEED may be index too
 #![deny(unsafe_code)]
 
 mod clock;
+mod index;
 mod measure;
 mod report;
 mod table;
@@ -42,13 +43,25 @@ fn main() {
     let Some(options) = options() else { stop(USAGE) };
     let chosen = |family: &&Family| options.only.as_ref().map_or(true, |name| name == family.name);
     let families: Vec<&'static Family> = FAMILIES.iter().filter(chosen).collect();
-    if families.is_empty() {
-        stop(&format!("the feeds are: {}", FAMILIES.each_ref().map(|family| family.name).join(", ")));
+    let index = options.only.as_ref().map_or(true, |name| name == index::NAME);
+    if families.is_empty() && !index {
+        let names = FAMILIES.each_ref().map(|family| family.name).join(", ");
+        stop(&format!("the feeds are: {names}, {}", index::NAME));
     }
-    report::introduce(&families);
+    if !families.is_empty() {
+        feeds(&families, options.lines);
+    }
+    if index {
+        index::measure(options.lines);
+    }
+}
+
+/// Measures the check on these feeds.
+fn feeds(families: &[&'static Family], lines: usize) {
+    report::introduce(families);
     // An emulator is slower once a program has had a second thread, as the check makes: so for both from the start.
     let _ = std::thread::spawn(|| ()).join();
-    let rows: Vec<Row> = families.iter().flat_map(|family| sizes(family, options.lines)).collect();
+    let rows: Vec<Row> = families.iter().flat_map(|family| sizes(family, lines)).collect();
     let parts: Vec<Parts> = families.iter().map(|family| parts_of(family, &rows)).collect();
     report::parts(&parts);
     report::summary(&rows);

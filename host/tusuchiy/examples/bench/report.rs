@@ -89,7 +89,7 @@ pub fn row(row: &Row) {
     TIMES.row(sizes.into_iter().chain(figures));
 }
 
-fn seconds(seconds: f64) -> String {
+pub fn seconds(seconds: f64) -> String {
     match seconds {
         1.0.. => format!("{seconds:.2} s"),
         _ => format!("{:.2} ms", seconds * 1000.0),
