@@ -527,8 +527,8 @@ fn with_routes(folder: &Folder, count: usize) {
     folder.put("routes.txt", format!("route_id,route_type\n{lines}").as_bytes());
 }
 
-/// A disk that is full half way leaves the index that was there, and nothing beside it. What stands for the disk is a limit
-/// on the length of files, which the index alone exceeds.
+/// A disk that is full half way leaves the index that was there, and nothing beside it. What stands for the disk is a
+/// limit on the length of files, which the index alone exceeds.
 #[test]
 fn a_full_disk() {
     let folder = indexed("index-full");
@@ -539,6 +539,13 @@ fn a_full_disk() {
     assert_eq!((status(&output), out(&output), said(&output)), (3, "", &wanted[..]));
     assert_eq!(bytes(&folder, "routes.ttx").as_deref(), Some(ROUTES));
     assert_eq!(beside(&folder).len(), 4);
+    // Without the trap the command is killed half way: only a hidden file is left, and the next run goes past it.
+    let output = command_after("ulimit -f 64").args(["index", folder.path()]).output().expect("the command runs");
+    assert_eq!((output.status.code(), out(&output)), (None, ""), "killed by a signal");
+    assert_eq!(bytes(&folder, "routes.ttx").as_deref(), Some(ROUTES));
+    assert!(beside(&folder)[0].starts_with(".routes.ttx."), "{:?}", beside(&folder));
+    assert_said(&folder, &["--quiet"], 0, "written\n");
+    assert_said(&folder, &["--quiet", "--check"], 0, "accepted\n");
 }
 
 /// As many records as rule 2 allows, and one more.

@@ -53,6 +53,9 @@ mod tests {
     use super::*;
     use std::env;
 
+    /// Linux's number for a disk that is full.
+    const NO_SPACE: i32 = 28;
+
     /// A folder of its own, and what stands in it.
     fn folder(name: &str) -> PathBuf {
         let folder = env::temp_dir().join(format!("tusuchiy-whole-{}-{name}", process::id()));
@@ -77,9 +80,9 @@ mod tests {
                 file.write_all(b"half")?;
                 assert_eq!(fs::read(&path).ok().as_deref(), before.map(|bytes| &bytes[..]));
                 assert_eq!(names(&folder).len(), 1 + usize::from(before.is_some()), "the half file stands beside it");
-                Err(ErrorKind::StorageFull.into())
+                Err(io::Error::from_raw_os_error(NO_SPACE))
             });
-            assert_eq!(full.map_err(|error| error.kind()), Err(ErrorKind::StorageFull));
+            assert_eq!(full.map_err(|error| error.raw_os_error()), Err(Some(NO_SPACE)));
             assert_eq!(fs::read(&path).ok().as_deref(), before.map(|bytes| &bytes[..]));
             assert_eq!(names(&folder).len(), usize::from(before.is_some()), "nothing is left beside it");
         }
