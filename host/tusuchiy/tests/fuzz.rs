@@ -112,7 +112,22 @@ fn random_zip_files() {
     }
 }
 
-/// Indexes as they are written, whole, damaged, of another file, and any bytes: each has a verdict, and what is refused has words.
+/// An index with any bytes in its place, cut, longer, with another byte, or as it was.
+fn damaged(mut index: Vec<u8>, random: &mut Random) -> Vec<u8> {
+    match random.below(6) {
+        0 => return bytes(random, 40),
+        1 => index.truncate(random.below(index.len() + 1)),
+        2 => index.extend(bytes(random, 4)),
+        3 | 4 => {
+            let place = random.below(index.len());
+            index[place] = *random.pick(&[0, 1, 2, 3, 4, 255]);
+        }
+        _ => {}
+    }
+    index
+}
+
+/// Indexes as they are written, then damaged: each has a verdict, what is refused has words, and every refusal comes up.
 #[test]
 fn random_indexes() {
     const INDEXES: [&str; 4] = ["stops.ttx", "routes.ttx", "calendar.ttx", "trips.ttx"];
@@ -129,18 +144,8 @@ fn random_indexes() {
         let output = command().args(["index", "-q"]).args(&feeds).output().expect("the command runs");
         assert_decent(&output, &format!("seed {seed}, written"));
         for path in feeds.iter().flat_map(|feed| INDEXES.map(|name| format!("{feed}/{name}"))) {
-            let Ok(mut index) = fs::read(&path) else { continue };
-            match random.below(6) {
-                0 => index = bytes(&mut random, 40),
-                1 => index.truncate(random.below(index.len() + 1)),
-                2 => index.extend(bytes(&mut random, 4)),
-                3 | 4 => {
-                    let place = random.below(index.len());
-                    index[place] = *random.pick(&[0, 1, 2, 3, 4, 255]);
-                }
-                _ => {}
-            }
-            fs::write(&path, index).expect("a file");
+            let Ok(index) = fs::read(&path) else { continue };
+            fs::write(&path, damaged(index, &mut random)).expect("a file");
         }
         let output = command().args(["index", "--check", "--json"]).args(&feeds).output().expect("the command runs");
         assert_decent(&output, &format!("seed {seed}, judged"));

@@ -564,7 +564,7 @@ fn the_most_records() {
     assert_eq!(bytes(&folder, "routes.ttx"), Some(index));
     // An index of any length is read as far as a file is.
     with_routes(&folder, 1);
-    fs::File::create(folder.at("routes.ttx")).expect("a file").set_len(1 << 40).expect("a file of holes");
+    fs::File::create(folder.at("routes.ttx")).expect("a file").set_len(2 << 30).expect("a file of holes");
     let output = run(&["index", "--check", folder.path()]);
     assert!(out(&output).contains("/routes.ttx: refusal 40: "), "{}", out(&output));
     let head = [b"TTX\x01\x00\x02\x01\x00\x01\x00", &vec![0; 20_000_000][..]].concat();
