@@ -132,10 +132,10 @@ fn damaged(mut index: Vec<u8>, random: &mut Random) -> Vec<u8> {
 fn random_indexes() {
     const INDEXES: [&str; 4] = ["stops.ttx", "routes.ttx", "calendar.ttx", "trips.ttx"];
     let mut seen = BTreeSet::new();
-    for seed in 0..RUNS / 3 {
+    for seed in 0..RUNS / 6 {
         let mut random = Random::new(3000 + seed);
         let folder = Folder::empty("fuzz-indexes");
-        let feeds: Vec<String> = (0..2 * FEEDS)
+        let feeds: Vec<String> = (0..FEEDS)
             .map(|place| {
                 let case = generate::case(seed * 16 + place as u64 % 8);
                 folder.put_feed(&place.to_string(), &case.files)

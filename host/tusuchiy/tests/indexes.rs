@@ -273,17 +273,22 @@ const WRONG: &[Wrong] = &[
 
 #[test]
 fn indexes_that_are_refused() {
-    let folder = indexed("index-wrong");
-    for (index, number, words, about) in WRONG {
-        folder.put("stops.ttx", index);
-        let document = document(&["--check", folder.path()]);
+    let folders: Vec<Folder> = WRONG.iter().map(|_| indexed("index-wrong")).collect();
+    folders.iter().zip(WRONG).for_each(|(folder, (index, ..))| folder.put("stops.ttx", index));
+    let output = command().args(["index", "--check", "--json"]).args(folders.iter().map(Folder::path)).output();
+    let output = output.expect("the command runs");
+    assert_eq!((status(&output), out(&output).lines().count()), (2, WRONG.len()));
+    for (line, (index, number, words, about)) in out(&output).lines().zip(WRONG) {
+        let document = json::read(line);
         assert_eq!(verdicts(&document), ["refused", "accepted", "accepted", "accepted"], "{words}");
         let refusal = document.get("indexes").list()[0].get("refusal");
         assert_eq!((refusal.get("words").text(), refusal.get("about")), (*words, &json::read(about)));
         let told = ["number", "file", "line", "column"].map(|name| refusal.get(name).number());
         assert_eq!((told, refusal.get("text")), ([*number, 1, 0, 0], &Json::Null), "{words}");
-        assert_eq!(bytes(&folder, "stops.ttx").as_deref(), Some(*index), "--check writes nothing");
+        let there = fs::read(format!("{}/stops.ttx", document.get("feed").text())).expect("an index");
+        assert_eq!(there, *index, "--check writes nothing");
     }
+    let folder = &folders[WRONG.len() - 1];
     let output = run(&["index", "--check", folder.path()]);
     let meaning = "the ids don't rise from entry to entry of the index";
     let line = format!("{}: refusal 44: {meaning}: {}", folder.at("stops.ttx"), WRONG[WRONG.len() - 1].2);
@@ -291,8 +296,8 @@ fn indexes_that_are_refused() {
     assert_eq!(out(&output).lines().last(), Some("`tusuchiy explain 44` says more"));
     assert_eq!((status(&output), out(&output).lines().count()), (2, 6));
     // One that is there is replaced, whatever it is.
-    assert_said(&folder, &["--quiet"], 0, "written\n");
-    assert_said(&folder, &["--check", "--quiet"], 0, "accepted\n");
+    assert_said(folder, &["--quiet"], 0, "written\n");
+    assert_said(folder, &["--check", "--quiet"], 0, "accepted\n");
 }
 
 /// An index of a file with an id twice is never accepted, whatever its order.
@@ -532,15 +537,15 @@ fn with_routes(folder: &Folder, count: usize) {
 #[test]
 fn a_full_disk() {
     let folder = indexed("index-full");
-    with_routes(&folder, 65_535);
-    let mut command = command_after("trap '' XFSZ && ulimit -f 64");
+    with_routes(&folder, 5_000);
+    let mut command = command_after("trap '' XFSZ && ulimit -f 8");
     let output = command.args(["index", folder.path()]).output().expect("the command runs");
     let wanted = format!("tusuchiy: can't write {}: File too large (os error 27)\n", folder.at("routes.ttx"));
     assert_eq!((status(&output), out(&output), said(&output)), (3, "", &wanted[..]));
     assert_eq!(bytes(&folder, "routes.ttx").as_deref(), Some(ROUTES));
     assert_eq!(beside(&folder).len(), 4);
     // Without the trap the command is killed half way: only a hidden file is left, and the next run goes past it.
-    let output = command_after("ulimit -f 64").args(["index", folder.path()]).output().expect("the command runs");
+    let output = command_after("ulimit -f 8").args(["index", folder.path()]).output().expect("the command runs");
     assert_eq!((output.status.code(), out(&output)), (None, ""), "killed by a signal");
     assert_eq!(bytes(&folder, "routes.ttx").as_deref(), Some(ROUTES));
     assert!(beside(&folder)[0].starts_with(".routes.ttx."), "{:?}", beside(&folder));
