@@ -482,9 +482,15 @@ fn an_index_that_cannot_be_written() {
     }
     let unread = ["stops.ttx: it isn't a regular file", "trips.ttx: it isn't a regular file"];
     assert_cannot(&["index", "--check", folder.path()], &unread);
-    let cannot = INDEXES.map(|name| format!("can't write {}: No such file", folder.at(&format!("nowhere/{name}"))));
-    let words = ["index", &example("feed"), "-o", &folder.at("nowhere")];
-    assert_cannot(&words, &cannot.each_ref().map(|message| &message[..]));
+    let outputs = [
+        (folder.at("nowhere"), "nowhere as --output: No such file"),
+        (folder.at("stops.txt"), "stops.txt as --output: it isn't a folder"),
+        (String::new(), " as --output: No such file"),
+    ];
+    for (output, message) in outputs {
+        assert_cannot(&["index", &example("feed"), "-o", &output], &[message]);
+        assert_cannot(&["index", "--check", &example("feed"), "-o", &output], &[message]);
+    }
     assert_cannot(&["index", &folder.at("stops.txt")], &["neither a folder nor a zip file"]);
 }
 
@@ -614,14 +620,14 @@ fn odd_paths() {
     fs::remove_file(folder.at("a\nb/stops.ttx")).expect("an index");
     fs::create_dir(folder.at("a\nb/stops.ttx")).expect("a folder");
     assert_cannot(&["index", &folder.at("a\nb")], &["/a\\x0Ab/stops.ttx: Is a directory"]);
-    // In the folder that one stands in, by its name and by none.
-    for here in [".", ""] {
-        let mut command = command();
-        let output = command.args(["index", &example("feed"), "-o", here]).current_dir(&folder.0).output();
-        let output = output.expect("the command runs");
-        assert_eq!((status(&output), said(&output)), (0, ""), "{here:?}");
-        INDEXES.iter().for_each(|name| folder.take(name));
+    // From the folder that one stands in, and to it.
+    folder.put_feed("feed", &example_files("feed"));
+    for words in [&["index", "feed", "-o", "."][..], &["index", "--check", "feed", "-o", "."]] {
+        let output = command().args(words).current_dir(&folder.0).output().expect("the command runs");
+        assert_eq!((status(&output), said(&output)), (0, ""), "{words:?}");
     }
+    let output = command().args(["index", "."]).current_dir(folder.at("feed")).output().expect("the command runs");
+    assert!(out(&output).contains("\n./stops.ttx: written (records 5, bytes 18)\n"), "{}", out(&output));
 }
 
 #[test]

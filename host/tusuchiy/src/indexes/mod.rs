@@ -55,9 +55,20 @@ pub fn run(asked: &Asked) -> u8 {
 }
 
 fn done<'a>(asked: &'a Asked, path: &Path) -> Result<Done<'a>, String> {
+    asked.output.as_ref().map_or(Ok(()), |folder| must_be_folder(folder))?;
     let feed = source::read(path, asked.follow_links)?;
     let outcomes = if asked.check { judge_all(asked, &feed)? } else { write_all(asked, &feed)? };
     Ok(Done { asked, feed, outcomes })
+}
+
+/// A folder that isn't there is a slip of the user's, and not one without indexes.
+fn must_be_folder(path: &Path) -> Result<(), String> {
+    let why = match fs::metadata(path) {
+        Ok(about) if about.is_dir() => return Ok(()),
+        Ok(_) => "it isn't a folder".to_string(),
+        Err(error) => error.to_string(),
+    };
+    Err(format!("can't use {} as --output: {why}", safe::text(path.as_os_str().as_bytes())))
 }
 
 /// Prints what was done for a feed, and gives its exit status.
