@@ -1,4 +1,4 @@
-/* tusuchiy.h: the proved check of GTFS feeds, for C and C++. Link with libtusuchiy_c.a (x86-64 Linux). */
+/* tusuchiy.h: the proved check of GTFS feeds and its index, for C and C++. Link with libtusuchiy_c.a (x86-64 Linux). */
 #ifndef TUSUCHIY_H
 #define TUSUCHIY_H
 
@@ -10,8 +10,8 @@ extern "C" {
 #endif
 
 /* The version of the check, as a text and as a number: 10000 for each major, 100 for each minor step. */
-#define TUSUCHIY_VERSION "0.5.0"
-#define TUSUCHIY_VERSION_NUMBER 500
+#define TUSUCHIY_VERSION "0.6.0"
+#define TUSUCHIY_VERSION_NUMBER 600
 
 /* The six files have numbers: in `file` of an answer and of a finding. */
 enum {
@@ -64,7 +64,15 @@ enum {
     TUSUCHIY_REFUSAL_LONG_ID = 11,
     TUSUCHIY_REFUSAL_EMPTY_VALUE = 12,
     TUSUCHIY_REFUSAL_MALFORMED_VALUE = 13,
-    TUSUCHIY_REFUSAL_BAD_UTF8 = 14
+    TUSUCHIY_REFUSAL_BAD_UTF8 = 14,
+    /* Of the functions on an index alone: why it isn't accepted (40 to 44) or written (45, 46; 42 for both). */
+    TUSUCHIY_REFUSAL_INDEX_MARK = 40,
+    TUSUCHIY_REFUSAL_INDEX_VERSION = 41,
+    TUSUCHIY_REFUSAL_INDEX_FILE_COUNT_OR_LENGTH = 42,
+    TUSUCHIY_REFUSAL_INDEX_RECORD = 43,
+    TUSUCHIY_REFUSAL_INDEX_ORDER = 44,
+    TUSUCHIY_REFUSAL_INDEX_REPEATED_ID = 45,
+    TUSUCHIY_REFUSAL_INDEX_BUFFER = 46
 };
 
 /* The rules of findings. */
@@ -129,6 +137,46 @@ tusuchiy_answer tusuchiy_check(
     int32_t *calendar_dates_table, size_t calendar_dates_table_len,
     int32_t *findings, size_t findings_len,
     int32_t after_file, int32_t after_line, int32_t after_rule);
+
+/* An index lists the records of one of the files 1 to 4 in the order of their ids, so that an id can be sought by
+ * halving. Its bytes, all numbers low byte first:
+ *   0 to 2  the mark, 54 54 58 ("TTX")
+ *   3, 4    the version, 1
+ *   5       the file's number, 1 to 4
+ *   6, 7    the count: how many records the file has
+ *   8 ..    that many record numbers of two bytes; line n of the file is record n - 1
+ * Ids rise strictly as byte strings, bytes from 0 to 255, a proper prefix first. They are compared by value: an id in
+ * quotation marks is the id without them. A file in which no id stands twice has exactly one index, any other none. */
+enum {
+    TUSUCHIY_INDEX_HEAD_BYTES = 8,     /* before the record numbers */
+    TUSUCHIY_INDEX_ENTRY_BYTES = 2,    /* of each record number */
+    TUSUCHIY_INDEX_MOST_BYTES = 131078 /* of an index of 65,535 records, the most that rule 2 allows */
+};
+
+typedef struct {
+    int32_t number;             /* 0 written or accepted; 1 to 14 the file's own refusal, but for 3; 40 to 46 */
+    int32_t file, line, column; /* of the file's own refusal, as in tusuchiy_answer; else 0 */
+    int32_t length;             /* bytes of the index that was written or accepted, else 0 */
+} tusuchiy_index_answer;
+
+/* Writes the index of a file to the beginning of a buffer.
+ *
+ * In this order it is refused with 42 where file_number isn't 1 to 4, whatever is lent; with the file's own refusal (no
+ * table is asked for, and a file of length 0 is refused with 4, calendar.txt too); with 45 where an id stands twice;
+ * with 46 where the buffer is shorter than 8 bytes and 2 for each record: TUSUCHIY_INDEX_MOST_BYTES is always enough.
+ * A refusal leaves the whole buffer as it was; else the bytes behind the index stay as they were.
+ *
+ * Pointers, memory, stack and threads are as for tusuchiy_check; the buffer doesn't overlap the file. */
+tusuchiy_index_answer tusuchiy_index_write(
+    int32_t file_number, const uint8_t *file, size_t file_len, uint8_t *buffer, size_t buffer_len);
+
+/* Accepts exactly the index that tusuchiy_index_write writes for the file, whoever made it. Any bytes may stand in it.
+ *
+ * First come 42 and the file's own refusal as above; then the lowest number speaks: 40 fewer than 8 bytes, or another
+ * mark; 41 another version; 42 another file number, count or length; 43 a record number of 0 or past the last record;
+ * 44 ids that don't rise strictly, as those of a file in which an id stands twice never do. */
+tusuchiy_index_answer tusuchiy_index_check(
+    int32_t file_number, const uint8_t *file, size_t file_len, const uint8_t *index, size_t index_len);
 
 #ifdef __cplusplus
 }

@@ -4,7 +4,7 @@
 
 #include <stdint.h>
 
-/* The meaning of a refusal (1 to 14) or a rule (20 to 31); "" for any other number. The words may change, the numbers don't. */
+/* The meaning of a refusal (1 to 14, 40 to 46) or a rule (20 to 31); "" for any other number. The words may change, the numbers don't. */
 static inline const char *tusuchiy_meaning(int32_t number) {
     switch (number) {
     case 1: return "the file is longer than 16,777,216 bytes";
@@ -33,6 +33,13 @@ static inline const char *tusuchiy_meaning(int32_t number) {
     case 29: return "the trip arrives before it departs from a stop with a smaller stop_sequence";
     case 30: return "the trip has fewer than two lines in stop_times.txt";
     case 31: return "the trip's first or last line by stop_sequence lacks a time";
+    case 40: return "the index isn't there, or isn't an index";
+    case 41: return "the index has a version that isn't read";
+    case 42: return "the index has a wrong file number, count or length";
+    case 43: return "the index lists a record that the file doesn't have";
+    case 44: return "the ids don't rise from entry to entry of the index";
+    case 45: return "an id stands on two lines, so the file has no index";
+    case 46: return "the buffer lent for the index is too short";
     default: return "";
     }
 }

@@ -2,9 +2,9 @@
 
 use crate::manual::{COLORS, GENERATED, VERBS};
 use crate::paging::{Page, MOST_FINDINGS};
-use crate::report::Asked;
 use crate::safe;
 use crate::style::When;
+use crate::{indexes, report};
 use lexopt::{Arg, Error, Parser};
 use std::ffi::{OsStr, OsString};
 use std::os::unix::ffi::OsStrExt;
@@ -12,6 +12,9 @@ use std::path::PathBuf;
 
 /// The most feeds that may be checked at a time.
 const MOST_JOBS: usize = 256;
+
+/// What each of the words for colours means.
+const WHEN: [When; COLORS.len()] = [When::Auto, When::Always, When::Never];
 
 /// How a report is printed.
 #[derive(Clone, Copy, Debug, Default, PartialEq, Eq)]
@@ -42,7 +45,8 @@ pub enum Command {
     Generate(usize),
     Explain(usize),
     Check(Check),
-    Report(Asked),
+    Index(indexes::Asked),
+    Report(report::Asked),
 }
 
 /// What was found so far on the command line.
@@ -56,6 +60,13 @@ struct Found {
     jobs: Option<usize>,
     color: usize,
     output: Option<PathBuf>,
+}
+
+impl Found {
+    /// Was this option there?
+    fn has(&self, name: &str) -> bool {
+        self.given.contains(&name)
+    }
 }
 
 /// Reads the words after the command's own name.
@@ -74,6 +85,7 @@ pub fn parse(words: &[OsString]) -> Result<Command, String> {
             Arg::Short('q') | Arg::Long("quiet") => "quiet",
             Arg::Short('L') | Arg::Long("follow-links") => "follow-links",
             Arg::Long("json") => "json",
+            Arg::Long("check") => "check",
             Arg::Long("after") => "after",
             Arg::Long("room") => "room",
             Arg::Long("jobs") => "jobs",
@@ -149,7 +161,7 @@ fn one_of(option: &str, choices: &[&str], word: &OsStr) -> Result<usize, String>
 /// Puts together what was found.
 fn finish(mut found: Found) -> Result<Command, String> {
     if found.words.is_empty() {
-        return Err("say what to do: check FEED, report FEED, explain RULE, or --help".to_string());
+        return Err("say what to do: check FEED, report FEED, index FEED, explain RULE, or --help".to_string());
     }
     let verb = found.words.remove(0);
     let name = verb.to_str().unwrap_or_default();
@@ -159,9 +171,10 @@ fn finish(mut found: Found) -> Result<Command, String> {
     match verb.to_str() {
         Some("check") => check(found).map(Command::Check),
         Some("report") => report(found).map(Command::Report),
+        Some("index") => index(found).map(Command::Index),
         Some("explain") => explain(&found.words),
         Some("help") => Ok(Command::Help),
-        _ => Err(format!("unknown command {}; there are check, report, explain and --help", shown(&verb))),
+        _ => Err(format!("unknown command {}; there are check, report, index, explain and --help", shown(&verb))),
     }
 }
 
@@ -173,20 +186,48 @@ fn takes(name: &str, option: &str) -> bool {
     }
 }
 
-fn report(mut found: Found) -> Result<Asked, String> {
+fn report(mut found: Found) -> Result<report::Asked, String> {
     if found.words.len() != 1 {
         return Err("report takes one feed: a folder or a zip file".to_string());
     }
-    let follow_links = found.given.contains(&"follow-links");
-    Ok(Asked { feed: PathBuf::from(found.words.remove(0)), output: found.output, follow_links })
+    let follow_links = found.has("follow-links");
+    Ok(report::Asked { feed: PathBuf::from(found.words.remove(0)), output: found.output, follow_links })
+}
+
+fn index(found: Found) -> Result<indexes::Asked, String> {
+    if found.words.is_empty() {
+        return Err("index needs a feed: a folder or a zip file".to_string());
+    }
+    if found.words.len() > 1 && found.output.is_some() {
+        return Err("--output takes one feed: those of several would have the same names".to_string());
+    }
+    Ok(indexes::Asked {
+        form: form(&found)?,
+        check: found.has("check"),
+        follow_links: found.has("follow-links"),
+        jobs: found.jobs,
+        color: WHEN[found.color],
+        output: found.output,
+        feeds: found.words.into_iter().map(PathBuf::from).collect(),
+    })
 }
 
 fn explain(words: &[OsString]) -> Result<Command, String> {
     let [word] = words else {
-        return Err("explain takes one number: 1 to 14 or 20 to 31".to_string());
+        return Err("explain takes one number: 1 to 14, 20 to 31 or 40 to 46".to_string());
     };
     let number = word.to_str().and_then(|word| word.parse().ok());
     number.map(Command::Explain).ok_or_else(|| format!("explain takes a number, and {} is none", shown(word)))
+}
+
+/// How a report is to be printed.
+fn form(found: &Found) -> Result<Form, String> {
+    match (found.has("json"), found.has("quiet")) {
+        (true, true) => Err("--json and --quiet don't go together".to_string()),
+        (true, false) => Ok(Form::Json),
+        (false, true) => Ok(Form::Quiet),
+        (false, false) => Ok(Form::Text),
+    }
 }
 
 /// What `check` is asked for; --after or --room ask for a page.
@@ -194,24 +235,18 @@ fn check(found: Found) -> Result<Check, String> {
     if found.words.is_empty() {
         return Err("check needs a feed: a folder or a zip file".to_string());
     }
-    let given = |name| found.given.contains(&name);
-    let form = match (given("json"), given("quiet")) {
-        (true, true) => return Err("--json and --quiet don't go together".to_string()),
-        (true, false) => Form::Json,
-        (false, true) => Form::Quiet,
-        (false, false) => Form::Text,
-    };
+    let form = form(&found)?;
     let paged = found.after.is_some() || found.room.is_some();
-    if found.words.len() > 1 && form != Form::Json && (paged || given("all")) {
+    if found.words.len() > 1 && form != Form::Json && (paged || found.has("all")) {
         return Err("--all, --after and --room take one feed, or many with --json".to_string());
     }
     Ok(Check {
         form,
-        all: given("all"),
+        all: found.has("all"),
         page: paged.then(|| Page { after: found.after.unwrap_or([0, 0, 0]), room: found.room }),
-        follow_links: given("follow-links"),
+        follow_links: found.has("follow-links"),
         jobs: found.jobs,
-        color: [When::Auto, When::Always, When::Never][found.color],
+        color: WHEN[found.color],
         feeds: found.words.into_iter().map(PathBuf::from).collect(),
     })
 }
@@ -259,13 +294,38 @@ mod tests {
     fn a_report_and_its_file() {
         let asked = |output: Option<&str>, follow_links| {
             let output = output.map(PathBuf::from);
-            Ok(Command::Report(Asked { feed: PathBuf::from("f"), output, follow_links }))
+            Ok(Command::Report(report::Asked { feed: PathBuf::from("f"), output, follow_links }))
         };
         assert_eq!(parsed("report f"), asked(None, false));
         for line in ["report f -o g", "report -og f", "report --output=g f", "report --output g -- f"] {
             assert_eq!(parsed(line), asked(Some("g"), false), "{line}");
         }
         assert_eq!(parsed("report f -L -o g"), asked(Some("g"), true));
+    }
+
+    #[test]
+    fn an_index_and_its_folder() {
+        let feeds = || vec![PathBuf::from("f")];
+        let asked = || indexes::Asked { feeds: feeds(), ..Default::default() };
+        let output = Some(PathBuf::from("g"));
+        assert_eq!(parsed("index f"), Ok(Command::Index(asked())));
+        for line in ["index f --check", "--check index f"] {
+            assert_eq!(parsed(line), Ok(Command::Index(indexes::Asked { check: true, ..asked() })), "{line}");
+        }
+        for line in ["index f -og", "index --output=g f"] {
+            let asked = indexes::Asked { output: output.clone(), ..asked() };
+            assert_eq!(parsed(line), Ok(Command::Index(asked)), "{line}");
+        }
+        let asked = indexes::Asked {
+            form: Form::Json,
+            follow_links: true,
+            jobs: Some(3),
+            color: When::Never,
+            feeds: ["f", "g"].map(PathBuf::from).to_vec(),
+            ..Default::default()
+        };
+        assert_eq!(parsed("index --json -L --jobs 3 --color never f g"), Ok(Command::Index(asked)));
+        assert!(parsed("index -q f g").is_ok());
     }
 
     /// Whatever stands in the table of options is read, and with a value where it has one.
@@ -326,6 +386,15 @@ mod tests {
             "report f -o g -o h",
             "report f --json",
             "report f --room 3",
+            "report f --check",
+            "check f --check",
+            "index",
+            "index f --json --quiet",
+            "index f --all",
+            "index f --room 3",
+            "index f g -o h",
+            "index f -o",
+            "index f --check=1",
             "explain",
             "explain x",
             "explain 1 2",

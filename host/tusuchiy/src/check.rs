@@ -1,5 +1,6 @@
 //! A feed's files with the memory lent for them, and what the check hands out, page by page.
 
+use crate::index::IndexAnswer;
 use crate::kinds::{Fault, File, Finding, Refusal, Rule, FILES};
 use crate::{try_check, Answer, Verdict, MOST_LINES, WIDTHS};
 use std::collections::TryReserveError;
@@ -30,6 +31,8 @@ pub enum Error {
     Thread(io::Error),
     /// An answer that include/tusuchiy.h doesn't know.
     Unknown(Answer),
+    /// The same about an index.
+    UnknownIndex(IndexAnswer),
 }
 
 impl Display for Error {
@@ -38,6 +41,7 @@ impl Display for Error {
             Error::Memory(error) => error.fmt(out),
             Error::Thread(error) => write!(out, "can't run the check: {error}"),
             Error::Unknown(answer) => write!(out, "the check gave an answer that nobody knows: {answer:?}"),
+            Error::UnknownIndex(answer) => write!(out, "the index gave an answer that nobody knows: {answer:?}"),
         }
     }
 }
@@ -182,10 +186,10 @@ impl Iterator for Findings<'_, '_> {
 
 impl std::iter::FusedIterator for Findings<'_, '_> {}
 
-fn zeros(length: usize) -> Result<Vec<i32>, TryReserveError> {
+pub(crate) fn zeros<Number: Clone + Default>(length: usize) -> Result<Vec<Number>, TryReserveError> {
     let mut numbers = Vec::new();
     numbers.try_reserve_exact(length)?;
-    numbers.resize(length, 0);
+    numbers.resize(length, Number::default());
     Ok(numbers)
 }
 
@@ -198,10 +202,10 @@ impl Finding {
 }
 
 impl Fault {
-    /// A fault from the numbers of an answer.
-    pub(crate) fn of(answer: &Answer) -> Option<Self> {
-        let [number, file] = [answer.number, answer.file].map(|number| usize::try_from(number).ok());
-        let [line, column] = [answer.line, answer.column].map(|number| u32::try_from(number).ok());
+    /// A fault from the numbers of an answer: number, file, line and column.
+    pub(crate) fn of([number, file, line, column]: [i32; 4]) -> Option<Self> {
+        let [number, file] = [number, file].map(|number| usize::try_from(number).ok());
+        let [line, column] = [line, column].map(|number| u32::try_from(number).ok());
         Some(Fault {
             file: File::new(file?)?,
             line: line?,
@@ -217,13 +221,12 @@ mod tests {
 
     #[test]
     fn faults_from_their_numbers() {
-        let answer = Answer { verdict: 2, number: 13, file: 5, line: 4, column: 3, written: 0, total: 0 };
         let refusal = Refusal::new(13).expect("a refusal");
         let fault = Fault { file: File::StopTimes, line: 4, column: NonZeroU32::new(3), refusal };
-        assert_eq!(Fault::of(&answer), Some(fault));
-        assert_eq!(Fault::of(&Answer { column: 0, ..answer }), Some(Fault { column: None, ..fault }));
-        for unknown in [Answer { column: -1, ..answer }, Answer { line: -1, ..answer }, Answer { file: 7, ..answer }] {
-            assert_eq!(Fault::of(&unknown), None, "{unknown:?}");
+        assert_eq!(Fault::of([13, 5, 4, 3]), Some(fault));
+        assert_eq!(Fault::of([13, 5, 4, 0]), Some(Fault { column: None, ..fault }));
+        for unknown in [[13, 5, 4, -1], [13, 5, -1, 3], [13, 7, 4, 3], [15, 5, 4, 3], [0, 5, 4, 3]] {
+            assert_eq!(Fault::of(unknown), None, "{unknown:?}");
         }
     }
 }

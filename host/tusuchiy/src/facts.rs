@@ -2,7 +2,7 @@
 
 use crate::columns::IDS;
 use crate::feed::{Feed, FILES};
-use crate::fields::{split, value};
+use crate::fields::{field, split, value};
 use crate::memory;
 use crate::paging::Finding;
 use crate::safe;
@@ -13,7 +13,7 @@ use std::collections::HashMap;
 use tusuchiy::{File, WIDTHS};
 
 /// What a finding or a refusal is about: in words, and the same as members.
-#[derive(Debug, Default, PartialEq)]
+#[derive(Clone, Debug, Default, PartialEq)]
 pub struct About {
     pub words: String,
     pub members: Members,
@@ -104,9 +104,7 @@ impl<'a> Facts<'a> {
     fn value(&self, file: usize, line: usize, column: &str) -> Cow<'a, [u8]> {
         let header = self.headers[file - 1].get_or_init(|| names(self.feed, file));
         let place = header.iter().position(|name| name == column.as_bytes());
-        let text = self.feed.line(file, line).unwrap_or(&[]);
-        let field = place.and_then(|place| split(text).ok()?.into_iter().nth(place));
-        field.map_or(Cow::Borrowed(&[]), |field| value(&text[field]))
+        place.map_or(Cow::Borrowed(&[]), |place| value_at(self.feed, file, line, place))
     }
 
     /// The key of a line of files 1 to 4 or 6: where its id stands is in numbers 0 and 1 of its record.
@@ -134,12 +132,7 @@ impl<'a> Facts<'a> {
         let column = IDS[file - 1];
         let key = self.key(file, line);
         let earlier = self.first(file, &key);
-        let (id, date) = (&key.0, key.1.map(written_date));
-        let with_date = date.as_ref().map_or(String::new(), |date| format!(" with date {date}"));
-        let mut members = vec![("column", Value::text(column)), shown_value(id)];
-        members.extend(date.map(|date| ("date", Value::text(date))));
-        members.push(("earlier_line", Value::size(earlier)));
-        About { words: format!("{column} {}{with_date} stands on line {earlier} already", shown(id)), members }
+        repeated_id(column, &key.0, key.1.map(written_date), earlier)
     }
 
     /// Every reference of the line that leads nowhere.
@@ -383,6 +376,15 @@ impl<'a> Facts<'a> {
     }
 }
 
+/// An id, perhaps with a date, that stands on an earlier line.
+pub fn repeated_id(column: &'static str, id: &[u8], date: Option<String>, earlier: usize) -> About {
+    let with_date = date.as_ref().map_or(String::new(), |date| format!(" with date {date}"));
+    let mut members = vec![("column", Value::text(column)), shown_value(id)];
+    members.extend(date.map(|date| ("date", Value::text(date))));
+    members.push(("earlier_line", Value::size(earlier)));
+    About { words: format!("{column} {}{with_date} stands on line {earlier} already", shown(id)), members }
+}
+
 /// Each reference that a line of a file has: its column, and the files that it is sought in, with the cell for what was found.
 fn referring(file: usize) -> &'static [(&'static str, &'static [(File, Cell)])] {
     match file {
@@ -436,6 +438,12 @@ pub fn names(feed: &Feed, file: usize) -> Vec<Vec<u8>> {
     split(text).map_or(Vec::new(), |fields| fields.into_iter().map(|field| value(&text[field]).into_owned()).collect())
 }
 
+/// The value of a field of a line, places counted from 0; empty where there is no such field.
+pub fn value_at(feed: &Feed, file: usize, line: usize, place: usize) -> Cow<'_, [u8]> {
+    let text = feed.line(file, line).unwrap_or(&[]);
+    field(text, place + 1).map_or(Cow::Borrowed(&[]), |field| value(&text[field]))
+}
+
 /// A value of the feed in quotes, safe to print and not too long.
 pub fn shown(value: &[u8]) -> String {
     let (beginning, cut) = safe::beginning(value, safe::SHOWN_VALUE);
@@ -444,5 +452,10 @@ pub fn shown(value: &[u8]) -> String {
 
 /// The member `value`, which isn't too long either.
 pub fn shown_value(value: &[u8]) -> (&'static str, Value) {
-    ("value", Value::text(safe::beginning(value, safe::SHOWN_LINE).0))
+    ("value", shown_text(value))
+}
+
+/// A value of the feed for a document.
+pub fn shown_text(value: &[u8]) -> Value {
+    Value::text(safe::beginning(value, safe::SHOWN_LINE).0)
 }

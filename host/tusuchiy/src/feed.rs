@@ -47,13 +47,14 @@ impl Unread {
 #[derive(Default)]
 pub struct Place {
     pub path: PathBuf,
+    pub is_zip: bool,
     pub folder: Vec<u8>,
 }
 
 impl Place {
     /// A feed that is at this path itself.
     pub fn at(path: &Path) -> Self {
-        Place { path: path.to_path_buf(), folder: Vec::new() }
+        Place { path: path.to_path_buf(), is_zip: false, folder: Vec::new() }
     }
 
     /// The path of a file, safe to print.

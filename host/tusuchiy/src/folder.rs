@@ -14,16 +14,32 @@ const O_NOFOLLOW: i32 = 0o400_000;
 
 /// Reads the six files, or says of each that can't be read what is in the way, a line each.
 pub fn read(folder: &Path, follow_links: bool) -> Result<Feed, String> {
-    let read = NAMES.map(|name| {
+    let files = read_files(folder, NAMES, follow_links)?;
+    Ok(Feed::new(Place::at(folder), files, unread(folder)))
+}
+
+/// Files that were sought, each at the place of its name; one that isn't there is none.
+pub type Files<const COUNT: usize> = [Option<Vec<u8>>; COUNT];
+
+/// Reads the files of these names.
+pub fn read_files<const COUNT: usize>(
+    folder: &Path,
+    names: [&str; COUNT],
+    follow_links: bool,
+) -> Result<Files<COUNT>, String> {
+    all(names.map(|name| {
         let path = folder.join(name);
         read_file(&path, follow_links).map_err(|why| cannot(&path, &why))
-    });
+    }))
+}
+
+/// What was read, or of each that couldn't be read what was in the way, a line each.
+pub fn all<const COUNT: usize>(read: [Result<Option<Vec<u8>>, String>; COUNT]) -> Result<Files<COUNT>, String> {
     let wrong: Vec<String> = read.iter().filter_map(|file| file.as_ref().err().cloned()).collect();
     if !wrong.is_empty() {
         return Err(wrong.join("\n"));
     }
-    let files = read.map(|file| file.unwrap_or(None));
-    Ok(Feed::new(Place::at(folder), files, unread(folder)))
+    Ok(read.map(|file| file.unwrap_or(None)))
 }
 
 /// The bytes of a file, or none where nothing has its name.

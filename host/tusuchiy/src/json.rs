@@ -3,7 +3,7 @@
 use crate::explain::meaning;
 use crate::facts::{About, Facts};
 use crate::feed::{Feed, NAMES};
-use crate::paging::{Finding, Outcome, Page, Report};
+use crate::paging::{Finding, Outcome, Page, Refusal, Report};
 use crate::refusals;
 use crate::safe;
 use crate::text::totals;
@@ -22,7 +22,11 @@ pub fn write(out: &mut dyn Write, feed: &Feed, report: &Report) -> io::Result<()
         Outcome::Findings { list, total } => ("findings", &list[..], *total),
         Outcome::Refused { .. } => ("refused", none, 0),
     };
-    write!(out, "{{\"version\": {VERSION}, \"verdict\": \"{verdict}\", \"refusal\": {}, ", refusal(feed, report))?;
+    let refusal = match &report.outcome {
+        Outcome::Refused(refusal) => refused(feed, refusal, refusals::about(feed, refusal)),
+        _ => Value::Null,
+    };
+    write!(out, "{{\"version\": {VERSION}, \"verdict\": \"{verdict}\", \"refusal\": {refusal}, ")?;
     write!(out, "\"total\": {total}, \"written\": {}, ", list.len())?;
     write!(out, "\"page\": {}, \"findings\": [", report.page.as_ref().map_or(Value::Null, page))?;
     let facts = Facts::new(feed, &report.tables);
@@ -32,20 +36,24 @@ pub fn write(out: &mut dyn Write, feed: &Feed, report: &Report) -> io::Result<()
     }
     let counts = if report.page.is_some() { Value::Null } else { counts(list) };
     write!(out, "], \"totals\": {counts}, \"feed\": {}, ", Value::text(feed.place.path.as_os_str().as_bytes()))?;
-    let folder = if feed.place.folder.is_empty() { Value::Null } else { Value::text(&feed.place.folder) };
+    let folder = folder(feed);
     writeln!(out, "\"folder\": {folder}, \"records\": {}, \"unread\": {}}}", records(feed, report), unread(feed))
 }
 
-fn refusal(feed: &Feed, report: &Report) -> Value {
-    let Outcome::Refused(refusal) = &report.outcome else { return Value::Null };
+/// The place of a refusal.
+pub fn refused(feed: &Feed, refusal: &Refusal, about: About) -> Value {
     let name = refusals::column_name(feed, refusal).map_or(Value::Null, Value::text);
     let column = vec![("column", Value::size(refusal.column.unwrap_or(0))), ("column_name", name)];
-    let number = ("number", refusal.number);
-    place(feed, (refusal.file, refusal.line), column, number, refusals::about(feed, refusal))
+    place(feed, (refusal.file, refusal.line), column, ("number", refusal.number), about)
 }
 
 fn found(feed: &Feed, facts: &Facts, finding: &Finding) -> Value {
     place(feed, (finding.file, finding.line), Vec::new(), ("rule", finding.rule), facts.about(finding))
+}
+
+/// The folder of a zip file that has the feed, or null.
+pub fn folder(feed: &Feed) -> Value {
+    Some(&feed.place.folder).filter(|folder| !folder.is_empty()).map_or(Value::Null, Value::text)
 }
 
 /// A place in the feed, with its column where it may have one, and the rule broken there; `text` is null where there is no line.

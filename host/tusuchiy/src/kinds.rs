@@ -18,21 +18,22 @@ pub enum File {
     CalendarDates,
 }
 
-/// What is known of a file: its name, the width of its table, and whether a feed may lack it.
+/// What is known of a file: its name, that of its index, the width of its table, and whether a feed may lack it.
 struct Known {
     name: &'static str,
+    index: Option<&'static str>,
     width: usize,
     may_be_missing: bool,
 }
 
 /// All that differs from file to file, in the order of their numbers.
 const KNOWN: [Known; FILES] = [
-    Known { name: "stops.txt", width: 6, may_be_missing: false },
-    Known { name: "routes.txt", width: 3, may_be_missing: false },
-    Known { name: "calendar.txt", width: 5, may_be_missing: true },
-    Known { name: "trips.txt", width: 8, may_be_missing: false },
-    Known { name: "stop_times.txt", width: 8, may_be_missing: false },
-    Known { name: "calendar_dates.txt", width: 4, may_be_missing: true },
+    Known { name: "stops.txt", index: Some("stops.ttx"), width: 6, may_be_missing: false },
+    Known { name: "routes.txt", index: Some("routes.ttx"), width: 3, may_be_missing: false },
+    Known { name: "calendar.txt", index: Some("calendar.ttx"), width: 5, may_be_missing: true },
+    Known { name: "trips.txt", index: Some("trips.ttx"), width: 8, may_be_missing: false },
+    Known { name: "stop_times.txt", index: None, width: 8, may_be_missing: false },
+    Known { name: "calendar_dates.txt", index: None, width: 4, may_be_missing: true },
 ];
 
 impl File {
@@ -56,6 +57,12 @@ impl File {
     #[must_use]
     pub const fn name(self) -> &'static str {
         KNOWN[self.number() - 1].name
+    }
+
+    /// The name of its index, which stands beside it; stop_times.txt and calendar_dates.txt have none.
+    #[must_use]
+    pub const fn index_name(self) -> Option<&'static str> {
+        KNOWN[self.number() - 1].index
     }
 
     /// How many numbers one of its records has in its table.
@@ -84,6 +91,10 @@ pub struct Rule(u8);
 /// A reason why a feed can't be read, 1 to 14.
 #[derive(Clone, Copy, Debug, PartialEq, Eq, PartialOrd, Ord, Hash)]
 pub struct Refusal(u8);
+
+/// A reason why an index isn't written or accepted though its file can be read, 40 to 46.
+#[derive(Clone, Copy, Debug, PartialEq, Eq, PartialOrd, Ord, Hash)]
+pub struct IndexRefusal(u8);
 
 macro_rules! numbered {
     ($name:ident, $word:literal, $least:literal, $most:literal) => {
@@ -128,6 +139,7 @@ macro_rules! numbered {
 
 numbered!(Rule, "rule", 20, 31);
 numbered!(Refusal, "refusal", 1, 14);
+numbered!(IndexRefusal, "refusal", 40, 46);
 
 /// A place where a rule is broken.
 #[derive(Clone, Copy, Debug, PartialEq, Eq, PartialOrd, Ord, Hash)]
@@ -180,6 +192,8 @@ mod tests {
         assert!(Refusal::all().map(Refusal::number).eq(1..=14));
         assert!([19, 32, 276].iter().all(|&number| Rule::new(number).is_none()));
         assert!([0, 15, 257].iter().all(|&number| Refusal::new(number).is_none()));
+        assert!(IndexRefusal::all().map(IndexRefusal::number).eq(40..=46));
+        assert!([14, 39, 47].iter().all(|&number| IndexRefusal::new(number).is_none()));
     }
 
     #[test]

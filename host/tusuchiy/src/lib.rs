@@ -31,19 +31,22 @@
 //! ```
 //!
 //! [`try_check`] is the function below all this: it takes tables and a list as they are lent, and allocates nothing.
+//! [`index`] makes and judges the sorted index of a file.
 #![deny(unsafe_code)]
 
 mod check;
 pub mod explain;
+pub mod index;
 mod kinds;
 
 pub use check::{table_sizes, Check, Error, Findings, Page, Place};
-pub use kinds::{Fault, File, Finding, Refusal, Rule, FILES};
+pub use index::IndexAnswer;
+pub use kinds::{Fault, File, Finding, IndexRefusal, Refusal, Rule, FILES};
 
 use std::io;
 use std::thread;
 
-/// How much stack a call of the archive's function uses at most, in bytes; include/tusuchiy.h has the same figure.
+/// How much stack a call of one of the archive's functions uses at most, in bytes; include/tusuchiy.h has the same figure.
 pub const STACK: usize = 4 << 20;
 
 /// How much the thread has that makes the call: four times as much, of which only what is used takes memory.
@@ -96,7 +99,7 @@ impl Answer {
         match self.verdict {
             0 => Some(Verdict::Accepted),
             1 => Some(Verdict::Findings { written: size(self.written)?, total: size(self.total)? }),
-            2 => Fault::of(self).map(Verdict::Refused),
+            2 => Fault::of([self.number, self.file, self.line, self.column]).map(Verdict::Refused),
             _ => None,
         }
     }
@@ -151,7 +154,7 @@ pub fn try_check(
 }
 
 /// Makes a call in a thread with so much stack.
-fn on_stack(size: usize, call: impl FnOnce() -> Answer + Send) -> io::Result<Answer> {
+fn on_stack<Told: Send>(size: usize, call: impl FnOnce() -> Told + Send) -> io::Result<Told> {
     thread::scope(|scope| {
         let thread = thread::Builder::new().stack_size(size).spawn_scoped(scope, call)?;
         thread.join().map_err(|_| io::Error::other("the check's thread died"))

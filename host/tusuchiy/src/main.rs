@@ -1,4 +1,4 @@
-//! The command `tusuchiy`: reads feeds, lends memory to the proved check, prints what it answers.
+//! The command `tusuchiy`: reads feeds, lends memory to the proved check, prints what it answers, writes indexes.
 #![deny(unsafe_code)]
 
 mod arguments;
@@ -9,6 +9,7 @@ mod facts;
 mod feed;
 mod fields;
 mod folder;
+mod indexes;
 mod json;
 mod manual;
 mod many;
@@ -29,7 +30,8 @@ use std::io::{self, Write};
 use std::process::ExitCode;
 use tusuchiy::explain;
 
-/// The exit status where the command could not do what it was asked for.
+/// The exit status of a refusal, and that where the command could not do what it was asked for.
+const REFUSED: u8 = 2;
 const COULD_NOT_RUN: u8 = 3;
 
 fn main() -> ExitCode {
@@ -55,6 +57,7 @@ fn complain(message: &str) -> u8 {
 fn run(command: Command) -> Result<u8, String> {
     let page = match command {
         Command::Check(check) => return Ok(many::run(&check)),
+        Command::Index(asked) => return Ok(indexes::run(&asked)),
         Command::Report(asked) => return many::guarded(|| report::run(&asked)),
         Command::Help => manual::help(),
         Command::Version => format!("tusuchiy {}\n", env!("CARGO_PKG_VERSION")),

@@ -27,7 +27,16 @@ const fn valued(long: &'static str, value: &'static str, help: &'static str) -> 
     Flag { long, short: None, value: Some(value), choices: &[], help }
 }
 
+// Options that several commands have.
+const JSON: Flag = flag("json", None, "one JSON document a line for each feed (docs/JSON.md)");
+const QUIET: Flag = flag("quiet", Some('q'), "the verdict alone");
 const FOLLOW_LINKS: Flag = flag("follow-links", Some('L'), "read what symbolic links in a feed's folder name");
+const JOBS: Flag =
+    valued("jobs", "N", "at most N feeds at a time, 1 to 256; as many as there are processors if not given");
+const COLOR: Flag = Flag {
+    choices: COLORS,
+    ..valued("color", "WHEN", "colours: auto (on a terminal, unless NO_COLOR is set), always or never")
+};
 
 pub const COLORS: &[&str] = &["auto", "always", "never"];
 pub const GENERATED: &[&str] = &["man", "complete-bash", "complete-fish", "complete-zsh"];
@@ -38,17 +47,14 @@ pub const VERBS: &[Verb] = &[
         operand: "FEED...",
         help: "checks feeds; FEED is a folder or a zip file with stops.txt, routes.txt, trips.txt, stop_times.txt and calendar.txt, calendar_dates.txt or both",
         flags: &[
-            flag("json", None, "one JSON document a line for each feed (docs/JSON.md)"),
+            JSON,
             flag("all", Some('a'), "every finding, not just the first five of each rule"),
-            flag("quiet", Some('q'), "the verdict alone"),
+            QUIET,
             valued("after", "FILE,LINE,RULE", "the findings after this place only (0,0,0 is the beginning)"),
             valued("room", "N", "one page: at most N findings, 0 to 1048576"),
             FOLLOW_LINKS,
-            valued("jobs", "N", "check at most N feeds at a time, 1 to 256; as many as there are processors if not given"),
-            Flag {
-                choices: COLORS,
-                ..valued("color", "WHEN", "colours: auto (on a terminal, unless NO_COLOR is set), always or never")
-            },
+            JOBS,
+            COLOR,
         ],
     },
     Verb {
@@ -61,9 +67,26 @@ pub const VERBS: &[Verb] = &[
         ],
     },
     Verb {
+        name: "index",
+        operand: "FEED...",
+        help: "writes a sorted index of ids beside each of stops.txt, routes.txt, calendar.txt and trips.txt: stops.ttx and so on; each whole or not at all",
+        flags: &[
+            flag("check", None, "write nothing, and judge the indexes that are there"),
+            Flag {
+                short: Some('o'),
+                ..valued("output", "FOLDER", "the folder of the indexes, if not that of the feed; a zip file needs one to be written")
+            },
+            JSON,
+            QUIET,
+            FOLLOW_LINKS,
+            JOBS,
+            COLOR,
+        ],
+    },
+    Verb {
         name: "explain",
         operand: "RULE",
-        help: "what a refusal (1 to 14) or a rule (20 to 31) means, and how to mend it",
+        help: "what a refusal (1 to 14, of an index 40 to 46) or a rule (20 to 31) means, and how to mend it",
         flags: &[],
     },
 ];
@@ -84,22 +107,24 @@ pub const FLAGS: &[Flag] = &[
 
 /// What an exit status says.
 pub const STATUSES: [(u8, &str); 4] = [
-    (0, "accepted"),
+    (0, "accepted; of index, all are written or accepted"),
     (1, "findings: the files can be read, and a rule is broken"),
-    (2, "refused: a file can't be read as it stands"),
+    (2, "refused: a file can't be read as it stands, or an index isn't that of its file"),
     (3, "the command couldn't run"),
 ];
 
 /// What people type most.
-const EXAMPLES: [(&str, &str); 5] = [
+const EXAMPLES: [(&str, &str); 7] = [
     ("tusuchiy check feed.zip", "the verdict and the first findings of each rule"),
     ("tusuchiy check --quiet feed && publish feed", "go on only with an accepted feed"),
     ("tusuchiy check --json *.zip | jq .verdict", "many feeds, for a program"),
     ("tusuchiy report feed.zip --output report.html", "a page to forward or to file"),
+    ("tusuchiy index feed", "the indexes of a feed's ids, beside its files"),
+    ("tusuchiy index --check --quiet feed && use feed", "go on only with indexes that are those of the files"),
     ("tusuchiy explain 21", "what rule 21 means"),
 ];
 
-const TITLE: &str = "checks the six files of GTFS feeds";
+const TITLE: &str = "checks the six files of GTFS feeds, and writes indexes beside them";
 const MANY: &str = "With several feeds there is one verdict a line, and the exit status is the highest of theirs.";
 const PLACE: &str = "A place is FILE:LINE, or FILE:LINE:COLUMN where one field is refused; columns count from 1.";
 
@@ -171,6 +196,7 @@ pub fn man() -> String {
         }),
     );
     page += ".SH DESCRIPTION\nThe check is proved: a feed is accepted exactly when no rule is broken.\n";
+    page += "So is the index: it is accepted exactly when it lists every record once, its ids rising.\n";
     page += &format!("{}\n{}\n", roff(MANY), roff(PLACE));
     let item = |flag: &Flag| format!(".TP\n.B {}\n{}\n", roff(&flag.typed()), roff(flag.help));
     page.extend(VERBS.iter().map(|verb| {

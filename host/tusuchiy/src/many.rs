@@ -1,14 +1,14 @@
-//! Checks feeds, several at a time, and prints what is said of each in the order in which they were given.
+//! Works on feeds, several at a time, and prints what is said of each in the order in which they were given.
 
 use crate::arguments::{Check, Form};
 use crate::feed::Feed;
 use crate::paging::{self, Outcome, Report};
 use crate::style::{self, Style};
 use crate::text::Layout;
-use crate::{json, progress, source, text, COULD_NOT_RUN};
+use crate::{json, progress, source, text, COULD_NOT_RUN, REFUSED};
 use std::io::{self, BufWriter, ErrorKind, Write};
 use std::panic::{self, AssertUnwindSafe};
-use std::path::Path;
+use std::path::{Path, PathBuf};
 use std::sync::atomic::{AtomicU8, AtomicUsize, Ordering};
 use std::sync::{Condvar, Mutex, MutexGuard, PoisonError};
 use std::thread;
@@ -16,8 +16,7 @@ use std::time::Instant;
 
 /// What all workers share.
 struct Desk<'a> {
-    check: &'a Check,
-    style: Style,
+    feeds: &'a [PathBuf],
     next: AtomicUsize,
     worst: AtomicU8,
     /// Whose turn it is to print.
@@ -27,19 +26,25 @@ struct Desk<'a> {
 
 /// Checks all feeds and gives the exit status, the worst of theirs.
 pub fn run(check: &Check) -> u8 {
-    let desk = Desk {
-        check,
-        style: style::of_output(check.color, check.form == Form::Quiet),
-        next: AtomicUsize::new(0),
-        worst: AtomicU8::new(0),
-        turn: Mutex::new(0),
-        moved: Condvar::new(),
-    };
-    in_threads(at_a_time(check.jobs, check.feeds.len()), || desk.work());
+    let style = style::of_output(check.color, check.form == Form::Quiet);
+    let print = |(feed, report, since): (Feed, Report, Instant)| print(check, style, &feed, &report, since);
+    each(&check.feeds, check.jobs, |path| checked(check, path), print)
+}
+
+/// Does the same work on each feed, prints what was done in the order of the feeds, and gives the worst exit status.
+pub fn each<Done>(
+    feeds: &[PathBuf],
+    jobs: Option<usize>,
+    work: impl Fn(&Path) -> Result<Done, String> + Sync,
+    print: impl Fn(Done) -> Result<u8, String> + Sync,
+) -> u8 {
+    let desk =
+        Desk { feeds, next: AtomicUsize::new(0), worst: AtomicU8::new(0), turn: Mutex::new(0), moved: Condvar::new() };
+    in_threads(at_a_time(jobs, feeds.len()), || desk.work(&work, &print));
     desk.worst.into_inner()
 }
 
-/// How many feeds are checked at a time: as many as asked for, else as there are processors, and no more than there are feeds.
+/// How many feeds are worked on at a time: as many as asked for, else as there are processors, and no more than there are feeds.
 fn at_a_time(asked: Option<usize>, feeds: usize) -> usize {
     let processors = thread::available_parallelism().map_or(1, usize::from);
     asked.unwrap_or(processors).min(feeds)
@@ -58,13 +63,13 @@ fn in_threads(jobs: usize, work: impl Fn() + Sync) {
 
 impl Desk<'_> {
     /// Takes feed after feed until none is left.
-    fn work(&self) {
+    fn work<Done>(&self, work: &impl Fn(&Path) -> Result<Done, String>, print: &impl Fn(Done) -> Result<u8, String>) {
         loop {
             let number = self.next.fetch_add(1, Ordering::Relaxed);
-            let Some(path) = self.check.feeds.get(number) else { return };
-            let checked = guarded(|| self.checked(path));
+            let Some(path) = self.feeds.get(number) else { return };
+            let done = guarded(|| work(path));
             let mut turn = self.turn(number);
-            let status = guarded(|| checked.and_then(|(feed, report, since)| self.print(&feed, &report, since)));
+            let status = guarded(|| done.and_then(print));
             self.worst.fetch_max(status.unwrap_or_else(|message| crate::complain(&message)), Ordering::Relaxed);
             *turn += 1;
             self.moved.notify_all();
@@ -76,34 +81,32 @@ impl Desk<'_> {
         let turn = self.turn.lock().unwrap_or_else(PoisonError::into_inner);
         self.moved.wait_while(turn, |turn| *turn != number).unwrap_or_else(PoisonError::into_inner)
     }
+}
 
-    /// Reads and checks a feed.
-    fn checked(&self, path: &Path) -> Result<(Feed, Report, Instant), String> {
-        let since = Instant::now();
-        let check = self.check;
-        let feed = source::read(path, check.follow_links)?;
-        let alone = check.feeds.len() == 1 && check.form != Form::Quiet;
-        let progress = if alone { progress::start(&feed) } else { progress::silent() };
-        let verdict_only = check.form == Form::Quiet || check.feeds.len() > 1 && check.form == Form::Text;
-        let page = if verdict_only { Some(paging::VERDICT_ONLY) } else { check.page };
-        let report = paging::check(&feed, page, &progress)?;
-        Ok((feed, report, since))
-    }
+/// Reads and checks a feed.
+fn checked(check: &Check, path: &Path) -> Result<(Feed, Report, Instant), String> {
+    let since = Instant::now();
+    let feed = source::read(path, check.follow_links)?;
+    let alone = check.feeds.len() == 1 && check.form != Form::Quiet;
+    let progress = if alone { progress::start(&feed) } else { progress::silent() };
+    let verdict_only = check.form == Form::Quiet || check.feeds.len() > 1 && check.form == Form::Text;
+    let page = if verdict_only { Some(paging::VERDICT_ONLY) } else { check.page };
+    let report = paging::check(&feed, page, &progress)?;
+    Ok((feed, report, since))
+}
 
-    /// Prints what is to be said of a feed, and gives its exit status.
-    fn print(&self, feed: &Feed, report: &Report, since: Instant) -> Result<u8, String> {
-        let check = self.check;
-        write(|out| match check.form {
-            Form::Json => json::write(out, feed, report),
-            _ if check.feeds.len() > 1 => writeln!(out, "{}", text::verdict_line(feed, report, self.style)),
-            Form::Quiet => writeln!(out, "{}", text::verdict(report, self.style)),
-            Form::Text => {
-                let layout = Layout { style: self.style, all: check.all, time: since.elapsed() };
-                text::write(out, feed, report, &layout)
-            }
-        })?;
-        Ok(status(report))
-    }
+/// Prints what is to be said of a feed, and gives its exit status.
+fn print(check: &Check, style: Style, feed: &Feed, report: &Report, since: Instant) -> Result<u8, String> {
+    write(|out| match check.form {
+        Form::Json => json::write(out, feed, report),
+        _ if check.feeds.len() > 1 => writeln!(out, "{}", text::verdict_line(feed, report, style)),
+        Form::Quiet => writeln!(out, "{}", text::verdict(report, style)),
+        Form::Text => {
+            let layout = Layout { style, all: check.all, time: since.elapsed() };
+            text::write(out, feed, report, &layout)
+        }
+    })?;
+    Ok(status(report))
 }
 
 /// The exit status that a verdict has.
@@ -111,7 +114,7 @@ pub fn status(report: &Report) -> u8 {
     match report.outcome {
         Outcome::Accepted => 0,
         Outcome::Findings { .. } => 1,
-        Outcome::Refused { .. } => 2,
+        Outcome::Refused { .. } => REFUSED,
     }
 }
 
@@ -135,7 +138,7 @@ pub fn write(write: impl FnOnce(&mut dyn Write) -> io::Result<()>) -> Result<(),
 }
 
 /// The status of what couldn't run is the worst.
-const _: () = assert!(COULD_NOT_RUN > 2);
+const _: () = assert!(COULD_NOT_RUN > REFUSED);
 
 #[cfg(test)]
 mod tests {

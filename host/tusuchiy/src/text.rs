@@ -28,14 +28,12 @@ pub struct Layout {
 pub fn write(out: &mut dyn Write, feed: &Feed, report: &Report, layout: &Layout) -> io::Result<()> {
     let style = layout.style;
     writeln!(out, "{}", verdict(report, style))?;
-    if !feed.place.folder.is_empty() {
-        writeln!(out, "in the folder {} of the zip file", safe::text(&feed.place.folder))?;
-    }
+    write_folder(out, feed)?;
     match &report.outcome {
         Outcome::Accepted => write_read(out, feed, layout),
         Outcome::Refused(refusal) => {
-            writeln!(out, "{}", refused(feed, refusal, style))?;
-            write_marked(out, feed, refusal, style)?;
+            let path = feed.place.of(NAMES[refusal.file - 1]);
+            write_refusal(out, feed, &path, (refusal, &refusals::about(feed, refusal)), style)?;
             write_hint(out, refusal.number)
         }
         Outcome::Findings { list, total } => {
@@ -45,6 +43,14 @@ pub fn write(out: &mut dyn Write, feed: &Feed, report: &Report, layout: &Layout)
                 None => write_rules(out, feed, &facts, list, layout),
             }
         }
+    }
+}
+
+/// The folder of a zip file that has the feed, if it isn't the top.
+pub fn write_folder(out: &mut dyn Write, feed: &Feed) -> io::Result<()> {
+    match &feed.place.folder[..] {
+        [] => Ok(()),
+        folder => writeln!(out, "in the folder {} of the zip file", safe::text(folder)),
     }
 }
 
@@ -62,18 +68,18 @@ pub fn verdict_line(feed: &Feed, report: &Report, style: Style) -> String {
     let path = safe::text(feed.place.path.as_os_str().as_bytes());
     let more = match &report.outcome {
         Outcome::Refused(refusal) => {
-            let Refusal { number, file, line, column } = *refusal;
-            let About { words, .. } = refusals::about(feed, refusal);
-            format!(
-                ": {}{}: refusal {number}: {}",
-                NAMES[file - 1],
-                numbers(line, column),
-                if words.is_empty() { meaning(number) } else { &words }
-            )
+            format!(": {}", in_short(NAMES[refusal.file - 1], refusal, &refusals::about(feed, refusal)))
         }
         _ => String::new(),
     };
     format!("{}: {}{more}", style.path(&path), verdict(report, style))
+}
+
+/// Place, number and words of a refusal; where it has none, its meaning.
+pub fn in_short(name: &str, refusal: &Refusal, about: &About) -> String {
+    let Refusal { number, line, column, .. } = *refusal;
+    let words = if about.words.is_empty() { meaning(number) } else { &about.words };
+    format!("{name}{}: refusal {number}: {words}", numbers(line, column))
 }
 
 /// What was read of an accepted feed, what wasn't, and the time that it took.
@@ -94,18 +100,19 @@ fn write_read(out: &mut dyn Write, feed: &Feed, layout: &Layout) -> io::Result<(
     writeln!(out, "time: {:.3} s", layout.time.as_secs_f64())
 }
 
-/// Place, number, meaning and words of a refusal.
-fn refused(feed: &Feed, refusal: &Refusal, style: Style) -> String {
-    let Refusal { number, file, line, column } = *refusal;
-    let place = place(feed, file, &numbers(line, column), style);
-    let About { words, .. } = refusals::about(feed, refusal);
-    let words = if words.is_empty() { words } else { format!(": {words}") };
-    format!("{place}: refusal {number}: {}{words}", meaning(number))
-}
-
-/// The path of a file with line and column behind it.
-fn place(feed: &Feed, file: usize, numbers: &str, style: Style) -> String {
-    style.path(&format!("{}{numbers}", feed.place.of(NAMES[file - 1])))
+/// Place, number, meaning and words of a refusal, and the line that is refused.
+pub fn write_refusal(
+    out: &mut dyn Write,
+    feed: &Feed,
+    path: &str,
+    (refusal, about): (&Refusal, &About),
+    style: Style,
+) -> io::Result<()> {
+    let Refusal { number, line, column, .. } = *refusal;
+    let place = style.path(&format!("{path}{}", numbers(line, column)));
+    let words = if about.words.is_empty() { String::new() } else { format!(": {}", about.words) };
+    writeln!(out, "{place}: refusal {number}: {}{words}", meaning(number))?;
+    write_marked(out, feed, refusal, style)
 }
 
 /// A line, unless it is the whole file, and a column where there is one, as editors take them.
@@ -132,7 +139,8 @@ fn write_marked(out: &mut dyn Write, feed: &Feed, refusal: &Refusal, style: Styl
     marked.carets.map_or(Ok(()), |carets| writeln!(out, "    {}", style.bad(&carets)))
 }
 
-fn write_hint(out: &mut dyn Write, number: usize) -> io::Result<()> {
+/// Where to read on.
+pub fn write_hint(out: &mut dyn Write, number: usize) -> io::Result<()> {
     writeln!(out, "`tusuchiy explain {number}` says more")
 }
 
@@ -178,7 +186,8 @@ fn write_findings<'a>(
     words: impl Fn(&Finding) -> String,
 ) -> io::Result<()> {
     for finding in findings {
-        writeln!(out, "{}: {}", place(feed, finding.file, &numbers(finding.line, None), style), words(finding))?;
+        let place = format!("{}{}", feed.place.of(NAMES[finding.file - 1]), numbers(finding.line, None));
+        writeln!(out, "{}: {}", style.path(&place), words(finding))?;
         write_line(out, feed, finding.file, finding.line)?;
     }
     Ok(())

@@ -1,7 +1,7 @@
 //! Reads a feed from a zip file, in memory: the directory is walked here, the data is unpacked by flate2.
 
 use crate::feed::{Feed, Place, Unread, FILES, MOST_BYTES, NAMES};
-use crate::folder::{cannot, limited, open};
+use crate::folder::{all, cannot, limited, open, Files};
 use crate::safe;
 use flate2::bufread::DeflateDecoder;
 use flate2::Crc;
@@ -38,11 +38,11 @@ struct Member {
     is_link: bool,
 }
 
-/// The members of one folder that are files of a feed.
-type Found = [Option<Member>; FILES];
+/// The members of one folder that are sought, each at the place of its name.
+type Found<const COUNT: usize> = [Option<Member>; COUNT];
 
 /// The folders that have any; the top is the empty name.
-type Folders = BTreeMap<Vec<u8>, Found>;
+type Folders<const COUNT: usize> = BTreeMap<Vec<u8>, Found<COUNT>>;
 
 /// Where the directory stands and how many members it has.
 struct Directory {
@@ -54,26 +54,46 @@ struct Directory {
 /// Reads the six files from a zip file, or says in a line for each what is in the way.
 pub fn read(path: &Path) -> Result<Feed, String> {
     let found = open(path, true).and_then(|(mut file, length)| {
-        let (folders, names) = walk(&mut file, length)?;
+        let (folders, names) = walk(&mut file, length, NAMES)?;
         let (folder, members) = choose(folders)?;
         Ok((file, names, folder, members))
     });
     let (mut file, names, folder, members) = found.map_err(|error| cannot(path, &error.to_string()))?;
-    let place = Place { path: path.to_path_buf(), folder };
-    let (mut files, mut wrong): ([Option<Vec<u8>>; FILES], Vec<String>) = Default::default();
-    for (number, member) in members.iter().enumerate() {
-        match member.as_ref().map(|member| unpack(&mut file, member)).transpose() {
-            Ok(bytes) => files[number] = bytes,
-            Err(error) => wrong.push(format!("can't read {}: {error}", place.of(NAMES[number]))),
-        }
-    }
-    if !wrong.is_empty() {
-        return Err(wrong.join("\n"));
-    }
+    let place = Place { path: path.to_path_buf(), is_zip: true, folder };
+    let files = unpack_all(&mut file, &place, NAMES, members)?;
     let mut unread = Unread::default();
     let others = names.iter().filter(|name| !name.ends_with(b"/"));
     others.filter_map(|name| name.strip_prefix(&place.folder[..])).for_each(|name| unread.add(name));
     Ok(Feed::new(place, files, unread))
+}
+
+/// Reads the files of these names that stand beside a feed's.
+pub fn read_beside<const COUNT: usize>(place: &Place, names: [&str; COUNT]) -> Result<Files<COUNT>, String> {
+    let found = open(&place.path, true).and_then(|(mut file, length)| {
+        let (mut folders, _) = walk(&mut file, length, names)?;
+        Ok((file, folders.remove(&place.folder).unwrap_or_else(none)))
+    });
+    let (mut file, members) = found.map_err(|error| cannot(&place.path, &error.to_string()))?;
+    unpack_all(&mut file, place, names, members)
+}
+
+fn none<const COUNT: usize>() -> Found<COUNT> {
+    std::array::from_fn(|_| None)
+}
+
+/// The bytes of members, or of each that can't be read what is in the way, a line each.
+fn unpack_all<const COUNT: usize>(
+    file: &mut File,
+    place: &Place,
+    names: [&str; COUNT],
+    members: Found<COUNT>,
+) -> Result<Files<COUNT>, String> {
+    let mut names = names.into_iter();
+    all(members.map(|member| {
+        let name = names.next().unwrap_or_default();
+        let bytes = member.map(|member| unpack(file, &member)).transpose();
+        bytes.map_err(|error| format!("can't read {}: {error}", place.of(name)))
+    }))
 }
 
 fn bad(words: impl Into<String>) -> io::Error {
@@ -150,8 +170,12 @@ fn within(found: Directory, end: u64) -> io::Result<Directory> {
     }
 }
 
-/// Walks the directory: the files of a feed in each folder, and all names.
-fn walk(file: &mut File, length: u64) -> io::Result<(Folders, Vec<Vec<u8>>)> {
+/// Walks the directory: the members that are sought in each folder, and all names.
+fn walk<const COUNT: usize>(
+    file: &mut File,
+    length: u64,
+    sought: [&str; COUNT],
+) -> io::Result<(Folders<COUNT>, Vec<Vec<u8>>)> {
     let Directory { place, length, count } = directory(file, length)?;
     file.seek(SeekFrom::Start(place))?;
     let mut records = BufReader::new(file).take(length);
@@ -162,11 +186,11 @@ fn walk(file: &mut File, length: u64) -> io::Result<(Folders, Vec<Vec<u8>>)> {
         names.push(member.name.clone());
         let cut = member.name.iter().rposition(|&byte| byte == b'/').map_or(0, |slash| slash + 1);
         let (folder, name) = member.name.split_at(cut);
-        let Some(known) = NAMES.iter().position(|known| known.as_bytes() == name) else { continue };
+        let Some(known) = sought.iter().position(|known| known.as_bytes() == name) else { continue };
         if folders.len() >= MOST_FOLDERS && !folder.is_empty() && !folders.contains_key(folder) {
             continue;
         }
-        let found = folders.entry(folder.to_vec()).or_default();
+        let found = folders.entry(folder.to_vec()).or_insert_with(none);
         // Whoever unpacks the file may take the one or the other.
         if found[known].is_some() {
             return Err(bad(format!("{} stands in it twice", safe::text(&member.name))));
@@ -220,7 +244,7 @@ fn large_numbers(extra: &[u8]) -> impl Iterator<Item = u64> + '_ {
 }
 
 /// The folder that has the feed: the top, or the only one with any of the six files.
-fn choose(mut folders: Folders) -> io::Result<(Vec<u8>, Found)> {
+fn choose(mut folders: Folders<FILES>) -> io::Result<(Vec<u8>, Found<FILES>)> {
     if let Some(top) = folders.remove(&b""[..]) {
         return Ok((Vec::new(), top));
     }

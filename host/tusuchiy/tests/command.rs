@@ -230,7 +230,10 @@ fn the_documented_examples_are_true() {
     report.stdout = out(&report).replace(&example("findings"), "examples/findings").into();
     assert_eq!(json::read(out(&report)), json::read(examples[0]));
     assert_eq!(document(&[&example("refused")]).get("refusal"), &json::read(examples[1]));
-    assert_eq!(examples.len(), 2);
+    let mut index = run(&["index", "--check", "--json", &example("by-date")]);
+    index.stdout = out(&index).replace(&example("by-date"), "examples/by-date").into();
+    assert_eq!(json::read(out(&index)), json::read(examples[2]));
+    assert_eq!(examples.len(), 3);
 }
 
 /// The example in the README is what the command prints.
@@ -363,15 +366,15 @@ fn escapes_go_to_able_terminals_only() {
 
 #[test]
 fn explain_prints_the_clerks_page() {
-    for number in (1..=14).chain(20..=31) {
+    for number in (1..=14).chain(20..=31).chain(40..=46) {
         let output = run(&["explain", &number.to_string()]);
         assert_eq!(status(&output), 0);
-        let word = if number < 20 { "Refusal" } else { "Rule" };
+        let word = if (20..=31).contains(&number) { "Rule" } else { "Refusal" };
         assert!(out(&output).starts_with(&format!("## {word} {number}: ")), "{}", out(&output));
         assert_eq!(out(&output).matches("\n#").count(), 0);
         assert!(out(&output).contains("**How to mend it.**"));
     }
-    for bad in ["0", "15", "19", "32"] {
+    for bad in ["0", "15", "19", "32", "39", "47"] {
         assert_cannot(&["explain", bad], &["there is no refusal or rule"]);
     }
 }
@@ -392,6 +395,10 @@ fn bad_words_on_the_command_line() {
     assert_cannot(&["check", &feed, "--after", "1,2"], &["--after takes three numbers"]);
     assert_cannot(&["check", &feed, "--after", "1,2,99999999999"], &["--after takes three numbers"]);
     assert_cannot(&["check", &feed, "--json", "--quiet"], &["don't go together"]);
+    assert_cannot(&["index"], &["index needs a feed"]);
+    assert_cannot(&["index", &feed, "--room", "3"], &["index takes no --room"]);
+    assert_cannot(&["index", &feed, &feed, "-o", "x"], &["--output takes one feed"]);
+    assert_cannot(&["check", &feed, "--check"], &["check takes no --check"]);
     assert_cannot(&["explain"], &["explain takes one number"]);
     assert_cannot(&["explain", "x"], &["explain takes a number"]);
     let output =
@@ -404,7 +411,8 @@ fn bad_words_on_the_command_line() {
 fn help_and_version_are_there() {
     let help = run(&["--help"]);
     assert_eq!(status(&help), 0);
-    for word in ["check FEED", "--json", "--after", "--room", "--quiet", "explain", "Exit status", "FILE:LINE:COLUMN"] {
+    let words = ["check FEED", "--json", "--after", "--room", "--quiet", "index FEED", "--check", "explain"];
+    for word in words.into_iter().chain(["Exit status", "FILE:LINE:COLUMN"]) {
         assert!(out(&help).contains(word), "{word}");
     }
     for words in [&["-h"][..], &["check", "--help"], &["check", "-h"], &["explain", "--help"], &["help"]] {
@@ -412,7 +420,7 @@ fn help_and_version_are_there() {
     }
     for words in [&["--version"][..], &["-V"], &["check", "--version"]] {
         let output = run(words);
-        assert_eq!((status(&output), out(&output)), (0, "tusuchiy 0.5.0\n"), "{words:?}");
+        assert_eq!((status(&output), out(&output)), (0, "tusuchiy 0.6.0\n"), "{words:?}");
     }
 }
 
@@ -440,6 +448,9 @@ fn bash_completes() {
     assert_eq!(complete("tusuchiy check --js", 2), "--json");
     assert_eq!(complete("tusuchiy check --fo", 2), "--follow-links");
     assert_eq!(complete("tusuchiy check --color n", 3), "never");
+    assert_eq!(complete("tusuchiy in", 1), "index");
+    assert_eq!(complete("tusuchiy index --ch", 2), "--check");
+    assert_eq!(complete("tusuchiy check --ch", 2), "");
     assert_eq!(complete("tusuchiy --generate m", 2), "man");
 }
 
@@ -451,7 +462,7 @@ fn the_manual_page_is_well_formed() {
     let man = Command::new("man").args(["--warnings", "-E", "UTF-8", "-l", &folder.at("tusuchiy.1")]).output();
     if let Ok(output) = man {
         assert_eq!(String::from_utf8_lossy(&output.stderr), "");
-        for word in ["NAME", "--follow-links", "EXIT STATUS", "couldn't run"] {
+        for word in ["NAME", "--follow-links", "INDEX FEED", "--check", "EXIT STATUS", "couldn't run"] {
             assert!(String::from_utf8_lossy(&output.stdout).contains(word), "{word}");
         }
     }

@@ -6,6 +6,7 @@ use cases::generate;
 use cases::random::Random;
 use common::zip::{feed, member, write};
 use common::{command, example_files, json, Folder, NAMES};
+use std::collections::BTreeSet;
 use std::ffi::{OsStr, OsString};
 use std::fs;
 use std::os::unix::ffi::{OsStrExt, OsStringExt};
@@ -111,10 +112,61 @@ fn random_zip_files() {
     }
 }
 
+/// An index with any bytes in its place, cut, longer, with another byte, or as it was.
+fn damaged(mut index: Vec<u8>, random: &mut Random) -> Vec<u8> {
+    match random.below(6) {
+        0 => return bytes(random, 40),
+        1 => index.truncate(random.below(index.len() + 1)),
+        2 => index.extend(bytes(random, 4)),
+        3 | 4 => {
+            let place = random.below(index.len());
+            index[place] = *random.pick(&[0, 1, 2, 3, 4, 255]);
+        }
+        _ => {}
+    }
+    index
+}
+
+/// Indexes as they are written, then damaged: each has a verdict, what is refused has words, and every refusal comes up.
+#[test]
+fn random_indexes() {
+    const INDEXES: [&str; 4] = ["stops.ttx", "routes.ttx", "calendar.ttx", "trips.ttx"];
+    let mut seen = BTreeSet::new();
+    for seed in 0..RUNS / 6 {
+        let mut random = Random::new(3000 + seed);
+        let folder = Folder::empty("fuzz-indexes");
+        let feeds: Vec<String> = (0..FEEDS)
+            .map(|place| {
+                let case = generate::case(seed * 16 + place as u64 % 8);
+                folder.put_feed(&place.to_string(), &case.files)
+            })
+            .collect();
+        let output = command().args(["index", "-q"]).args(&feeds).output().expect("the command runs");
+        assert_decent(&output, &format!("seed {seed}, written"));
+        for path in feeds.iter().flat_map(|feed| INDEXES.map(|name| format!("{feed}/{name}"))) {
+            let Ok(index) = fs::read(&path) else { continue };
+            fs::write(&path, damaged(index, &mut random)).expect("a file");
+        }
+        let output = command().args(["index", "--check", "--json"]).args(&feeds).output().expect("the command runs");
+        assert_decent(&output, &format!("seed {seed}, judged"));
+        for document in String::from_utf8_lossy(&output.stdout).lines().map(json::read) {
+            for index in document.get("indexes").list().iter().filter(|index| index.get("verdict").text() == "refused")
+            {
+                let refusal = index.get("refusal");
+                assert!(!refusal.get("words").text().is_empty(), "seed {seed}: {refusal:?}");
+                seen.insert(refusal.get("number").number());
+            }
+        }
+    }
+    assert!((40..=44).all(|number| seen.contains(&number)), "{seen:?}");
+}
+
 /// Words that mean something, or nearly.
 const WORDS: &[&str] = &[
     "check",
     "check",
+    "index",
+    "--check",
     "explain",
     "help",
     "--json",

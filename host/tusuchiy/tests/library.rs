@@ -4,7 +4,8 @@ mod common;
 
 use common::example_files;
 use std::num::NonZeroU32;
-use tusuchiy::{table_sizes, Check, Fault, File, Finding, Place, Refusal, Rule, Verdict};
+use tusuchiy::index::{self, Refused};
+use tusuchiy::{table_sizes, Check, Fault, File, Finding, IndexAnswer, IndexRefusal, Place, Refusal, Rule, Verdict};
 
 fn slices(files: &[Vec<u8>; 6]) -> [&[u8]; 6] {
     files.each_ref().map(|file| &file[..])
@@ -112,4 +113,77 @@ fn one_file_of_services_is_needed() {
     let fault = Fault { file: File::Calendar, line: 0, column: None, refusal };
     let mut check = Check::new(slices(&files)).expect("memory");
     assert_eq!(check.verdict().expect("an answer"), Verdict::Refused(fault));
+}
+
+const STOPS: &[u8] = b"stop_id,stop_name,stop_lat,stop_lon\nB,Beech,1.5,2\nA,Alder,1.5,2\n\"AB\",Ash,1.5,2\n";
+
+/// The index of the stops above, by hand: A, AB, B.
+const INDEX: &[u8] = b"TTX\x01\x00\x01\x03\x00\x02\x00\x03\x00\x01\x00";
+
+const GOOD: IndexAnswer = IndexAnswer { number: 0, file: 0, line: 0, column: 0, length: INDEX.len() as i32 };
+
+/// The functions as the archive has them: the buffer behind the index stays, and so does all of it on a refusal.
+#[test]
+fn an_index_in_a_lent_buffer() {
+    for more in [0, 1, 5] {
+        let mut buffer = vec![77; INDEX.len() + more];
+        assert_eq!(index::write(1, STOPS, &mut buffer), GOOD);
+        assert_eq!(buffer, [INDEX, &vec![77; more]].concat());
+    }
+    assert_eq!(index::check(1, STOPS, INDEX), GOOD);
+    let refused = |number| IndexAnswer { number, length: 0, ..GOOD };
+    let twice = [STOPS, b"B,Birch,1.5,2\n"].concat();
+    let own = IndexAnswer { number: 12, file: 1, line: 5, column: 2, length: 0 };
+    let cases = [
+        (0, STOPS, refused(42)),
+        (5, STOPS, refused(42)),
+        (6, b"", refused(42)),
+        (-1, STOPS, refused(42)),
+        (1, b"", IndexAnswer { file: 1, ..refused(4) }),
+        (3, b"", IndexAnswer { file: 3, ..refused(4) }),
+        (1, &[STOPS, b"C,,1.5,2\n"].concat(), own),
+        (1, &twice, refused(45)),
+    ];
+    for (file_number, file, wanted) in cases {
+        let mut buffer = [77; 20];
+        assert_eq!(index::write(file_number, file, &mut buffer), wanted);
+        assert_eq!(buffer, [77; 20], "a refusal writes nothing");
+    }
+    for short in [0, 8, INDEX.len() - 1] {
+        let mut buffer = vec![77; short];
+        assert_eq!(index::write(1, STOPS, &mut buffer), refused(46));
+        assert_eq!(buffer, vec![77; short]);
+    }
+    for (place, number) in [(0, 40), (3, 41), (5, 42), (6, 42), (8, 43), (12, 44)] {
+        let mut other = INDEX.to_vec();
+        other[place] = if place == 12 { 2 } else { other[place] ^ 0x80 };
+        assert_eq!(index::check(1, STOPS, &other), refused(number), "byte {place}");
+    }
+    assert_eq!(index::check(0, STOPS, INDEX), refused(42));
+    assert_eq!(index::check(1, b"", INDEX), IndexAnswer { file: 1, ..refused(4) });
+}
+
+/// An index of its own length, and refusals in words.
+#[test]
+fn an_index_of_a_file() {
+    let made = index::of(File::Stops, STOPS).expect("an answer");
+    assert_eq!(made.as_deref(), Ok(INDEX));
+    assert_eq!(index::judge(File::Stops, STOPS, INDEX).expect("an answer"), Ok(()));
+    let refusal = |number| Refused::Index(IndexRefusal::new(number).expect("a refusal"));
+    assert_eq!(index::judge(File::Stops, STOPS, b"TTX").expect("an answer"), Err(refusal(40)));
+    assert_eq!(index::judge(File::Routes, b"route_id,route_type\n", INDEX).expect("an answer"), Err(refusal(42)));
+    for file in [File::StopTimes, File::CalendarDates] {
+        assert_eq!(index::of(file, STOPS).expect("an answer"), Err(refusal(42)), "{file} has no index");
+        assert_eq!(file.index_name(), None);
+    }
+    let fault = Fault { file: File::Calendar, line: 0, column: None, refusal: Refusal::new(4).expect("a refusal") };
+    let refused = index::of(File::Calendar, b"").expect("an answer").expect_err("a refusal");
+    assert_eq!(refused, Refused::File(fault));
+    assert_eq!(refused.to_string(), fault.to_string());
+    let words = "refusal 40: the index isn't there, or isn't an index";
+    assert_eq!(refusal(40).to_string(), words);
+    assert_eq!(
+        index::FILES.map(|file| file.index_name().expect("a name")),
+        ["stops", "routes", "calendar", "trips"].map(|name| format!("{name}.ttx"))
+    );
 }

@@ -1,0 +1,210 @@
+//! The indexes of a feed: written beside its files, each whole or not at all, or those that stand there judged.
+
+mod about;
+mod json;
+mod text;
+mod whole;
+
+use crate::arguments::Form;
+use crate::facts::About;
+use crate::feed::Feed;
+use crate::folder::{self, Files};
+use crate::paging::Refusal;
+use crate::style::{self, Style, When};
+use crate::{many, refusals, safe, source, zip, REFUSED};
+use std::fs;
+use std::os::unix::ffi::OsStrExt;
+use std::path::{Path, PathBuf};
+use tusuchiy::index::{self, Refused, ENTRY, FILES, HEAD};
+use tusuchiy::File;
+
+/// What `index` is asked for.
+#[derive(Debug, Default, PartialEq, Eq)]
+pub struct Asked {
+    pub feeds: Vec<PathBuf>,
+    /// To judge what is there, and to write nothing.
+    pub check: bool,
+    pub form: Form,
+    /// The folder of the indexes; none is that of the feed.
+    pub output: Option<PathBuf>,
+    pub follow_links: bool,
+    pub jobs: Option<usize>,
+    pub color: When,
+}
+
+/// What became of the index of a file.
+enum Outcome {
+    /// Written or accepted, in so many bytes.
+    Good(usize),
+    /// The feed lacks the file, as it may, and has no index of it.
+    NotSupplied,
+    Refused(Refusal, About),
+}
+
+/// What was done for a feed: an outcome for each file that has an index.
+struct Done<'a> {
+    asked: &'a Asked,
+    feed: Feed,
+    outcomes: [Outcome; FILES.len()],
+}
+
+/// Writes or judges the indexes of all feeds and gives the exit status, the worst of theirs.
+pub fn run(asked: &Asked) -> u8 {
+    let style = style::of_output(asked.color, asked.form == Form::Quiet);
+    many::each(&asked.feeds, asked.jobs, |path| done(asked, path), |done| print(&done, style))
+}
+
+fn done<'a>(asked: &'a Asked, path: &Path) -> Result<Done<'a>, String> {
+    asked.output.as_ref().map_or(Ok(()), |folder| must_be_folder(folder))?;
+    let feed = source::read(path, asked.follow_links)?;
+    let outcomes = if asked.check { judge_all(asked, &feed)? } else { write_all(asked, &feed)? };
+    Ok(Done { asked, feed, outcomes })
+}
+
+/// A folder that isn't there is a slip of the user's, and not one without indexes.
+fn must_be_folder(path: &Path) -> Result<(), String> {
+    let why = match fs::metadata(path) {
+        Ok(about) if about.is_dir() => return Ok(()),
+        Ok(_) => "it isn't a folder".to_string(),
+        Err(error) => error.to_string(),
+    };
+    Err(format!("can't use {} as --output: {why}", safe::text(path.as_os_str().as_bytes())))
+}
+
+/// Prints what was done for a feed, and gives its exit status.
+fn print(done: &Done, style: Style) -> Result<u8, String> {
+    many::write(|out| match done.asked.form {
+        Form::Json => json::write(out, done),
+        _ if done.asked.feeds.len() > 1 => writeln!(out, "{}", text::verdict_line(done, style)),
+        Form::Quiet => writeln!(out, "{}", text::verdict(done, style)),
+        Form::Text => text::write(out, done, style),
+    })?;
+    Ok(if done.refused().next().is_some() { REFUSED } else { 0 })
+}
+
+/// The name of the index of a file that has one.
+fn name(file: File) -> &'static str {
+    file.index_name().unwrap_or_default()
+}
+
+/// How many records an index of this length has.
+fn records(length: usize) -> usize {
+    length.saturating_sub(HEAD) / ENTRY
+}
+
+/// Judges all indexes. One that isn't there has no bytes, unless its file isn't supplied either.
+fn judge_all(asked: &Asked, feed: &Feed) -> Result<[Outcome; FILES.len()], String> {
+    let indexes = read(asked, feed)?;
+    let mut places = indexes.iter();
+    all(FILES.map(|file| judge(feed, file, places.next().and_then(Option::as_deref))))
+}
+
+/// Reads the indexes from where they stand.
+fn read(asked: &Asked, feed: &Feed) -> Result<Files<{ FILES.len() }>, String> {
+    let names = FILES.map(name);
+    match &asked.output {
+        None if feed.place.is_zip => zip::read_beside(&feed.place, names),
+        output => folder::read_files(output.as_ref().unwrap_or(&feed.place.path), names, asked.follow_links),
+    }
+}
+
+fn judge(feed: &Feed, file: File, index: Option<&[u8]>) -> Result<Outcome, String> {
+    if feed.left_out(file) && index.is_none() {
+        return Ok(Outcome::NotSupplied);
+    }
+    let judged = index::judge(file, feed.bytes(file), index.unwrap_or(&[])).map_err(|error| error.to_string())?;
+    Ok(match judged {
+        Ok(()) => Outcome::Good(index.map_or(0, <[u8]>::len)),
+        Err(refused) => refusal(feed, file, index, refused),
+    })
+}
+
+/// Writes all indexes that there are; one that can't be written is no reason to leave out the others.
+fn write_all(asked: &Asked, feed: &Feed) -> Result<[Outcome; FILES.len()], String> {
+    let path = &feed.place.path;
+    let folder = match &asked.output {
+        None if feed.place.is_zip => {
+            let path = safe::text(path.as_os_str().as_bytes());
+            return Err(format!("can't write beside the files in {path}: unpack it, or name a folder with --output"));
+        }
+        output => output.as_ref().unwrap_or(path),
+    };
+    all(FILES.map(|file| write(feed, file, &folder.join(name(file)))))
+}
+
+fn write(feed: &Feed, file: File, path: &Path) -> Result<Outcome, String> {
+    if feed.left_out(file) && fs::symlink_metadata(path).is_err() {
+        return Ok(Outcome::NotSupplied);
+    }
+    let cannot = |why: String| format!("can't write {}: {why}", safe::text(path.as_os_str().as_bytes()));
+    match index::of(file, feed.bytes(file)).map_err(|error| cannot(error.to_string()))? {
+        Ok(index) => {
+            whole::put(path, &index).map_err(|error| cannot(error.to_string())).map(|()| Outcome::Good(index.len()))
+        }
+        Err(refused) => Ok(refusal(feed, file, None, refused)),
+    }
+}
+
+/// All outcomes, or what was in the way of each, a line each.
+fn all(outcomes: [Result<Outcome, String>; FILES.len()]) -> Result<[Outcome; FILES.len()], String> {
+    let wrong: Vec<&str> = outcomes.iter().filter_map(|outcome| outcome.as_ref().err().map(String::as_str)).collect();
+    if !wrong.is_empty() {
+        return Err(wrong.join("\n"));
+    }
+    Ok(outcomes.map(|outcome| outcome.unwrap_or(Outcome::NotSupplied)))
+}
+
+/// A refusal with what it is about: the file's own, or that of its index.
+fn refusal(feed: &Feed, file: File, index: Option<&[u8]>, refused: Refused) -> Outcome {
+    match refused {
+        Refused::File(fault) if feed.left_out(file) => Outcome::Refused(fault.into(), about::of_nothing(file)),
+        Refused::File(fault) => {
+            let refusal = Refusal::from(fault);
+            let about = refusals::about(feed, &refusal);
+            Outcome::Refused(refusal, about)
+        }
+        Refused::Index(refusal) => {
+            let number = refusal.number();
+            let (line, about) = about::of(feed, file, index, number);
+            Outcome::Refused(Refusal { number, file: file.number(), line, column: None }, about)
+        }
+    }
+}
+
+impl Done<'_> {
+    /// What became of all indexes, and of one that is good.
+    fn verdict(&self) -> &'static str {
+        if self.refused().next().is_some() {
+            "refused"
+        } else {
+            self.good()
+        }
+    }
+
+    fn good(&self) -> &'static str {
+        if self.asked.check {
+            "accepted"
+        } else {
+            "written"
+        }
+    }
+
+    /// What is refused.
+    fn refused(&self) -> impl Iterator<Item = (&Refusal, &About)> {
+        self.outcomes.iter().filter_map(|outcome| match outcome {
+            Outcome::Refused(refusal, about) => Some((refusal, about)),
+            _ => None,
+        })
+    }
+
+    /// The path of an index, safe to print.
+    fn path(&self, name: &str) -> String {
+        let of_output = |folder: &PathBuf| safe::text(folder.join(name).as_os_str().as_bytes());
+        self.asked.output.as_ref().map_or_else(|| self.feed.place.of(name), of_output)
+    }
+}
+
+/// What is refused is the index itself, and not the file that it is of.
+fn is_of_index(refusal: &Refusal) -> bool {
+    (40..=44).contains(&refusal.number)
+}
