@@ -1,4 +1,4 @@
-# shellcheck shell=bash disable=SC2154
+# shellcheck shell=bash disable=SC2034,SC2154
 # Sourced by ./tusuchiy and .ci/host, which set `top`, the repository's folder: installs what builds x86-64 programs, proves the check, builds the command.
 program=$top/host/target/tusuchiy
 log=$top/host/target/setup.log
@@ -67,7 +67,8 @@ tools_x86_64() {
     install rustc-web cargo-web gcc libc6-dev
 }
 
-# On Arm everything is built for x86-64 and run under the emulator. The cross compiler only recommends its C library.
+# On Arm all that links the archive is built for x86-64 and run under the emulator. The cross compiler only recommends its C library.
+# For Arm's own programs rustc-web brings the library and the linker.
 tools_arm() {
     if ! { [ -x /usr/bin/cargo ] && command -v x86_64-linux-gnu-gcc && command -v qemu-x86_64 &&
         dpkg -s libstd-rust-web-dev:amd64 libc6-dev-amd64-cross; } >/dev/null 2>&1; then
@@ -97,13 +98,13 @@ pin_cargo() {
     export CARGO_ENCODED_RUSTFLAGS='' RUSTC_WRAPPER='' RUSTC_WORKSPACE_WRAPPER=''
 }
 
-# host_tools: everything that cargo needs, on either processor.
+# host_tools: everything that cargo needs, on either processor; own_target is the processor's own name, for what needs no archive.
 host_tools() {
     { mkdir -p "$top/host/target" && : >"$log"; } || fail "can't write in $top/host/target"
     pin_cargo
     case $(uname -m) in
-        x86_64) tools_x86_64 ;;
-        aarch64 | arm64) tools_arm ;;
+        x86_64) own_target=x86_64-unknown-linux-gnu && tools_x86_64 ;;
+        aarch64 | arm64) own_target=aarch64-unknown-linux-gnu && tools_arm ;;
         *) fail "this machine is neither x86-64 nor Arm" ;;
     esac
     crates_debian

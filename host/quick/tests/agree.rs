@@ -36,7 +36,7 @@ fn on_the_benchmarks_feeds() {
     agree::on_the_benchmarks_feeds(by_quick, &[(64, 1000), (64, 10), (4096, 100_000)]);
 }
 
-/// The model would take minutes here under an emulator, so this only shows that none is refused.
+/// The model would take a minute here, so this only shows that none is refused.
 #[test]
 fn the_benchmarks_largest_feeds_can_be_read() {
     for family in &FAMILIES {
