@@ -1,13 +1,22 @@
 // Where the ids of a file's records begin, one number a record: what an index needs of a file that lends no table.
 ghost use mathlib.Core.Path.{_≡_};
 ghost use Prim.Native.Nat.{ℕ, _+_, _<_, _≤_};
+ghost use lib.IntN.{pos};
 ghost use lib.ListN.{length, getD, drop};
 ghost use Rattle.meaning.specs.Bytes.{countLf, linesFrom, linesOf};
 ghost use Rattle.meaning.specs.Promises.{noLine};
 ghost use Rattle.meaning.specs.Refusals.{maxBytes};
 ghost use Rattle.ordering.specs.Cells.{cellAt};
 ghost use Rattle.id_places.specs.Places.{startIn, Ids};
+use meaning::MAX_LINES;
 use text::LineStep;
+
+// A number for each record of the longest file; none is placed.
+pub fn blank() -> [i32; MAX_LINES]
+    ensures { λ r. ⌜ ((k : ℕ) → getD r k (pos 0) ≡ pos 0) ⌝ }
+{
+    [0i32; MAX_LINES]
+}
 
 // The lines from `at` on, the first of which has record 1, by their fields in column p; how many records there are.
 fn place_lines(s: &[u8], at: usize, p: usize, t: &mut [i32]) -> usize

@@ -12,7 +12,6 @@ ghost use Rattle.indexes.specs.Promises.{Reads};
 ghost use Rattle.id_places.specs.Places.{Ids};
 ghost use Rattle.index_check.specs.Entries.{Entries};
 use indexes::IndexAnswer;
-use meaning::MAX_LINES;
 use meaning::Verdict;
 use ranking::Order;
 
@@ -122,18 +121,13 @@ fn falls(f: usize, s: &[u8], t: &[i32], b: &[u8], n: usize) -> bool
     false
 }
 
-// A number for each record of the longest file.
-fn blank() -> [i32; MAX_LINES] {
-    [0i32; MAX_LINES]
-}
-
 // 44, of a file whose ids have yet to be placed.
 fn is_falling(f: usize, s: &[u8], b: &[u8], n: usize) -> bool
     requires { ⌜ Reads f (now s) × (n + 1 ≡ countLf (now s)) ⌝ }
     requires { ⌜ Entries n (now b) ⌝ }
     ensures { λ r. ⌜ r ≡ rule44 version1 (idsOf f (now (s .entry))) (now (b .entry)) ⌝ }
 {
-    let mut t = blank();
+    let mut t = id_places::blank();
     let m = id_places::place_ids(f, s, &mut t);
     falls(f, s, &t, b, m)
 }

@@ -16,7 +16,6 @@ ghost use Rattle.indexes.specs.Promises.{Reads};
 ghost use Rattle.id_places.specs.Places.{ownColumn};
 ghost use Rattle.index_write.specs.Writing.{Ranked, headOf, Entry, Entered, Within};
 use indexes::IndexAnswer;
-use meaning::MAX_LINES;
 use meaning::Verdict;
 use ordering::By;
 use text::LineStep;
@@ -175,18 +174,13 @@ fn write_read(f: usize, s: &[u8], t: &mut [i32], b: &mut [u8]) -> IndexAnswer
     IndexAnswer::Whole(need)
 }
 
-// A number for each record of the longest file.
-fn blank() -> [i32; MAX_LINES] {
-    [0i32; MAX_LINES]
-}
-
 // The same, with a table of its own.
 fn write_alone(f: usize, s: &[u8], b: &mut [u8]) -> IndexAnswer
     requires { ⌜ Reads f (now s) ⌝ }
     ensures { λ r. ⌜ r ≡ barredOr (spoken (writerTests version1 (idsOf f (now (s .entry))) (length (now (b .entry))))) (indexLength version1 (length (idsOf f (now (s .entry))))) ⌝ }
     ensures { λ r. ⌜ now (b .exit) ≡ leftBy r (indexOf version1 f (ranked (idsOf f (now (s .entry))))) (now (b .entry)) ⌝ }
 {
-    let mut t = blank();
+    let mut t = id_places::blank();
     write_read(f, s, &mut t, b)
 }
 

@@ -1,4 +1,4 @@
--- Laws: the outcome from a starting place, part by part.
+-- Laws: the outcome from a starting place, part by part; answers about an index.
 use Prim.Native.Nat.{ℕ}
 use mathlib.Core.Path.{_≡_, ap, sym, _∙_}
 use mathlib.Core.List.{List}
@@ -7,6 +7,10 @@ use Rattle.meaning.specs.declared.Place.{Place}
 use Rattle.meaning.specs.Outcome.{Outcome, outcome}
 use Rattle.tusuchiy_c.specs.declared.TusuchiyAnswer.{TusuchiyAnswer}
 use Rattle.tusuchiy_c.specs.Told.{Told}
+use Rattle.indexes.specs.declared.IndexAnswer.{IndexAnswer}
+use Rattle.indexes.specs.Index.{checked, wrote, written}
+use Rattle.tusuchiy_c.specs.declared.TusuchiyIndexAnswer.{TusuchiyIndexAnswer}
+use Rattle.tusuchiy_c.specs.ToldIndex.{ToldIndex}
 
 module _ (files : List (List ℕ)) (tables : List (List ℤ)) (list : List ℤ) (p q : Place) (o : Outcome) (is : q ≡ p) (e : outcome files tables list q ≡ o) where
   from-p : outcome files tables list p ≡ o
@@ -20,3 +24,14 @@ module _ (files : List (List ℕ)) (tables : List (List ℤ)) (list : List ℤ) 
 
   pub told-list : outcome files tables list p .list ≡ o .list
   told-list = ap (λ (x : Outcome). x .list) from-p
+
+-- an answer to one file number is told of another that is the same
+module _ (f g : ℕ) (s : List ℕ) (is : f ≡ g) where
+  pub told-wrote : (room : ℕ) (a : IndexAnswer) → a ≡ wrote f s room → (r : TusuchiyIndexAnswer) → ToldIndex a r → ToldIndex (wrote g s room) r
+  told-wrote room a e r t = rw (← is, ← e) t
+
+  pub told-written : (lent b : List ℕ) → b ≡ written f s lent → b ≡ written g s lent
+  told-written lent b e = rw (← is) e
+
+  pub told-checked : (b : List ℕ) (a : IndexAnswer) → a ≡ checked f s b → (r : TusuchiyIndexAnswer) → ToldIndex a r → ToldIndex (checked g s b) r
+  told-checked b a e r t = rw (← is, ← e) t
