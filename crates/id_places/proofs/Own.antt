@@ -1,15 +1,14 @@
 -- Where the ids of a readable file begin: the fields there have the ids' values, and rise with the records.
 use mathlib.Core.Path.{_≡_, refl, sym, ap, _∙_}
-use mathlib.Core.Bool.{Bool, true, false, cond, not, _&&_}
-use mathlib.Core.List.{List, [], _∷_, map, List·Memᴰ·head, List·Memᴰ·tail}
+use mathlib.Core.Bool.{Bool, true, false, cond, not}
+use mathlib.Core.List.{List, [], _∷_, List·Memᴰ·head, List·Memᴰ·tail}
 use Prim.Native.Nat.{ℕ, zero, suc, _+_, _-_, _≤_, _<_}
 use native.Mathlib.Omega.{arith}
 use lib.Dec.{ltb, eqb}
-use lib.ListN.{length, getD, drop, length-map, length-drop}
+use lib.ListN.{length, getD, length-map, length-drop}
 use borrow.Author.Tests.{ltb-true, ltb-false, eqb-true, eq-eqb, ne-eqb, not-false}
-use Rattle.meaning.specs.declared.Column.{Column}
 use Rattle.meaning.specs.Lists.{empty}
-use Rattle.meaning.specs.Bytes.{Line, linesFrom, linesOf, startOf, countLf}
+use Rattle.meaning.specs.Bytes.{Line, linesOf, startOf, countLf}
 use Rattle.meaning.specs.Columns as C
 use Rattle.meaning.specs.Columns.{columnOf, countOf, places, headerOf, cell, rowOf, rowsOf}
 use Rattle.meaning.specs.Tables.{under, idColumn}
@@ -20,14 +19,13 @@ use Rattle.meaning.proofs.Laws.{getD-map-in}
 use Rattle.meaning.proofs.FirstBroken.{spoken-first, silent-none}
 use Rattle.meaning.proofs.Columns.{row-at}
 use Rattle.meaning.proofs.Readable.{row-is, no-stray, line-kept}
-use Rattle.text.proofs.Lines.{lines-all}
 use Rattle.ordering.specs.Ids.{valueOn}
 use Rattle.indexes.specs.Order.{idsOf, idOf}
 use Rattle.indexes.specs.Index.{indexed, loneClaims, loneVerdict}
 use Rattle.indexes.specs.Promises.{Reads}
 use Rattle.indexes.proofs.Beside.{beside}
-use Rattle.id_places.specs.Places.{startIn, ownColumn, idStart}
-use Rattle.id_places.proofs.Starts.{Stood, Among, among, start-within, value-on}
+use Rattle.id_places.specs.Places.{ownColumn, idStart}
+use Rattle.id_places.proofs.Starts.{Among, among, start-within, value-on}
 
 -- the id of each of files 1 to 4 is known and needed
 pub record Needed (f : ℕ) : Type 0 where

@@ -1,19 +1,19 @@
 -- The tests of an index, one by one, as the reader makes them.
 use mathlib.Core.Path.{_≡_, refl, sym, ap, _∙_}
-use mathlib.Core.Bool.{Bool, true, false, cond, not, _||_}
+use mathlib.Core.Bool.{Bool, true, false, not}
 use mathlib.Core.List.{List}
 use Prim.Native.Nat.{ℕ, suc, _+_, _*_, _-_, _≤_, _<_}
 use native.Mathlib.Omega.{arith}
 use lib.Dec.{eqb, ltb}
 use lib.IntN.{ℤ}
 use lib.ListN.{length, getD, take, length-map}
-use borrow.Author.Tests.{ltb-true, ltb-false, lt-ltb, le-ltb, eqb-true, eqb-false, eq-eqb, ne-eqb, not-false}
+use borrow.Author.Tests.{ltb-false, lt-ltb, le-ltb, eqb-true, eq-eqb, ne-eqb, not-false}
 use Rattle.meaning.specs.declared.Refusal.{Refusal}
 use Rattle.meaning.specs.declared.Verdict.the-variants.{Readable, Unreadable}
 use Rattle.meaning.specs.Lists.{same, some}
-use Rattle.meaning.specs.Bytes.{countLf, linesOf, value}
+use Rattle.meaning.specs.Bytes.{countLf, value}
 use Rattle.meaning.proofs.Records.{rows-count}
-use Rattle.meaning.proofs.Tests.{untrue, some-none}
+use Rattle.meaning.proofs.Tests.{untrue}
 use Rattle.text.specs.Fields.{fieldOn}
 use Rattle.text.proofs.Lines.{lines-all}
 use Rattle.ranking.specs.declared.Order.{Order}
@@ -27,14 +27,11 @@ use Rattle.indexes.specs.declared.IndexAnswer.the-variants.{Whole, Unread, Barr
 use Rattle.indexes.specs.Order.{idsOf, idOf}
 use Rattle.indexes.specs.Index.{numberAt, version1, mark, indexLength, entry, rule40, rule41, rule42, strays, rule43, rule44, indexTests, spoken, indexed, loneVerdict, askedOf, barredOr, checked}
 use Rattle.indexes.specs.Promises.{Reads}
+use Rattle.indexes.proofs.Accepted.{or-none, known-entry}
 use Rattle.indexes.proofs.Beside.{beside}
-use Rattle.id_places.specs.Places.{idStart, Ids}
+use Rattle.id_places.specs.Places.{Ids}
 use Rattle.id_places.proofs.Own.{sized, start-value}
 use Rattle.index_check.specs.Entries.{Entries}
-
-or-none : (a b : Bool) → (a || b) ≡ false → (a ≡ false) × (b ≡ false)
-or-none true b e = (e, absurd (let z : _≡_ {A = ℕ} 0 1 = cc in omega arith))
-or-none false b e = (refl, e)
 
 -- ---- the head of an index
 
@@ -82,12 +79,6 @@ pub stray-past : (n r x : ℕ) → r ≡ x → (r ≡ 0 → ⊥) → ltb n r ≡
 unfolding strays
 stray-past n r x e z = rw (← e, ne-eqb _ _ z)
 
-pub known-entry : (n : ℕ) (b : List ℕ) → Entries n b → (i : ℕ) → i < n → (1 ≤ entry version1 b i) × (entry version1 b i ≤ n)
-unfolding rule43 strays
-known-entry n b e i h =
-    let k : (eqb (entry version1 b i) 0 ≡ false) × (ltb n (entry version1 b i) ≡ false) = or-none _ _ (some-none _ 0 n (e .known) i (omega arith) (omega arith)) in
-    (omega (arith, eqb-false (entry version1 b i) 0 (k .0)), ltb-false n (entry version1 b i) (k .1))
-
 pub entries-as : (m n k : ℕ) (b : List ℕ) → m + 1 ≡ k → n + 1 ≡ k → Entries n b → Entries m b
 entries-as m n k b p q e = let z : m ≡ n = omega arith in rw z e
 
@@ -130,10 +121,10 @@ module _ (f : ℕ) (s : List ℕ) (n : ℕ) (t : List ℤ) (reads : Reads f s) (
 
   module _ (b : List ℕ) (listed : Entries n b) (i : ℕ) (more : i < n) (x : ℕ) (p : x ≡ entry version1 b i) where
     pub listed-fits : countLf s ≤ length t → x < length t
-    listed-fits h = omega (arith, known-entry n b listed i more, placed .count)
+    listed-fits h = omega (arith, known-entry version1 n b (listed .known) i more, placed .count)
 
     listed-id : valueOn s (cellAt 0 t 1 x) ≡ idOf (idsOf f s) (entry version1 b i)
-    listed-id = let k = known-entry n b listed i more in id-at x (omega (arith, k)) (omega (arith, k)) ∙ ap (idOf (idsOf f s)) p
+    listed-id = let k = known-entry version1 n b (listed .known) i more in id-at x (omega (arith, k)) (omega (arith, k)) ∙ ap (idOf (idsOf f s)) p
 
   pub falls-at : (b : List ℕ) → Entries n b → (i : ℕ) → i + 1 < n → (x y : ℕ) → x ≡ entry version1 b i → y ≡ entry version1 b (i + 1)
       → (r : Bool) → r ≡ before (valueOn s (cellAt 0 t 1 x)) (valueOn s (cellAt 0 t 1 y)) → not r ≡ falling (idsOf f s) b i

@@ -31,7 +31,9 @@ fn pair_at(b: &[u8], at: usize) -> usize
     requires { ⌜ at + 2 ≤ length (now b) ⌝ }
     ensures { λ r. ⌜ (r ≡ numberAt 2 (now (b .entry)) at) × (r < 65536) ⌝ }
 {
-    wide(b[at]) + 256 * wide(b[at + 1])
+    let low = wide(b[at]);
+    let high = wide(b[at + 1]);
+    low + 256 * high
 }
 
 // 40: is an index shorter than 8 bytes, or has it a wrong mark?

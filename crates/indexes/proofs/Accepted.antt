@@ -22,7 +22,7 @@ use Rattle.indexes.proofs.Order.{rising-length, rising-ranked, all-list
 
 -- ---- what no broken test says
 
-or-none : (a b : Bool) → (a || b) ≡ false → (a ≡ false) × (b ≡ false)
+pub or-none : (a b : Bool) → (a || b) ≡ false → (a ≡ false) × (b ≡ false)
 or-none true b e = both true refl e
 or-none false b e = (refl, e)
 
@@ -33,6 +33,13 @@ none-some P n h = untrue (some P 0 n) (λ e. let f = some-found P 0 n e in both 
 pub quiet : (n : ℕ) (b : Bool) (k : ℕ) → (n ≡ 0 → ⊥) → cond b n k ≡ 0 → (b ≡ false) × (k ≡ 0)
 quiet n true k h e = absurd (h e)
 quiet n false k h e = (refl, e)
+
+-- where 43 isn't broken, each entry is a record that there is
+pub known-entry : (v : Version) (n : ℕ) (b : List ℕ) → rule43 v n b ≡ false → (i : ℕ) → i < n → (1 ≤ entry v b i) × (entry v b i ≤ n)
+unfolding rule43 strays
+known-entry v n b e i h =
+    let k : (eqb (entry v b i) 0 ≡ false) × (ltb n (entry v b i) ≡ false) = or-none _ _ (some-none _ 0 n e i (omega arith) (omega arith)) in
+    (omega (arith, eqb-false (entry v b i) 0 (k .0)), ltb-false n (entry v b i) (k .1))
 
 -- what 40 to 44 ask, in their order
 pub record Sound (v : Version) (f : ℕ) (ids : List (List ℕ)) (b : List ℕ) : Type 0 where
@@ -47,7 +54,7 @@ pub record Sound (v : Version) (f : ℕ) (ids : List (List ℕ)) (b : List ℕ) 
 
 module _ (v : Version) (f : ℕ) (ids : List (List ℕ)) (b : List ℕ) where
   silent : spoken (indexTests v f ids b) ≡ 0 → Sound v f ids b
-  unfolding spoken indexTests rule40 rule41 rule42 strays rule43 rule44
+  unfolding spoken indexTests rule40 rule41 rule42 rule44
   silent e =
       let p = quiet 40 (rule40 b) _ (λ z. omega arith) e in
       let q = quiet 41 (rule41 v b) _ (λ z. omega arith) (p .1) in
@@ -64,9 +71,7 @@ module _ (v : Version) (f : ℕ) (ids : List (List ℕ)) (b : List ℕ) where
         file = eqb-true _ _ (not-false _ (forty-two .0));
         count = eqb-true _ _ (not-false _ (its .0));
         size = eqb-true _ _ (not-false _ (its .1));
-        records = λ i h.
-            let k : (eqb (entry v b i) 0 ≡ false) × (ltb (length ids) (entry v b i) ≡ false) = or-none _ _ (some-none _ 0 (length ids) (s .0) i (omega arith) (omega arith)) in
-            (omega (arith, eqb-false (entry v b i) 0 (k .0)), ltb-false (length ids) (entry v b i) (k .1));
+        records = known-entry v (length ids) b (s .0);
         rise = λ i h. not-false _ (some-none _ 0 (length ids - 1) (t .0) i (omega arith) (omega arith));
       }
 

@@ -2,4 +2,5 @@
 pub mod Order
 pub mod Index
 pub mod Promises
+pub mod Small
 pub mod Cases

@@ -1,9 +1,18 @@
-// The check for C and Rust: one exported function.
+// The check for C and Rust, and the index beside a feed: the exported functions.
 ghost use mathlib.Core.Path.{_≡_};
 ghost use mathlib.Core.List.{_∷_, []};
+ghost use Prim.Native.Nat.{_+_, _*_, _≤_};
+ghost use lib.IntN.{pos};
 ghost use Rattle.meaning.specs.Outcome.{outcome};
+ghost use Rattle.meaning.specs.Refusals.{maxLines};
 ghost use Rattle.tusuchiy.specs.Small.{Small};
+ghost use lib.ListN.{length};
+ghost use Rattle.num.specs.Signs.{natOf};
+ghost use Rattle.indexes.specs.Index.{checked, wrote, written};
+ghost use Rattle.indexes.specs.Small.{Small as SmallIndex};
 ghost use Rattle.tusuchiy_c.specs.Told.{Told};
+ghost use Rattle.tusuchiy_c.specs.ToldIndex.{ToldIndex};
+use indexes::IndexAnswer;
 use meaning::Answer;
 use meaning::Place;
 use meaning::Refusal;
@@ -131,4 +140,79 @@ pub extern "C" fn tusuchiy_check(
         findings,
         from,
     ))
+}
+
+// The answer about an index: number 0 written or accepted, 1 to 14 the file's own refusal with its file, line and column, or 40 to 46; the index's length.
+#[repr(C)]
+pub struct TusuchiyIndexAnswer {
+    pub number: i32,
+    pub file: i32,
+    pub line: i32,
+    pub column: i32,
+    pub length: i32,
+}
+
+// The file's own refusal, for C.
+fn unread(r: Refusal) -> TusuchiyIndexAnswer
+    requires { ⌜ SmallIndex (IndexAnswer.Unread r) ⌝ }
+    ensures { λ q. ⌜ ToldIndex (IndexAnswer.Unread r) q ⌝ }
+{
+    TusuchiyIndexAnswer {
+        number: r.number as i32,
+        file: r.file as i32,
+        line: r.line as i32,
+        column: r.column as i32,
+        length: 0,
+    }
+}
+
+// A number or a length alone, for C.
+fn bare(number: usize, length: usize) -> TusuchiyIndexAnswer
+    requires { ⌜ (number ≤ 46) × (length ≤ 8 + 2 * maxLines) ⌝ }
+    ensures { λ q. ⌜ (q .number ≡ pos number) × (q .file ≡ pos 0) × (q .line ≡ pos 0) × (q .column ≡ pos 0) × (q .length ≡ pos length) ⌝ }
+{
+    TusuchiyIndexAnswer {
+        number: number as i32,
+        file: 0,
+        line: 0,
+        column: 0,
+        length: length as i32,
+    }
+}
+
+// An answer about an index, for C.
+fn told_index(a: IndexAnswer) -> TusuchiyIndexAnswer
+    requires { ⌜ SmallIndex a ⌝ }
+    ensures { λ q. ⌜ ToldIndex a q ⌝ }
+{
+    match a {
+        IndexAnswer::Whole(n) => bare(0, n),
+        IndexAnswer::Unread(r) => unread(r),
+        IndexAnswer::Barred(n) => bare(n, 0),
+    }
+}
+
+// The index of a file, written at the start of a lent buffer; any file number but 1 to 4 is answered by 42.
+#[no_mangle]
+pub extern "C" fn tusuchiy_index_write(
+    file_number: i32,
+    file: &[u8],
+    buffer: &mut [u8],
+) -> TusuchiyIndexAnswer
+    ensures { λ r. ⌜ ToldIndex (wrote (natOf «file_number») (now (file .entry)) (length (now (buffer .entry)))) r ⌝ }
+    ensures { λ _. ⌜ now (buffer .exit) ≡ written (natOf «file_number») (now (file .entry)) (now (buffer .entry)) ⌝ }
+{
+    told_index(index_write::write_index(num::nat(file_number), file, buffer))
+}
+
+// Is an index the one of its file? Any file number but 1 to 4 is answered by 42.
+#[no_mangle]
+pub extern "C" fn tusuchiy_index_check(
+    file_number: i32,
+    file: &[u8],
+    index: &[u8],
+) -> TusuchiyIndexAnswer
+    ensures { λ r. ⌜ ToldIndex (checked (natOf «file_number») (now (file .entry)) (now (index .entry))) r ⌝ }
+{
+    told_index(index_check::check_index(num::nat(file_number), file, index))
 }
