@@ -28,7 +28,7 @@ use Rattle.indexes.specs.Order.{idsOf, idOf}
 use Rattle.indexes.specs.Index.{numberAt, version1, mark, indexLength, entry, rule40, rule41, rule42, strays, rule43, rule44, indexTests, spoken, indexed, loneVerdict, askedOf, barredOr, checked}
 use Rattle.indexes.specs.Promises.{Reads}
 use Rattle.indexes.proofs.Accepted.{or-none, known-entry}
-use Rattle.indexes.proofs.Beside.{beside}
+use Rattle.indexes.proofs.Beside.{asked-outside, beside}
 use Rattle.id_places.specs.Places.{Ids}
 use Rattle.id_places.proofs.Own.{sized, start-value}
 use Rattle.index_check.specs.Entries.{Entries}
@@ -181,7 +181,7 @@ module _ (f : ℕ) (s b : List ℕ) where
 
   pub past-files : 4 < f → Barred 42 ≡ checked f s b
   unfolding checked
-  past-files h = sym (beside f s .at-once (untrue (indexed f) (λ e. omega (arith, beside f s .outside .0 e))) b 0 .0)
+  past-files h = sym (asked-outside f s (untrue (indexed f) (λ e. omega (arith, beside f s .outside .0 e))) _)
 
   module _ (low : (f ≡ 0 → ⊥)) (high : f ≤ 4) where
     file : indexed f ≡ true

@@ -25,10 +25,11 @@ use Rattle.text.proofs.Lines.{lines-all}
 use Rattle.indexes.specs.declared.IndexAnswer.{IndexAnswer}
 use Rattle.indexes.specs.declared.IndexAnswer.the-variants.{Whole, Unread, Barred}
 use Rattle.indexes.specs.Order.{idsOf, repeats, ranked}
-use Rattle.indexes.specs.Index.{Version, version1, indexOf, indexLength, indexTests, spoken, writerTests, indexed, loneClaims, loneVerdict, ifRead, askedOf, barredOr, checked, wrote, leftBy, written}
-use Rattle.indexes.specs.Promises.{Lists, Reads, noTest, Lowest, Beside}
+use Rattle.indexes.specs.Index.{Version, version1, indexOf, indexLength, indexTests, spoken, writerTests, indexed, loneClaims, loneVerdict, ifRead, askedOf, barredOr, checked, wrote, leftBy, written, indexNumbers}
+use Rattle.indexes.specs.Promises.{Lists, Bytes, Reads, noTest, Lowest, saysWhole, saysUnread, saysBarred, Beside}
 use Rattle.indexes.proofs.Order.{ranked-length, ranked-rising, rising-apart}
 use Rattle.indexes.proofs.Accepted.{quiet, index-length, accepted-lists, lists-one, lists-accepted}
+use Rattle.indexes.proofs.Told.{told-whole, told-unread, told-barred, apart-checked, apart-wrote}
 
 -- ---- the lowest number that speaks
 
@@ -103,7 +104,7 @@ module _ (f : ℕ) (s : List ℕ) where
   unfolding askedOf loneVerdict
   asked-unread e r b a = rw (e, spoken-first (loneClaims f s) r .1 b)
 
-  asked-outside : indexed f ≡ false → (a : IndexAnswer) → askedOf f s a ≡ Barred 42
+  pub asked-outside : indexed f ≡ false → (a : IndexAnswer) → askedOf f s a ≡ Barred 42
   unfolding askedOf
   asked-outside e a = rw e
 
@@ -211,27 +212,85 @@ module _ (f : ℕ) (s : List ℕ) where
       early (suc zero) h = refl
       early (suc (suc k)) h = absurd (omega arith)
 
+  -- ---- the cases, from their numbers
+
+  whole-checked : (b : List ℕ) (n : ℕ) → indexNumbers (checked f s b) ≡ saysWhole n → checked f s b ≡ Whole n
+  whole-checked b n = told-whole (checked f s b) n (apart-checked f s b)
+
+  whole-wrote : (room n : ℕ) → indexNumbers (wrote f s room) ≡ saysWhole n → wrote f s room ≡ Whole n
+  whole-wrote room n = told-whole (wrote f s room) n (apart-wrote f s room)
+
+  says-whole : (a : IndexAnswer) (n : ℕ) → a ≡ Whole n → indexNumbers a ≡ saysWhole n
+  unfolding indexNumbers
+  says-whole a n e = ap indexNumbers e
+
+  says-unread : (a : IndexAnswer) (r : Refusal) → a ≡ Unread r → indexNumbers a ≡ saysUnread r
+  unfolding indexNumbers
+  says-unread a r e = ap indexNumbers e
+
+  says-barred : (a : IndexAnswer) (n : ℕ) → a ≡ Barred n → indexNumbers a ≡ saysBarred n
+  unfolding indexNumbers
+  says-barred a n e = ap indexNumbers e
+
+  own-checked : (r : Refusal) → r .number < 40 → (b : List ℕ) → indexNumbers (checked f s b) ≡ saysUnread r → FirstBroken (loneClaims f s) r
+  unfolding checked
+  own-checked r low b e = asked-refusal _ _ r (told-unread (checked f s b) r low (apart-checked f s b) e)
+
+  own-wrote : (r : Refusal) → r .number < 40 → (room : ℕ) → indexNumbers (wrote f s room) ≡ saysUnread r → FirstBroken (loneClaims f s) r
+  unfolding wrote
+  own-wrote r low room e = asked-refusal _ _ r (told-unread (wrote f s room) r low (apart-wrote f s room) e)
+
+  read-lowest : Reads f s → (b : List ℕ) (n : ℕ) → checked f s b ≡ Barred n ↔ Lowest (indexTests version1 f ids b) n
+  unfolding checked
+  read-lowest r b n = rw (asked-read r _) (barred-lowest (indexTests version1 f ids b) (length b) n (read-named version1 f ids b))
+
+  write-lowest : Reads f s → (room n : ℕ) → wrote f s room ≡ Barred n ↔ Lowest (writerTests version1 ids room) n
+  unfolding wrote
+  write-lowest r room n = rw (asked-read r _) (barred-lowest (writerTests version1 ids room) (indexLength version1 (length ids)) n (write-named version1 ids room))
+
+  accepted : Reads f s → (b : List ℕ) → Bytes b → checked f s b ≡ Whole (length b) → Lists f ids b
+  unfolding checked
+  accepted r b small e = accepted-lists f ids b small (barred-whole _ _ _ (sym (asked-read r _) ∙ e) .0)
+
+  outside-checked : indexed f ≡ false → (b : List ℕ) → checked f s b ≡ Barred 42
+  unfolding checked
+  outside-checked e b = asked-outside e _
+
+  outside-wrote : indexed f ≡ false → (room : ℕ) → wrote f s room ≡ Barred 42
+  unfolding wrote
+  outside-wrote e room = asked-outside e _
+
+  unread-checked : indexed f ≡ true → (r : Refusal) → FirstBroken (loneClaims f s) r → (b : List ℕ) → checked f s b ≡ Unread r
+  unfolding checked
+  unread-checked e r t b = asked-unread e r t _
+
+  unread-wrote : indexed f ≡ true → (r : Refusal) → FirstBroken (loneClaims f s) r → (room : ℕ) → wrote f s room ≡ Unread r
+  unfolding wrote
+  unread-wrote e r t room = asked-unread e r t _
+
+  wrote-told : (lent : List ℕ) (n : ℕ) → indexNumbers (wrote f s (length lent)) ≡ saysWhole n → Wrote lent n
+  wrote-told lent n e = wrote-whole lent n (whole-wrote (length lent) n e)
+
   -- ---- every sentence
 
   pub beside : Beside f s
-  unfolding checked wrote
   beside = record {
     outside = asked-range;
-    at-once = λ e b room. (asked-outside e _, asked-outside e _);
-    own = λ e r t b room. (asked-unread e r t _, asked-unread e r t _);
-    own-only = λ r b. asked-refusal _ _ r;
-    own-wrote = λ r room. asked-refusal _ _ r;
+    at-once = λ e b room. (says-barred _ 42 (outside-checked e b), says-barred _ 42 (outside-wrote e room));
+    own = λ e r t b room. (says-unread _ r (unread-checked e r t b), says-unread _ r (unread-wrote e r t room));
+    own-only = own-checked;
+    own-wrote = own-wrote;
     empty = empties;
-    read-lowest = λ r b n. rw (asked-read r _) (barred-lowest (indexTests version1 f ids b) (length b) n (read-named version1 f ids b));
-    accepted = λ r b small. (λ e. accepted-lists f ids b small (barred-whole _ _ _ (sym (asked-read r _) ∙ e) .0), accepts r b);
+    read-lowest = λ r b n. (λ e. read-lowest r b n .0 (told-barred _ n (apart-checked f s b) e), λ l. says-barred _ n (read-lowest r b n .1 l));
+    accepted = λ r b small. (λ e. accepted r b small (whole-checked b (length b) e), λ l. says-whole _ (length b) (accepts r b l));
     one = λ b c p q. lists-one f ids b p ∙ sym (lists-one f ids c q);
     some-one = λ b l. rising-apart ids (l .records) (l .rising);
     none-repeats = none-repeats;
-    write-lowest = λ r room n. rw (asked-read r _) (barred-lowest (writerTests version1 ids room) (indexLength version1 (length ids)) n (write-named version1 ids room));
+    write-lowest = λ r room n. (λ e. write-lowest r room n .0 (told-barred _ n (apart-wrote f s room) e), λ l. says-barred _ n (write-lowest r room n .1 l));
     need = need;
-    unchanged = unchanged;
-    writes = λ lent n e. let w = wrote-whole lent n e in rw (writes lent n w) (none-repeats (w .apart));
-    agrees = λ lent n e. let w = wrote-whole lent n e in rw (writes lent n w) (accepts (w .reads) index (none-repeats (w .apart)) ∙ ap Whole (w .size));
-    leaves = λ lent n e. let w = wrote-whole lent n e in (rw (w .is, length-append, length-drop) (omega (arith, w .size, w .room)), rw (w .is) (drop-at index (drop n lent) n (w .size)));
-    told = λ lent n e. let w = wrote-whole lent n e in sym (w .size) ∙ index-size ∙ need;
+    unchanged = λ lent h. unchanged lent (λ n e. h n (says-whole _ n e));
+    writes = λ lent n e. let w = wrote-told lent n e in rw (writes lent n w) (none-repeats (w .apart));
+    agrees = λ lent n e. let w = wrote-told lent n e in rw (writes lent n w) (says-whole _ n (accepts (w .reads) index (none-repeats (w .apart)) ∙ ap Whole (w .size)));
+    leaves = λ lent n e. let w = wrote-told lent n e in (rw (w .is, length-append, length-drop) (omega (arith, w .size, w .room)), rw (w .is) (drop-at index (drop n lent) n (w .size)));
+    told = λ lent n e. let w = wrote-told lent n e in sym (w .size) ∙ index-size ∙ need;
   }
