@@ -18,6 +18,8 @@ use Rattle.meaning.proofs.ListLaws.{and-both}
 use Rattle.meaning.proofs.Laws.{getD-map-in}
 use Rattle.meaning.proofs.FirstBroken.{spoken-first, silent-none}
 use Rattle.meaning.proofs.Columns.{row-at}
+use Rattle.meaning.proofs.Records.{rows-count}
+use Rattle.text.proofs.Lines.{lines-all}
 use Rattle.meaning.proofs.Readable.{row-is, no-stray, line-kept}
 use Rattle.ordering.specs.Ids.{valueOn}
 use Rattle.indexes.specs.Order.{idsOf, idOf}
@@ -69,6 +71,11 @@ pub record Sized (s : List ℕ) : Type 0 where
   pub short : length s ≤ maxBytes
   pub few : countLf s ≤ maxLines
   pub some : 1 ≤ countLf s
+
+-- a file of n records has n ids
+pub ids-count : (f : ℕ) (s : List ℕ) (n : ℕ) → n + 1 ≡ countLf s → length (idsOf f s) ≡ n
+unfolding idsOf
+ids-count f s n h = rw (length-map, rows-count f s, lines-all s) (omega arith)
 
 module _ (f : ℕ) (s : List ℕ) (reads : Reads f s) where
   whole : NoneBroken (loneClaims f s)
@@ -155,3 +162,14 @@ module _ (f : ℕ) (s : List ℕ) (reads : Reads f s) where
   start-rise i j h l =
       let a = stands i (omega arith) .later (suc j) (omega arith) l in
       omega (arith, a, start-inside i (omega arith) .1, start-inside j l .0)
+
+  -- the same by a record's number, of a file of n records
+  module _ (n : ℕ) (count : n + 1 ≡ countLf s) where
+    pub value-of : (r : ℕ) → 0 < r → r ≤ n → valueOn s (idStart f s r) ≡ idOf (idsOf f s) r
+    value-of zero a b = absurd (omega arith)
+    value-of (suc i) a b = start-value i (omega (arith, lines-all s))
+
+    pub starts-rise : (r q : ℕ) → 0 < r → r < q → q ≤ n → idStart f s r < idStart f s q
+    starts-rise zero q a b c = absurd (omega arith)
+    starts-rise (suc i) zero a b c = absurd (omega arith)
+    starts-rise (suc i) (suc j) a b c = start-rise i j (omega arith) (omega (arith, lines-all s))

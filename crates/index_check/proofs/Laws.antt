@@ -2,20 +2,17 @@
 use mathlib.Core.Path.{_≡_, refl, sym, ap, _∙_}
 use mathlib.Core.Bool.{Bool, true, false, not}
 use mathlib.Core.List.{List}
-use Prim.Native.Nat.{ℕ, suc, _+_, _*_, _-_, _≤_, _<_}
+use Prim.Native.Nat.{ℕ, _+_, _*_, _-_, _≤_, _<_}
 use native.Mathlib.Omega.{arith}
 use lib.Dec.{eqb, ltb}
 use lib.IntN.{ℤ}
-use lib.ListN.{length, getD, take, length-map}
+use lib.ListN.{length, getD, take}
 use borrow.Author.Tests.{ltb-false, lt-ltb, le-ltb, eqb-true, eq-eqb, ne-eqb, not-false}
 use Rattle.meaning.specs.declared.Refusal.{Refusal}
 use Rattle.meaning.specs.declared.Verdict.the-variants.{Readable, Unreadable}
 use Rattle.meaning.specs.Lists.{same, some}
 use Rattle.meaning.specs.Bytes.{countLf, value}
-use Rattle.meaning.proofs.Records.{rows-count}
-use Rattle.meaning.proofs.Tests.{untrue}
 use Rattle.text.specs.Fields.{fieldOn}
-use Rattle.text.proofs.Lines.{lines-all}
 use Rattle.ranking.specs.declared.Order.{Order}
 use Rattle.ranking.specs.declared.Order.the-variants.{Less, Equal, Greater}
 use Rattle.ranking.specs.Ranks.{before, compare, ranked}
@@ -25,12 +22,12 @@ use Rattle.ordering.specs.Ids.{valueOn}
 use Rattle.indexes.specs.declared.IndexAnswer.{IndexAnswer}
 use Rattle.indexes.specs.declared.IndexAnswer.the-variants.{Whole, Unread, Barred}
 use Rattle.indexes.specs.Order.{idsOf, idOf}
-use Rattle.indexes.specs.Index.{numberAt, version1, mark, indexLength, entry, rule40, rule41, rule42, strays, rule43, rule44, indexTests, spoken, indexed, loneVerdict, askedOf, barredOr, checked}
+use Rattle.indexes.specs.Index.{numberAt, version1, mark, indexLength, entry, rule40, rule41, rule42, strays, rule43, rule44, indexTests, spoken, indexed, loneVerdict, barredOr, checked}
 use Rattle.indexes.specs.Promises.{Reads}
 use Rattle.indexes.proofs.Accepted.{or-none, known-entry}
-use Rattle.indexes.proofs.Beside.{asked-outside, beside}
+use Rattle.indexes.proofs.Beside.{asked-read, asked-refused, asked-outside, asked-range, asked-not}
 use Rattle.id_places.specs.Places.{Ids}
-use Rattle.id_places.proofs.Own.{sized, start-value}
+use Rattle.id_places.proofs.Own.{sized, ids-count, value-of}
 use Rattle.index_check.specs.Entries.{Entries}
 
 -- ---- the head of an index
@@ -105,11 +102,6 @@ module _ (s : List ℕ) (x y p q : ℕ) (a b : List ℕ) (o : Order) where
 abbrev pub falling : List (List ℕ) → List ℕ → ℕ → Bool
 falling ids b i = not (before (idOf ids (entry version1 b i)) (idOf ids (entry version1 b (i + 1))))
 
--- a file of n records has n ids
-pub ids-count : (f : ℕ) (s : List ℕ) (n : ℕ) → n + 1 ≡ countLf s → length (idsOf f s) ≡ n
-unfolding idsOf
-ids-count f s n h = rw (length-map, rows-count f s, lines-all s) (omega arith)
-
 pub falls-first : (f : ℕ) (s b : List ℕ) (n : ℕ) → n + 1 ≡ countLf s → some (falling (idsOf f s) b) 0 (n - 1 - 0) ≡ rule44 version1 (idsOf f s) b
 unfolding rule44
 falls-first f s b n h = let z : n - 1 - 0 ≡ length (idsOf f s) - 1 = omega (arith, ids-count f s n h) in rw z
@@ -117,7 +109,7 @@ falls-first f s b n h = let z : n - 1 - 0 ≡ length (idsOf f s) - 1 = omega (ar
 -- a table of where ids begin tells the ids that an index lists
 module _ (f : ℕ) (s : List ℕ) (n : ℕ) (t : List ℤ) (reads : Reads f s) (placed : Ids f s n t) where
   id-at : (x : ℕ) → 1 ≤ x → x ≤ n → valueOn s (cellAt 0 t 1 x) ≡ idOf (idsOf f s) x
-  id-at (suc i) h g = rw (placed .starts (suc i) h g) (start-value f s reads i (omega (arith, lines-all s, placed .count)))
+  id-at x h g = rw (placed .starts x h g) (value-of f s reads n (placed .count) x h g)
 
   module _ (b : List ℕ) (listed : Entries n b) (i : ℕ) (more : i < n) (x : ℕ) (p : x ≡ entry version1 b i) where
     pub listed-fits : countLf s ≤ length t → x < length t
@@ -175,25 +167,21 @@ unfolding barredOr
 whole k m size e h = rw (← e, eq-eqb k 0 h)
 
 module _ (f : ℕ) (s b : List ℕ) where
-  pub no-file : f ≡ 0 → Barred 42 ≡ checked f s b
-  unfolding checked askedOf indexed
-  no-file h = rw (le-ltb 0 f (omega arith))
-
-  pub past-files : 4 < f → Barred 42 ≡ checked f s b
+  pub outside : ((1 ≤ f) × (f ≤ 4) → ⊥) → Barred 42 ≡ checked f s b
   unfolding checked
-  past-files h = sym (asked-outside f s (untrue (indexed f) (λ e. omega (arith, beside f s .outside .0 e))) _)
+  outside h = sym (asked-outside f s (asked-not f s h) _)
 
   module _ (low : (f ≡ 0 → ⊥)) (high : f ≤ 4) where
     file : indexed f ≡ true
-    file = beside f s .outside .1 (omega arith, high)
+    file = asked-range f s .1 (omega arith, high)
 
     pub reads-it : Readable ≡ loneVerdict f s → Reads f s
     reads-it e = record { asked = file; verdict = sym e }
 
     pub unread : (r : Refusal) → Unreadable r ≡ loneVerdict f s → Unread r ≡ checked f s b
-    unfolding checked askedOf
-    unread r e = rw (file, ← e)
+    unfolding checked
+    unread r e = sym (asked-refused f s file r (sym e) _)
 
     pub read : (a : IndexAnswer) → Readable ≡ loneVerdict f s → a ≡ barredOr (spoken (indexTests version1 f (idsOf f s) b)) (length b) → a ≡ checked f s b
-    unfolding checked askedOf
-    read a e h = rw (file, ← e, h)
+    unfolding checked
+    read a e h = h ∙ sym (asked-read f s (reads-it e) _)

@@ -11,12 +11,10 @@ ghost use Rattle.indexes.specs.Index.{numberAt, version1, entry, rule40, rule42
 ghost use Rattle.indexes.specs.Promises.{Reads};
 ghost use Rattle.id_places.specs.Places.{Ids};
 ghost use Rattle.index_check.specs.Entries.{Entries};
+use indexes::HEAD;
 use indexes::IndexAnswer;
 use meaning::Verdict;
 use ranking::Order;
-
-// How many bytes stand before the record numbers.
-const HEAD: usize = 8;
 
 // A byte as a number.
 fn wide(b: u8) -> usize

@@ -1,38 +1,19 @@
 -- The writer's answers, case by case, and what they leave in the buffer.
-use mathlib.Core.Path.{_≡_, refl, sym, ap, _∙_}
-use mathlib.Core.Bool.{Bool, true, false, cond, _&&_}
+use mathlib.Core.Path.{_≡_, refl, sym, _∙_}
+use mathlib.Core.Bool.{true, false}
 use mathlib.Core.List.{List}
 use Prim.Native.Nat.{ℕ, _+_, _*_, _≤_, _<_}
 use native.Mathlib.Omega.{arith}
-use lib.Dec.{ltb, eqb}
 use lib.ListN.{length}
-use borrow.Author.Tests.{lt-ltb, le-ltb, ltb-true}
+use borrow.Author.Tests.{lt-ltb, le-ltb}
 use Rattle.meaning.specs.declared.Refusal.{Refusal}
 use Rattle.meaning.specs.declared.Verdict.the-variants.{Readable, Unreadable}
-use Rattle.meaning.proofs.ListLaws.{and-both}
 use Rattle.indexes.specs.declared.IndexAnswer.{IndexAnswer}
 use Rattle.indexes.specs.declared.IndexAnswer.the-variants.{Whole, Unread, Barred}
 use Rattle.indexes.specs.Order.{idsOf, ranked, repeats}
-use Rattle.indexes.specs.Index.{version1, indexOf, indexLength, writerTests, spoken, indexed, loneVerdict, ifRead, askedOf, barredOr, leftBy, wrote, written}
+use Rattle.indexes.specs.Index.{version1, indexOf, indexLength, writerTests, spoken, loneVerdict, barredOr, leftBy, wrote, written}
 use Rattle.indexes.specs.Promises.{Reads}
-
--- ---- a file that is asked for
-
-pub asked-is : (f : ℕ) → 0 < f → f ≤ 4 → indexed f ≡ true
-unfolding indexed
-asked-is f h l = rw (lt-ltb 0 f h, lt-ltb f 5 (omega arith))
-
-pub asked-zero : (f : ℕ) → f ≡ 0 → indexed f ≡ false
-unfolding indexed
-asked-zero f e = rw e
-
-pub asked-past : (f : ℕ) → 4 < f → indexed f ≡ false
-unfolding indexed
-asked-past f h = rw (lt-ltb 0 f (omega arith), le-ltb f 5 (omega arith))
-
-pub asked-low : (f : ℕ) (s : List ℕ) → Reads f s → f < 5
-unfolding indexed
-asked-low f s r = ltb-true f 5 (and-both (ltb 0 f) (ltb f 5) (r .asked) .1)
+use Rattle.indexes.proofs.Beside.{asked-read, asked-refused, asked-outside, asked-range, asked-not}
 
 -- ---- 45, 46, or an index
 
@@ -63,32 +44,25 @@ module _ (f : ℕ) (s lent : List ℕ) where
   abbrev Wrote : IndexAnswer → List ℕ → Type 0
   Wrote a b = (a ≡ wrote f s (length lent)) × (b ≡ written f s lent)
 
-  outside : indexed f ≡ false → wrote f s (length lent) ≡ Barred 42
-  unfolding wrote askedOf
-  outside e = rw e
-
-  unread : indexed f ≡ true → (r : Refusal) → loneVerdict f s ≡ Unreadable r → wrote f s (length lent) ≡ Unread r
-  unfolding wrote askedOf
-  unread a r e = rw (a, e)
-
-  read : indexed f ≡ true → loneVerdict f s ≡ Readable
-      → wrote f s (length lent) ≡ barredOr (spoken (writerTests version1 (idsOf f s) (length lent))) (indexLength version1 (length (idsOf f s)))
-  unfolding wrote askedOf
-  read a e = rw (a, e)
-
   wrote-as : (a : IndexAnswer) (b : List ℕ) → wrote f s (length lent) ≡ a → b ≡ leftBy a (indexOf version1 f (ranked (idsOf f s))) lent → Wrote a b
   unfolding written
   wrote-as a b e q = (sym e, q ∙ rw (sym e))
 
-  pub wrote-outside : indexed f ≡ false → Wrote (Barred 42) lent
-  wrote-outside e = wrote-as (Barred 42) lent (outside e) refl
+  pub wrote-outside : ((1 ≤ f) × (f ≤ 4) → ⊥) → Wrote (Barred 42) lent
+  unfolding wrote
+  wrote-outside h = wrote-as (Barred 42) lent (asked-outside f s (asked-not f s h) _) refl
 
-  module _ (asked : indexed f ≡ true) where
+  module _ (asked : (1 ≤ f) × (f ≤ 4)) where
+    pub reads-it : loneVerdict f s ≡ Readable → Reads f s
+    reads-it e = record { asked = asked-range f s .1 asked; verdict = e }
+
     pub wrote-unread : (r : Refusal) → loneVerdict f s ≡ Unreadable r → Wrote (Unread r) lent
-    wrote-unread r e = wrote-as (Unread r) lent (unread asked r e) refl
+    unfolding wrote
+    wrote-unread r e = wrote-as (Unread r) lent (asked-refused f s (asked-range f s .1 asked) r e _) refl
 
     pub wrote-read : loneVerdict f s ≡ Readable → (a : IndexAnswer) (b : List ℕ)
         → a ≡ barredOr (spoken (writerTests version1 (idsOf f s) (length lent))) (indexLength version1 (length (idsOf f s)))
         → b ≡ leftBy a (indexOf version1 f (ranked (idsOf f s))) lent
         → Wrote a b
-    wrote-read e a b p q = wrote-as a b (read asked e ∙ sym p) q
+    unfolding wrote
+    wrote-read e a b p q = wrote-as a b (asked-read f s (reads-it e) _ ∙ sym p) q

@@ -1,7 +1,7 @@
 -- Record numbers put into their entries, line by line.
 use mathlib.Core.Path.{_≡_, refl, sym, ap, _∙_}
 use mathlib.Core.List.{List}
-use Prim.Native.Nat.{ℕ, zero, suc, _+_, _-_, _≤_, _<_}
+use Prim.Native.Nat.{ℕ, _+_, _-_, _≤_, _<_}
 use native.Mathlib.Omega.{arith}
 use lib.IntN.{ℤ}
 use lib.ListN.{length, getD, drop}
@@ -9,7 +9,6 @@ use Rattle.meaning.specs.Bytes.{bounds, part, countLf, linesFrom, linesOf}
 use Rattle.meaning.specs.Columns.{fieldAt}
 use Rattle.meaning.specs.Promises.{noLine}
 use Rattle.text.specs.Lines.{LineStands}
-use Rattle.text.proofs.Lines.{lines-all}
 use Rattle.text.proofs.Walk.{line-here}
 use Rattle.ordering.specs.Cells.{cellAt}
 use Rattle.ordering.specs.Ids.{Apart, Stands}
@@ -17,7 +16,7 @@ use Rattle.ordering.proofs.Laws.{Alike, yes, no, alike}
 use Rattle.indexes.specs.Index.{version1, entry}
 use Rattle.indexes.specs.Promises.{Reads}
 use Rattle.id_places.specs.Places.{startIn, ownColumn, idStart}
-use Rattle.id_places.proofs.Own.{start-rise}
+use Rattle.id_places.proofs.Own.{starts-rise}
 use Rattle.index_write.specs.Writing.{Ranked, Entry, Entered}
 
 -- where the id of line r begins, as the walk finds it
@@ -40,12 +39,6 @@ one-cell g n apart j k a b x y e = go (alike j k)
         side (no q) = absurd (apart k j x (omega (arith, q)) b (sym e))
 
 module _ (f : ℕ) (s : List ℕ) (reads : Reads f s) (n : ℕ) (t : List ℤ) (ranked : Ranked f s n t) where
-  -- records begin in their order
-  rise : (j r : ℕ) → 0 < j → j < r → r ≤ n → idStart f s j < idStart f s r
-  rise zero r a b c = absurd (omega arith)
-  rise (suc j) zero a b c = absurd (omega arith)
-  rise (suc j) (suc r) a b c = start-rise f s reads j r (omega arith) (omega (arith, lines-all s, ranked .count))
-
   pub entered-turn : (r : ℕ) → 0 < r → r ≤ n → (b b′ : List ℕ) → Entered f s n r t b → Entry n (idStart f s r) r t b b′ → Entered f s n (r + 1) t b′
   entered-turn r low high b b′ before put j k a c x y e = go (alike j r)
     where
@@ -56,7 +49,7 @@ module _ (f : ℕ) (s : List ℕ) (reads : Reads f s) (n : ℕ) (t : List ℤ) (
       go (no p) = put .others k x away ∙ before j k a (omega (arith, c, p)) x y e
         where
           away : k ≡ put .at → ⊥
-          away q = let z : idStart f s j ≡ idStart f s r = sym e ∙ ap (cellAt 0 t 1) q ∙ put .is in omega (arith, z, rise j r a (omega (arith, c, p)) high)
+          away q = let z : idStart f s j ≡ idStart f s r = sym e ∙ ap (cellAt 0 t 1) q ∙ put .is in omega (arith, z, starts-rise f s reads n (ranked .count) j r a (omega (arith, c, p)) high)
 
 pub entered-none : (f : ℕ) (s : List ℕ) (n : ℕ) (t : List ℤ) (b : List ℕ) → Entered f s n 1 t b
 entered-none f s n t b j k a c x y e = absurd (omega arith)

@@ -6,16 +6,14 @@ use Prim.Native.Nat.{ℕ, zero, suc, _+_, _*_, _-_, _/_, _%_, _^_, _≤_, _<_}
 use native.Mathlib.Omega.{arith}
 use native.Mathlib.Nat.{div-add-mod'}
 use lib.IntN.{ℤ}
-use lib.ListN.{length, getD, take, drop, length-map, length-drop, take-append-drop, List·getD-eq-default}
+use lib.ListN.{length, getD, take, drop, length-drop, take-append-drop, List·getD-eq-default}
 use lib.Dec.{ltb}
 use lib.Seq.{length-take-le, getD-take, getD-drop, getD-append-add, ext-getD}
 use borrow.Author.Tests.{ltb-true, ltb-false}
 use Rattle.meaning.specs.Lists.{same, some, laid}
-use Rattle.meaning.specs.Bytes.{countLf, linesOf}
-use Rattle.meaning.specs.Columns.{rowsOf}
+use Rattle.meaning.specs.Bytes.{countLf}
 use Rattle.meaning.proofs.ListLaws.{both, same-equal, same-self}
 use Rattle.meaning.proofs.Tests.{Found, some-found, some-none, found-some, Standing, below, level, over, standing}
-use Rattle.text.proofs.Lines.{lines-all}
 use Rattle.ranking.specs.Ranks.{before}
 use Rattle.ordering.specs.Cells.{cellAt, RoomAt, KeptAt, Moved}
 use Rattle.ordering.specs.Ids.{valueOn, inOrder, alike, Sorted, Stands, Apart}
@@ -28,7 +26,7 @@ use Rattle.indexes.specs.Promises.{Reads, Bytes}
 use Rattle.indexes.proofs.Order.{no-repeat, repeat-none}
 use Rattle.indexes.proofs.Accepted.{Sound, sound, accepted-is}
 use Rattle.id_places.specs.Places.{idStart, Ids}
-use Rattle.id_places.proofs.Own.{start-value, start-rise}
+use Rattle.id_places.proofs.Own.{ids-count, value-of, starts-rise}
 use Rattle.index_write.specs.Writing.{Begins, Ranked, headOf, Within, Entered}
 use Rattle.index_write.proofs.Cells.{order-before}
 
@@ -41,20 +39,6 @@ pub room-of : (n : ℕ) (s : List ℕ) (t u : List ℤ) → n + 1 ≡ countLf s 
 room-of n s t u c h e = record { wide = omega arith; narrow = omega arith; rows = omega arith }
 
 module _ (f : ℕ) (s : List ℕ) (reads : Reads f s) where
-  -- as many ids as lines after the header
-  pub ids-count : (n : ℕ) → n + 1 ≡ countLf s → length (idsOf f s) ≡ n
-  unfolding idsOf rowsOf
-  ids-count n e = simp (length-map, length-drop) (omega (arith, lines-all s))
-
-  value-of : (n r : ℕ) → n + 1 ≡ countLf s → 0 < r → r ≤ n → valueOn s (idStart f s r) ≡ idOf (idsOf f s) r
-  value-of n zero e a b = absurd (omega arith)
-  value-of n (suc r) e a b = start-value f s reads r (omega (arith, lines-all s))
-
-  starts-apart : (n : ℕ) → n + 1 ≡ countLf s → (i j : ℕ) → 0 < i → i < j → j ≤ n → idStart f s i < idStart f s j
-  starts-apart n e zero j a b c = absurd (omega arith)
-  starts-apart n e (suc i) zero a b c = absurd (omega arith)
-  starts-apart n e (suc i) (suc j) a b c = start-rise f s reads i j (omega arith) (omega (arith, lines-all s))
-
   -- sorted cells rank the records
   pub ranked-of : (n : ℕ) (t u : List ℤ) → Ids f s n t → RoomAt 0 1 n t → KeptAt 0 1 n t u → Sorted (inOrder Field s t 1) (cellAt 0 u 1) n → Moved n (cellAt 0 t 1) (cellAt 0 u 1) → Ranked f s n u
   unfolding Apart
@@ -62,7 +46,7 @@ module _ (f : ℕ) (s : List ℕ) (reads : Reads f s) where
     count = ids .count;
     room = room-kept kept room;
     sorted = rw (kept-order Field s {o = 0} (omega arith) (omega arith) kept) sorted;
-    apart = moved-apart moved (λ i j a b c e. let z = starts-apart n (ids .count) i j a b c in omega (arith, z, e, ids .starts i a (omega arith), ids .starts j (omega arith) c));
+    apart = moved-apart moved (λ i j a b c e. let z = starts-rise f s reads n (ids .count) i j a b c in omega (arith, z, e, ids .starts i a (omega arith), ids .starts j (omega arith) c));
     only = moved-all (Begins f s n) n moved (λ k a b. record { record-number = k; low = a; high = b; is = ids .starts k a b });
     every = λ r a b. moved-stands (idStart f s r) moved (record { place = r; low = a; high = b; is = ids .starts r a b });
   }
@@ -73,7 +57,7 @@ module _ (f : ℕ) (s : List ℕ) (reads : Reads f s) where
 
     -- the id of the record that a cell ranks
     cell-value : (k : ℕ) (r : Begins f s n (cellAt 0 t 1 k)) → valueOn s (cellAt 0 t 1 k) ≡ idOf ids (r .record-number)
-    cell-value k r = ap (valueOn s) (r .is) ∙ value-of n (r .record-number) (w .count) (r .low) (r .high)
+    cell-value k r = ap (valueOn s) (r .is) ∙ value-of f s reads n (w .count) (r .record-number) (r .low) (r .high)
 
     -- a value that stands in two cells stands in neighbours
     near : (j k : ℕ) → 0 < j → j < k → k ≤ n → valueOn s (cellAt 0 t 1 j) ≡ valueOn s (cellAt 0 t 1 k) → some (twins s t) 1 (n - 1) ≡ true
@@ -90,13 +74,13 @@ module _ (f : ℕ) (s : List ℕ) (reads : Reads f s) where
 
     -- no neighbours are twins exactly where no id repeats
     pub none-twins : some (twins s t) 1 (n - 1) ≡ false → repeats ids ≡ false
-    none-twins e = repeat-none ids (λ r q a b c same-id. clash r q a b (omega (arith, c, ids-count n (w .count))) same-id)
+    none-twins e = repeat-none ids (λ r q a b c same-id. clash r q a b (omega (arith, c, ids-count f s n (w .count))) same-id)
       where
         clash : (r q : ℕ) → 1 ≤ r → r < q → q ≤ n → idOf ids r ≡ idOf ids q → ⊥
         clash r q a b c z =
             let x = w .every r a (omega arith) in
             let y = w .every q (omega arith) c in
-            let v : valueOn s (cellAt 0 t 1 (x .place)) ≡ valueOn s (cellAt 0 t 1 (y .place)) = ap (valueOn s) (x .is) ∙ value-of n r (w .count) a (omega arith) ∙ z ∙ sym (value-of n q (w .count) (omega arith) c) ∙ ap (valueOn s) (sym (y .is)) in
+            let v : valueOn s (cellAt 0 t 1 (x .place)) ≡ valueOn s (cellAt 0 t 1 (y .place)) = ap (valueOn s) (x .is) ∙ value-of f s reads n (w .count) r a (omega arith) ∙ z ∙ sym (value-of f s reads n (w .count) q (omega arith) c) ∙ ap (valueOn s) (sym (y .is)) in
             side x y v (standing (x .place) (y .place))
           where
             side : (x : Stands (cellAt 0 t 1) n (idStart f s r)) (y : Stands (cellAt 0 t 1) n (idStart f s q)) → valueOn s (cellAt 0 t 1 (x .place)) ≡ valueOn s (cellAt 0 t 1 (y .place)) → Standing (x .place) (y .place) → ⊥
@@ -104,7 +88,7 @@ module _ (f : ℕ) (s : List ℕ) (reads : Reads f s) where
             side x y v (over l) = both (some (twins s t) 1 (n - 1)) (near (y .place) (x .place) (y .low) l (x .high) (sym v)) e
             side x y v (level l) =
                 let g : idStart f s r ≡ idStart f s q = sym (x .is) ∙ ap (cellAt 0 t 1) l ∙ y .is in
-                omega (arith, g, starts-apart n (w .count) r q a b c)
+                omega (arith, g, starts-rise f s reads n (w .count) r q a b c)
 
     pub some-twins : some (twins s t) 1 (n - 1) ≡ true → repeats ids ≡ true
     unfolding alike Apart
@@ -117,7 +101,7 @@ module _ (f : ℕ) (s : List ℕ) (reads : Reads f s) where
             let x = w .only k (d .low) (omega (arith, d .high)) in
             let y = w .only (k + 1) (omega arith) (omega (arith, d .high)) in
             let v : idOf ids (x .record-number) ≡ idOf ids (y .record-number) = sym (cell-value k x) ∙ same-equal _ _ (d .is) ∙ cell-value (k + 1) y in
-            let c = ids-count n (w .count) in
+            let c = ids-count f s n (w .count) in
             absurd (side k x y v (d .low) (omega (arith, d .high)) c (standing (x .record-number) (y .record-number)))
           where
             side : (k : ℕ) (x : Begins f s n (cellAt 0 t 1 k)) (y : Begins f s n (cellAt 0 t 1 (k + 1))) → idOf ids (x .record-number) ≡ idOf ids (y .record-number) → 1 ≤ k → k + 1 ≤ n → length ids ≡ n
@@ -187,7 +171,7 @@ module _ (f : ℕ) (s : List ℕ) (reads : Reads f s) where
       is-sound : Sound version1 f ids index
       unfolding indexLength
       is-sound =
-          let c = ids-count n (w .count) in
+          let c = ids-count f s n (w .count) in
           record {
             long = omega (arith, index-long);
             marked = marks;

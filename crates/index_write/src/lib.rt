@@ -15,13 +15,11 @@ ghost use Rattle.indexes.specs.Index.{version1, indexOf, indexLength, writerTes
 ghost use Rattle.indexes.specs.Promises.{Reads};
 ghost use Rattle.id_places.specs.Places.{ownColumn};
 ghost use Rattle.index_write.specs.Writing.{Ranked, headOf, Entry, Entered, Within};
+use indexes::HEAD;
 use indexes::IndexAnswer;
 use meaning::Verdict;
 use ordering::By;
 use text::LineStep;
-
-// How many bytes stand before the record numbers.
-const HEAD: usize = 8;
 
 // Have the fields in cells k and k + 1 one value?
 fn is_repeat(s: &[u8], t: &[i32], k: usize) -> bool

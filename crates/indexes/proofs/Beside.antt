@@ -21,6 +21,7 @@ use Rattle.meaning.proofs.ListLaws.{both, and-both}
 use Rattle.meaning.proofs.FirstBroken.{spoken-first, silent-none}
 use Rattle.meaning.proofs.References.{any-yes}
 use Rattle.meaning.proofs.Records.{rows-count}
+use Rattle.meaning.proofs.Tests.{untrue}
 use Rattle.text.proofs.Lines.{lines-all}
 use Rattle.indexes.specs.declared.IndexAnswer.{IndexAnswer}
 use Rattle.indexes.specs.declared.IndexAnswer.the-variants.{Whole, Unread, Barred}
@@ -96,13 +97,17 @@ barred-whole k size n e = go (eqb k 0) refl e
 module _ (f : ℕ) (s : List ℕ) where
   -- ---- what comes before both
 
-  asked-read : Reads f s → (a : IndexAnswer) → askedOf f s a ≡ a
+  pub asked-read : Reads f s → (a : IndexAnswer) → askedOf f s a ≡ a
   unfolding askedOf
   asked-read r a = rw (r .asked, r .verdict)
 
+  pub asked-refused : indexed f ≡ true → (r : Refusal) → loneVerdict f s ≡ Unreadable r → (a : IndexAnswer) → askedOf f s a ≡ Unread r
+  unfolding askedOf
+  asked-refused e r v a = rw (e, v)
+
   asked-unread : indexed f ≡ true → (r : Refusal) → FirstBroken (loneClaims f s) r → (a : IndexAnswer) → askedOf f s a ≡ Unread r
-  unfolding askedOf loneVerdict
-  asked-unread e r b a = rw (e, spoken-first (loneClaims f s) r .1 b)
+  unfolding loneVerdict
+  asked-unread e r b a = asked-refused e r (spoken-first (loneClaims f s) r .1 b) a
 
   pub asked-outside : indexed f ≡ false → (a : IndexAnswer) → askedOf f s a ≡ Barred 42
   unfolding askedOf
@@ -188,12 +193,15 @@ module _ (f : ℕ) (s : List ℕ) where
 
   -- ---- files 1 to 4
 
-  asked-range : indexed f ≡ true ↔ ((1 ≤ f) × (f ≤ 4))
+  pub asked-range : indexed f ≡ true ↔ ((1 ≤ f) × (f ≤ 4))
   unfolding indexed
   asked-range = (
     λ e. let k = and-both (ltb 0 f) (ltb f 5) e in (ltb-true 0 f (k .0), omega (arith, ltb-true f 5 (k .1))),
     λ h. rw (lt-ltb 0 f (h .0), lt-ltb f 5 (omega (arith, h .1))),
   )
+
+  pub asked-not : ((1 ≤ f) × (f ≤ 4) → ⊥) → indexed f ≡ false
+  asked-not h = untrue (indexed f) (λ e. h (asked-range .0 e))
 
   -- an empty file
   empties : indexed f ≡ true → s ≡ [] → FirstBroken (loneClaims f s) (record { number = 4; file = f; line = 0; column = 0 })

@@ -1,15 +1,16 @@
 -- `index_check::check_index` meets its contract.
-use Rattle.index_check.proofs.Laws.{no-file, past-files, reads-it, unread, read}
+use Rattle.index_check.proofs.Laws.{outside, reads-it, unread, read}
 use mathlib.Core.Path.{sym, _∙_}
+use native.Mathlib.Omega.{arith}
 use borrow.Author.Needs.{needs}
 use Rattle.index_check.proofs.check_index.Statement.{statement}
 use Rattle.index_check.proofs.check_index.Tie as tie
 
 returns : tie.Need-returns
-returns c = no-file _ _ _ (c .if1 .taken)
+returns c = outside _ _ _ (λ h. omega (arith, h .0, c .if1 .taken))
 
 returns-2 : tie.Need-returns-2
-returns-2 c = past-files _ _ _ (c .if2 .taken)
+returns-2 c = outside _ _ _ (λ h. omega (arith, h .1, c .if2 .taken))
 
 read-alone-requires : tie.Need-read-alone-requires
 read-alone-requires c κs = search needs

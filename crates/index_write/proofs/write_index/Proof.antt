@@ -1,5 +1,5 @@
 -- `index_write::write_index` meets its contract.
-use Rattle.index_write.proofs.Answers.{asked-is, asked-zero, asked-past, wrote-outside, wrote-unread, wrote-read}
+use Rattle.index_write.proofs.Answers.{reads-it, wrote-outside, wrote-unread, wrote-read}
 use mathlib.Core.Path.{sym, _∙_}
 use native.Mathlib.Omega.{arith}
 use borrow.Author.Needs.{needs}
@@ -7,10 +7,10 @@ use Rattle.index_write.proofs.write_index.Statement.{statement}
 use Rattle.index_write.proofs.write_index.Tie as tie
 
 returns : tie.Need-returns
-returns c = wrote-outside _ _ _ (asked-zero _ (c .if1 .taken))
+returns c = wrote-outside _ _ _ (λ h. omega (arith, h .0, c .if1 .taken))
 
 returns-2 : tie.Need-returns-2
-returns-2 c = wrote-outside _ _ _ (asked-past _ (c .if2 .taken))
+returns-2 c = wrote-outside _ _ _ (λ h. omega (arith, h .1, c .if2 .taken))
 
 read-alone-requires : tie.Need-read-alone-requires
 read-alone-requires c κs = search needs
@@ -19,7 +19,7 @@ enum-told : tie.Need-enum-told
 enum-told c = search needs
 
 write-alone-requires : tie.Need-write-alone-requires
-write-alone-requires c κs = record { asked = asked-is _ (omega (arith, c .before .before .before .before .before .if1 .left)) (c .before .before .before .before .if2 .left); verdict = sym (c .before .before .before .read-alone .ensures) ∙ c .before .enum-told .given .1 }
+write-alone-requires c κs = reads-it _ _ (c .before .before .before .before .before .before .before .before .args .b .now) (omega (arith, c .before .before .before .before .before .if1 .left), c .before .before .before .before .if2 .left) (sym (c .before .before .before .read-alone .ensures) ∙ c .before .enum-told .given .1)
 
 enum-known-r : tie.Need-enum-known-r
 enum-known-r c = search needs
@@ -30,10 +30,10 @@ same-length c = search needs
 returns-3 : tie.Need-returns-3
 returns-3 c =
     let e = c .before .before .write-alone .ensures in
-    wrote-read _ _ _ (asked-is _ (omega (arith, c .before .before .before .before .before .before .before .before .if1 .left)) (c .before .before .before .before .before .before .before .if2 .left)) (sym (c .before .before .before .before .before .before .read-alone .ensures) ∙ c .before .before .before .before .enum-told .given .1) _ _ (e .0) (e .1)
+    wrote-read _ _ _ (omega (arith, c .before .before .before .before .before .before .before .before .if1 .left), c .before .before .before .before .before .before .before .if2 .left) (sym (c .before .before .before .before .before .before .read-alone .ensures) ∙ c .before .before .before .before .enum-told .given .1) _ _ (e .0) (e .1)
 
 returns-4 : tie.Need-returns-4
-returns-4 c = wrote-unread _ _ _ (asked-is _ (omega (arith, c .before .before .before .before .before .if1 .left)) (c .before .before .before .before .if2 .left)) _ (sym (c .before .before .before .read-alone .ensures) ∙ c .before .r .given .1)
+returns-4 c = wrote-unread _ _ _ (omega (arith, c .before .before .before .before .before .if1 .left), c .before .before .before .before .if2 .left) _ (sym (c .before .before .before .read-alone .ensures) ∙ c .before .r .given .1)
 
 pub write-index-spec : {M : Type 1} → statement M
 write-index-spec =

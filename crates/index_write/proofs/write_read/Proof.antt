@@ -1,7 +1,8 @@
 -- `index_write::write_read` meets its contract.
-use Rattle.id_places.proofs.Own.{sized}
-use Rattle.index_write.proofs.Whole.{room-of, ids-count, ranked-of, none-twins, some-twins}
-use Rattle.index_write.proofs.Answers.{asked-low, repeated, short, roomy}
+use Rattle.indexes.proofs.Beside.{asked-range}
+use Rattle.id_places.proofs.Own.{sized, ids-count}
+use Rattle.index_write.proofs.Whole.{room-of, ranked-of, none-twins, some-twins}
+use Rattle.index_write.proofs.Answers.{repeated, short, roomy}
 use mathlib.Core.Path.{refl, sym, _∙_}
 use native.Mathlib.Omega.{arith}
 use borrow.Author.Needs.{needs}
@@ -12,7 +13,7 @@ place-ids-requires : tie.Need-place-ids-requires
 place-ids-requires c κs =
     let g = c .before .before .before in
     let z = sized _ _ (g .pre .0) in
-    (omega (arith, asked-low _ _ (g .pre .0)), z .some, g .pre .1, z .short)
+    (omega (arith, asked-range (g .args .f) (g .args .s .now) .0 (g .pre .0 .asked) .1), z .some, g .pre .1, z .short)
 
 sort-requires : tie.Need-sort-requires
 sort-requires c κs = search needs
@@ -31,7 +32,7 @@ returns c =
     let o = c .before .before .before .before .sort .ensures in
     let room = room-of _ (a .s .now) (a .t .now) _ (i .count) (g .pre .1) (c .before .before .before .before .before .before .before .place-ids .ensures .1) in
     let w = ranked-of (a .f) (a .s .now) (g .pre .0) _ _ _ i room (o .1 .1 .1) (o .0) (o .1 .0) in
-    let n = ids-count (a .f) (a .s .now) (g .pre .0) _ (i .count) in
+    let n = ids-count (a .f) (a .s .now) _ (i .count) in
     (repeated _ _ (some-twins (a .f) (a .s .now) (g .pre .0) _ _ w (sym (c .before .has-repeat .ensures) ∙ c .if1 .taken)), refl)
 
 mul-need : tie.Need-mul-need
@@ -51,7 +52,7 @@ returns-2 c =
     let o = c .before .before .before .before .before .sort .ensures in
     let room = room-of _ (a .s .now) (a .t .now) _ (i .count) (g .pre .1) (c .before .before .before .before .before .before .before .before .place-ids .ensures .1) in
     let w = ranked-of (a .f) (a .s .now) (g .pre .0) _ _ _ i room (o .1 .1 .1) (o .0) (o .1 .0) in
-    let n = ids-count (a .f) (a .s .now) (g .pre .0) _ (i .count) in
+    let n = ids-count (a .f) (a .s .now) _ (i .count) in
     (short _ _ (none-twins (a .f) (a .s .now) (g .pre .0) _ _ w (sym (c .before .before .has-repeat .ensures) ∙ c .before .if1 .left)) _ n (c .if2 .taken), refl)
 
 put-index-requires : tie.Need-put-index-requires
@@ -62,10 +63,10 @@ put-index-requires c κs =
     let o = c .before .before .before .before .before .before .before .sort .ensures in
     let room = room-of _ (a .s .now) (a .t .now) _ (i .count) (g .pre .1) (c .before .before .before .before .before .before .before .before .before .before .place-ids .ensures .1) in
     let w = ranked-of (a .f) (a .s .now) (g .pre .0) _ _ _ i room (o .1 .1 .1) (o .0) (o .1 .0) in
-    let n = ids-count (a .f) (a .s .now) (g .pre .0) _ (i .count) in
+    let n = ids-count (a .f) (a .s .now) _ (i .count) in
     let z = sized _ _ (g .pre .0) in
     let none = sym (c .before .before .before .before .has-repeat .ensures) ∙ c .before .before .before .if1 .left in
-    ((g .pre .0, w, c .before .before .if2 .left), ((asked-low _ _ (g .pre .0), none), (z .short, omega (arith, i .count, z .few))))
+    ((g .pre .0, w, c .before .before .if2 .left), ((omega (arith, asked-range (a .f) (a .s .now) .0 (g .pre .0 .asked) .1), none), (z .short, omega (arith, i .count, z .few))))
 
 same-length-3 : tie.Need-same-length-3
 same-length-3 c = search needs
@@ -81,7 +82,7 @@ returns-3 c =
     let o = c .before .before .before .before .before .before .before .before .before .before .sort .ensures in
     let room = room-of _ (a .s .now) (a .t .now) _ (i .count) (g .pre .1) (c .before .before .before .before .before .before .before .before .before .before .before .before .before .place-ids .ensures .1) in
     let w = ranked-of (a .f) (a .s .now) (g .pre .0) _ _ _ i room (o .1 .1 .1) (o .0) (o .1 .0) in
-    let n = ids-count (a .f) (a .s .now) (g .pre .0) _ (i .count) in
+    let n = ids-count (a .f) (a .s .now) _ (i .count) in
     (roomy _ _ (none-twins (a .f) (a .s .now) (g .pre .0) _ _ w (sym (c .before .before .before .before .before .before .before .has-repeat .ensures) ∙ c .before .before .before .before .before .before .if1 .left)) _ n (c .before .before .before .before .before .if2 .left), c .before .before .put-index .ensures)
 
 pub write-read-spec : {M : Type 1} → statement M
