@@ -18,7 +18,7 @@ use Rattle.meaning.proofs.TheList.{listed-exactly, list-ordered, refuse
 use Rattle.meaning.proofs.Pages.{page-told, accepted-exactly}
 use Rattle.meaning.proofs.TimesNeverFall.{accepted-times, accepted-sequences}
 use Rattle.meaning.proofs.Held.{tables-held, tables-long, list-long}
-use Rattle.meaning.proofs.Calls.{calls-join}
+use Rattle.meaning.proofs.Calls.{findings-join}
 
 module _ (files : List (List ℕ)) (tables : List (List ℤ)) (list : List ℤ) (p : Place) where
   -- the verdict says whether the files can be read
@@ -57,5 +57,5 @@ module _ (files : List (List ℕ)) (tables : List (List ℤ)) (list : List ℤ) 
       ordered = list-ordered (feedOf files);
       handed-out = λ n. page-told files tables list p (readable n);
       long = list-long files tables list p;
-      joins = λ n room. calls-join files six tables list lent (readable n) room;
+      joins = λ n room. findings-join files six tables list lent (readable n) room;
     }

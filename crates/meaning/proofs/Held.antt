@@ -5,25 +5,26 @@ use mathlib.Core.Path.{_≡_, refl, sym, ap, ap₂, _∙_}
 use mathlib.Core.List.{List, [], _∷_, _++_, map}
 use mathlib.Core.Bool.{cond}
 use lib.IntN.{ℤ, pos}
-use lib.ListN.{length, getD, take, length-map, length-take}
+use lib.ListN.{length, getD, length-map}
 use lib.Dec.{eqb}
 use Rattle.meaning.specs.declared.Place.{Place}
 use Rattle.meaning.specs.declared.Verdict.{Verdict}
 use Rattle.meaning.specs.declared.Verdict.the-variants.{Readable, Unreadable}
-use Rattle.meaning.specs.Lists.{keep}
 use Rattle.meaning.specs.Bytes.{linesOf}
 use Rattle.meaning.specs.Columns.{Row, places, headerOf, rowsOf}
 use Rattle.meaning.specs.Tables.{Feed, fileOf, feedOf, refer, packFrom, packedDays, stopNumbers, routeNumbers, serviceNumbers, tripNumbers, timeNumbers, exceptionNumbers, widths, widthOf, idColumn, numbersOf, idPlace, recordOf, filled}
 use Rattle.meaning.specs.Refusals.{verdictOf}
 use Rattle.meaning.specs.Rules.{row}
-use Rattle.meaning.specs.Findings.{Finding, findingsOf, after, page, roomOf, triples, handed}
+use Rattle.meaning.specs.Findings.{findingsOf}
 use Rattle.meaning.specs.Outcome.{outcome, readOutcome, refusedOr, filledFrom}
 use Rattle.meaning.specs.Promises.{WholeKept}
 use Rattle.meaning.specs.Held.{Names, lineAt, StopHeld, RouteHeld, mark, ServiceHeld, TripHeld, TimeHeld, ExceptionHeld, TableHeld, TablesHeld}
 use Rattle.meaning.proofs.References.{find-first}
 use Rattle.meaning.proofs.Laws.{getD-map-in}
 use Rattle.meaning.proofs.Readable.{whole-kept}
-use Rattle.meaning.proofs.Records.{laid-length, rows-count, zero-held, rest-held, length-held, number-held, row-held}
+use Rattle.meaning.proofs.Handing.{handed-long}
+use Rattle.meaning.proofs.Pages.{findings-kind}
+use Rattle.meaning.proofs.Records.{rows-count, zero-held, rest-held, length-held, number-held, row-held}
 
 -- a reference is stored as the first line with that id, or 0
 refers : (v : List ℕ) (ids : List (List ℕ)) (z : ℤ) → z ≡ pos (refer v ids) → Names v ids z
@@ -173,11 +174,6 @@ filled-long m w (s ∷ files) (t ∷ tables) each =
     ap₂ _∷_ (rw z at (each 0 (omega arith) (omega arith)))
     (filled-long (m + 1) w files tables (λ k h l. let y : m + 1 + k ≡ m + suc k = omega arith in rw y (each (suc k) (omega arith) (omega arith))))
 
-pub triples-length : (ds : List Finding) → length (triples ds) ≡ 3 * length ds
-unfolding triples
-triples-length [] = omega arith
-triples-length (d ∷ r) = omega (arith, triples-length r)
-
 module _ (files : List (List ℕ)) (tables : List (List ℤ)) (list : List ℤ) (p : Place) (six : length files ≡ 6) where
   module _ (read : verdictOf files (map length tables) ≡ Readable) where
     kept : (k : ℕ) → k < length files → k < length tables → WholeKept files (1 + k) (getD files k []) (length (getD tables k []))
@@ -218,14 +214,9 @@ module _ (files : List (List ℕ)) (tables : List (List ℤ)) (list : List ℤ) 
 
 -- The list is as long as it was lent.
 pub list-long : (files : List (List ℕ)) (tables : List (List ℤ)) (list : List ℤ) (p : Place) → length (outcome files tables list p .list) ≡ length list
-unfolding outcome readOutcome handed page roomOf
+unfolding outcome readOutcome
 list-long files tables list p = go (verdictOf files (map length tables))
   where
-    ds : List Finding
-    ds = keep (after p) (findingsOf (feedOf files))
-
     go : (v : Verdict) → length (refusedOr v (readOutcome files tables list p) tables list .list) ≡ length list
-    go Readable =
-        laid-length (triples (take (length list / 3) ds)) list
-        (omega (arith, triples-length (take (length list / 3) ds), length-take (length list / 3) ds))
+    go Readable = handed-long findings-kind (findingsOf (feedOf files)) p list
     go (Unreadable r) = refl

@@ -11,6 +11,7 @@ pub mod Columns
 pub mod Sayable
 pub mod Readable
 pub mod TheList
+pub mod Handing
 pub mod Pages
 pub mod TimesNeverFall
 pub mod Records

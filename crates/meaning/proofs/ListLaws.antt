@@ -1,4 +1,4 @@
--- Laws of the words about lists, and of the order in which findings stand.
+-- Laws of the words about lists, and of the order of places.
 use Prim.Native.Nat.{ℕ, _≤_, _<_}
 use native.Mathlib.Omega.{arith}
 use native.Mathlib.Nat.{not-suc-le-zero}
@@ -10,8 +10,8 @@ use lib.ListN.{length}
 use lib.Dec.{eqb, ltb}
 use borrow.Author.Tests.{ltb-true, ltb-false, eqb-true, eq-eqb, ne-eqb, le-ltb}
 use Rattle.meaning.specs.Lists.{same, keep}
-use Rattle.meaning.specs.Findings.{Finding, above, after}
-use Rattle.meaning.specs.Promises.{Ordered, comesBefore}
+use Rattle.meaning.specs.Pages.{above, behind}
+use Rattle.meaning.specs.Promises.{Ordered, sooner3}
 
 -- a test that is true and false
 pub both : {A : Type 0} (b : Bool) → b ≡ true → b ≡ false → A
@@ -73,7 +73,7 @@ module _ {A : Type 0} (P : A → Bool) where
   keep-all [] h = refl
   keep-all (x ∷ l) h = rw (h x (List·Memᴰ·head refl), keep-all l (λ y m. h y (List·Memᴰ·tail m)))
 
--- ---- the order of findings
+-- ---- the order of places
 
 -- how two numbers stand, with what each test of them says
 data Three (a x : ℕ) : Type 0 where
@@ -92,7 +92,7 @@ three a x = go (ltb a x) refl (ltb x a) refl
         let k : a ≤ x = ltb-false x a q in
         equal p q (eq-eqb a x (omega arith))
 
--- one place of a comparison in order: as the starting place is compared, and as findings are
+-- one place of a comparison in order: as the starting place is compared, and as entries are
 tie : (a x : ℕ) (b c : Bool) → b ≡ c → (ltb a x || (not (ltb x a) && b)) ≡ (ltb a x || (eqb a x && c))
 tie a x b c e = go (three a x)
   where
@@ -113,17 +113,15 @@ one-way a x b c k h = go (three a x)
     go (equal p q r) = rw (q, eq-eqb x a (sym (eqb-true a x r))) (k (rw (p, r) at h))
     go (more p q r) = both false (rw (p, r) at h) refl
 
--- after the place of a finding is after that finding
-pub after-is-before : (d e : Finding) → after (record { file = pos (d .file); line = pos (d .line); rule = pos (d .rule) }) e ≡ comesBefore d e
-unfolding after above comesBefore
-after-is-before d e =
-    tie (d .file) (e .file) _ _ (tie (d .line) (e .line) _ _ refl)
+module _ (a b c x y z : ℕ) where
+  -- a place after another, as the numbers of both are
+  pub behind-sooner : behind (record { file = pos a; line = pos b; rule = pos c }) (record { file = pos x; line = pos y; rule = pos z }) ≡ sooner3 a b c x y z
+  unfolding behind above
+  behind-sooner = tie a x _ _ (tie b y _ _ refl)
 
--- no element of two comes before the other both ways
-pub comes-once : (d e : Finding) → comesBefore d e ≡ true → comesBefore e d ≡ false
-unfolding comesBefore
-comes-once d e h =
-    one-way (d .file) (e .file) _ _ (λ k. one-way (d .line) (e .line) _ _ (λ m. below-once (d .rule) (e .rule) m) k) h
+  -- three numbers don't come before three others both ways
+  pub sooner-once : sooner3 a b c x y z ≡ true → sooner3 x y z a b c ≡ false
+  sooner-once h = one-way a x _ _ (λ k. one-way b y _ _ (λ m. below-once c z m) k) h
 
 -- what comes after an element of an ordered list is what stands behind it
 module _ {A : Type 0} (less : A → A → Bool) (once : (x y : A) → less x y ≡ true → less y x ≡ false) where

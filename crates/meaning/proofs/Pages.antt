@@ -1,14 +1,15 @@
 -- Demand 3: what one call hands out and tells, and where it leaves off.
-use Prim.Native.Nat.{ℕ, _+_, _*_, _/_, _≤_, _<_}
+use Prim.Native.Nat.{ℕ}
 use native.Mathlib.Omega.{arith}
-use mathlib.Core.Path.{_≡_, refl, sym, ap, _∙_, fun-ext}
-use mathlib.Core.List.{List, [], _∷_, _++_, append-assoc, map}
-use mathlib.Core.Logic.{_↔_, _⊎_, inl, inr}
+use mathlib.Core.Path.{_≡_, refl, sym, ap, _∙_}
+use mathlib.Core.List.{List, [], _∷_, map}
+use mathlib.Core.Logic.{_↔_}
 use mathlib.Core.Bool.{Bool, true, false, cond}
-use lib.IntN.{ℤ, pos}
-use lib.ListN.{length, getD, take, drop, length-take, take-append-drop, drop-of-length-le}
-use lib.Dec.{eqb, ltb}
-use borrow.Author.Tests.{ne-eqb, ltb-true, ltb-false}
+use lib.IntN.{ℤ}
+use lib.ListN.{length, getD}
+use lib.Seq.{take-nil}
+use lib.Dec.{eqb}
+use borrow.Author.Tests.{ne-eqb}
 use Rattle.meaning.specs.declared.Place.{Place}
 use Rattle.meaning.specs.declared.Verdict.{Verdict}
 use Rattle.meaning.specs.declared.Verdict.the-variants.{Readable, Unreadable}
@@ -16,46 +17,22 @@ use Rattle.meaning.specs.declared.Answer.the-variants.{Accepted, Finding
 use Rattle.meaning.specs.Lists.{keep}
 use Rattle.meaning.specs.Tables.{feedOf}
 use Rattle.meaning.specs.Refusals.{verdictOf}
-use Rattle.meaning.specs.Findings.{Finding, findingsOf, after, page, roomOf, triples, handed, answerOf, answerNumbers}
+use Rattle.meaning.specs.Pages.{pageOf}
+use Rattle.meaning.specs.Findings.{Finding, findingsOf, triple, page, roomOf, answerOf, answerNumbers}
 use Rattle.meaning.specs.Outcome.{outcome, readOutcome, refusedOr}
-use Rattle.meaning.specs.Promises.{Ordered, comesBefore, saysAccepted, saysFindings, saysRead, totalIn, PageTold}
-use Rattle.meaning.specs.Calls.{lastPlace}
-use Rattle.meaning.proofs.ListLaws.{after-is-before, comes-once, keep-behind, nothing}
+use Rattle.meaning.specs.Promises.{comesBefore, saysAccepted, saysFindings, saysRead, writtenIn, totalIn, PageTold}
+use Rattle.meaning.proofs.ListLaws.{behind-sooner, sooner-once, nothing}
+use Rattle.meaning.proofs.Handing.{Kind, page-given}
 
--- the place of a finding
-abbrev pub placeOf : Finding → Place
-placeOf d = record { file = pos (d .file); line = pos (d .line); rule = pos (d .rule) }
-
--- what is still to be handed out from p is the end of the list
-pub record Left (ds : List Finding) (p : Place) (rest : List Finding) : Type 0 where
-  pub front : List Finding
-  pub whole : ds ≡ front ++ rest
-  pub kept : keep (after p) ds ≡ rest
-
-module _ (ds : List Finding) (o : Ordered comesBefore ds) where
-  left-one : (p : Place) (d : Finding) (rest : List Finding) → Left ds p (d ∷ rest) → Left ds (placeOf d) rest
-  left-one p d rest l = record {
-    front = l .front ++ (d ∷ []);
-    whole = l .whole ∙ sym (append-assoc (l .front) (d ∷ []) rest);
-    kept =
-        ap (λ (P : Finding → Bool). keep P ds) (fun-ext (after-is-before d))
-        ∙ ap (keep (comesBefore d)) (l .whole)
-        ∙ keep-behind comesBefore comes-once (l .front) d rest (rw (l .whole) at o);
-  }
-
-  left-next : (p : Place) (g rest : List Finding) → Left ds p (g ++ rest) → Left ds (lastPlace p (triples g)) rest
-  unfolding lastPlace triples
-  left-next p [] rest l = l
-  left-next p (d ∷ g) rest l = left-next (placeOf d) g rest (left-one p d (g ++ rest) l)
-
-  -- what a call hands out is the front of what is left
-  pub page-is : (p : Place) (room : ℕ) (rest : List Finding) → Left ds p rest → page p room ds ≡ take room rest
-  unfolding page
-  page-is p room rest l = ap (take room) (l .kept)
-
-  -- and from the last three numbers that it wrote on, the rest is left
-  pub left-page : (p : Place) (room : ℕ) (rest : List Finding) → Left ds p rest → Left ds (lastPlace p (triples (take room rest))) (drop room rest)
-  left-page p room rest l = left-next p (take room rest) (drop room rest) (rw (take-append-drop room rest) l)
+-- findings are entries of three numbers
+pub findings-kind : Kind triple 3 comesBefore
+unfolding comesBefore
+findings-kind = record {
+  wide = λ d. refl;
+  holds = omega arith;
+  order = λ d e. behind-sooner (d .file) (d .line) (d .rule) (e .file) (e .line) (e .rule);
+  once = λ d e h. sooner-once (d .file) (d .line) (d .rule) (e .file) (e .line) (e .rule) h;
+}
 
 -- ---- what an answer tells
 
@@ -77,32 +54,21 @@ unfolding answerOf answerNumbers
 total-told p [] lent = refl
 total-told p (d ∷ r) lent = rw (ne-eqb (length (d ∷ r)) 0 (λ e. omega arith))
 
-module _ (ks : List Finding) (lent : List ℤ) where
-  -- as many of these as fit
-  page-fits : 3 * length (take (length lent / 3) ks) ≤ length lent
-  page-fits = omega (arith, length-take (length lent / 3) ks)
-
-  page-full : (drop (length lent / 3) ks ≡ []) ⊎ (length lent < 3 * length (take (length lent / 3) ks) + 3)
-  page-full = go (ltb (length lent / 3) (length ks)) refl
-    where
-      go : (b : Bool) → ltb (length lent / 3) (length ks) ≡ b → (drop (length lent / 3) ks ≡ []) ⊎ (length lent < 3 * length (take (length lent / 3) ks) + 3)
-      go true e = inr (omega (arith, ltb-true (length lent / 3) (length ks) e, length-take (length lent / 3) ks))
-      go false e = inl (drop-of-length-le ks (ltb-false (length lent / 3) (length ks) e))
+-- how many it tells were written
+pub written-told : (p : Place) (ds : List Finding) (lent : List ℤ) → writtenIn (answerNumbers (answerOf p ds lent)) ≡ length (page p (roomOf lent) ds)
+unfolding answerOf answerNumbers pageOf keep
+written-told p [] lent = sym (ap length (take-nil (roomOf lent)))
+written-told p (d ∷ r) lent = rw (ne-eqb (length (d ∷ r)) 0 (λ e. omega arith))
 
 -- A call on a readable feed hands out the earliest after its starting place, as many as fit, and tells their number and the total.
 pub page-told : (files : List (List ℕ)) (tables : List (List ℤ)) (lent : List ℤ) (p : Place)
     → verdictOf files (map length tables) ≡ Readable
     → PageTold (findingsOf (feedOf files)) p lent (outcome files tables lent p)
-unfolding outcome readOutcome handed page roomOf
+unfolding outcome readOutcome
 page-told files tables lent p e =
-    let ks = keep (after p) (findingsOf (feedOf files)) in
     rw e (record {
-      given = take (length lent / 3) ks;
-      later = drop (length lent / 3) ks;
-      after-p = sym (take-append-drop (length lent / 3) ks);
-      fits = page-fits ks lent;
-      full = page-full ks lent;
-      list = refl;
+      written = length (page p (roomOf lent) (findingsOf (feedOf files)));
+      page = page-given findings-kind (findingsOf (feedOf files)) p lent;
       answer = told p (findingsOf (feedOf files)) lent;
     })
 

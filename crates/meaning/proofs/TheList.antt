@@ -19,7 +19,8 @@ use Rattle.meaning.specs.Lists.{flat}
 use Rattle.meaning.specs.Tables.{Feed, feedOf, rowsIn}
 use Rattle.meaning.specs.Refusals.{Test, test, Claim, claimOf, claim, onLine, verdictOf}
 use Rattle.meaning.specs.Rules.{stopRules, routeRules, serviceRules, tripRules, timeRules, dateRules, recordCount, rulesOf, onRecords, bindingsOf, bindings}
-use Rattle.meaning.specs.Findings.{Finding, finding, listed, findingsOf, above, after, page, roomOf, answerOf, answerNumbers}
+use Rattle.meaning.specs.Pages.{above, behind}
+use Rattle.meaning.specs.Findings.{Finding, finding, listed, findingsOf, after, page, roomOf, answerOf, answerNumbers}
 use Rattle.meaning.specs.Outcome.{readOutcome, refusedOr, outcome}
 use Rattle.meaning.specs.Promises.{Ordered, Each, saysAccepted, saysFindings, saysRefused, Ends, accepted, findings, refused, testOf, BrokenAt, Findable, comesBefore, beginning}
 use Rattle.meaning.proofs.Computed.{all, mem-all}
@@ -210,7 +211,7 @@ finding-numbers w d m =
 
 -- Every finding comes after the list's beginning.
 pub findings-from-beginning : (w : Feed) → Each (λ d. after beginning d ≡ true) (findingsOf w)
-unfolding after above
+unfolding behind above
 findings-from-beginning w d m = rw (lt-ltb 0 (d .file) (finding-numbers w d m .file .0))
 
 line-length : (f n : ℕ) (ts : List Test) → length (onLine f n ts) ≡ length ts

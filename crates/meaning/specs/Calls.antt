@@ -2,7 +2,7 @@
 use Prim.Native.Nat.{ℕ, _*_, _-_, _≤_, _<_}
 use mathlib.Core.Path.{_≡_}
 use mathlib.Core.List.{List, [], _∷_, map}
-use mathlib.Core.Bool.{Bool, true}
+use mathlib.Core.Bool.{true}
 use lib.IntN.{ℤ}
 use lib.ListN.{length, getD, take}
 use lib.Dec.{eqb}
@@ -10,6 +10,7 @@ use Rattle.meaning.specs.declared.Place.{Place}
 use Rattle.meaning.specs.Lists.{lastHas, flat}
 use Rattle.meaning.specs.Bytes.{countLf}
 use Rattle.meaning.specs.Tables.{feedOf, fileOf, widthOf}
+use Rattle.meaning.specs.Pages.{lastPlace}
 use Rattle.meaning.specs.Findings.{findingsOf, triples, answerNumbers}
 use Rattle.meaning.specs.Outcome.{Outcome, outcome}
 use Rattle.meaning.specs.Promises.{Each, beginning, writtenIn, totalIn}
@@ -27,20 +28,16 @@ abbrev pub lentList : Lending → List ℤ → List ℤ
 lentList again list = list
 lentList (anew t other) list = other
 
+-- how many findings a call tells it wrote, and how many there are
+abbrev pub writtenOf : Outcome → ℕ
+writtenOf o = writtenIn (answerNumbers (o .answer))
+
+abbrev pub totalOf : Outcome → ℕ
+totalOf o = totalIn (answerNumbers (o .answer))
+
 -- the numbers that a call wrote into the list: three for each finding that its answer says was written
 unfoldable pub written : Outcome → List ℤ
-written o = take (3 * writtenIn (answerNumbers (o .answer))) (o .list)
-
--- a call that hands out none
-unfoldable pub handsNone : Outcome → Bool
-handsNone o = eqb (writtenIn (answerNumbers (o .answer))) 0
-
--- the place that the last three numbers of these name; p where there are none
-unfoldable pub lastPlace : Place → List ℤ → Place
-lastPlace p [] = p
-lastPlace p (a ∷ []) = p
-lastPlace p (a ∷ b ∷ []) = p
-lastPlace p (a ∷ b ∷ c ∷ r) = lastPlace (record { file = a; line = b; rule = c }) r
+written o = take (3 * writtenOf o) (o .list)
 
 -- The outcomes of calls, the first from p: the next starting place is read from the last three numbers written, and the tables and the
 -- list are those that the call before left, or others.
@@ -48,7 +45,7 @@ unfoldable pub calls : List (List ℕ) → List (List ℤ) → List ℤ → Plac
 calls files tables list p [] = []
 calls files tables list p (x ∷ r) =
     let o = outcome files (lentTables x tables) (lentList x list) p in
-    o ∷ calls files (o .tables) (o .list) (lastPlace p (written o)) r
+    o ∷ calls files (o .tables) (o .list) (lastPlace 3 p (written o)) r
 
 -- there is a table for each file, long enough for it
 abbrev pub LongEnough : List (List ℕ) → List (List ℤ) → Type 0
@@ -61,16 +58,17 @@ abbrev pub Enough : List (List ℕ) → Lending → Type 0
 Enough files again = Unit {0}
 Enough files (anew tables list) = LongEnough files tables × (3 ≤ length list)
 
--- calls from the list's beginning: until one hands out none they give the whole list together; each tells the same total;
--- one call more than there are findings, and the last hands out none
-pub record CallsJoin (files : List (List ℕ)) (tables : List (List ℤ)) (list : List ℤ) (lendings : List Lending) : Type 0 where
-  pub whole :
-      lastHas handsNone (calls files tables list beginning lendings) ≡ true
-      → flat (map written (calls files tables list beginning lendings)) ≡ triples (findingsOf (feedOf files))
-  pub total :
-      Each
-      (λ o. totalIn (answerNumbers (o .answer)) ≡ length (findingsOf (feedOf files)))
-      (calls files tables list beginning lendings)
-  pub ends :
-      length (findingsOf (feedOf files)) < length lendings
-      → lastHas handsNone (calls files tables list beginning lendings) ≡ true
+-- Calls that each tell the numbers they wrote, how many entries those are, and a total, together: until one hands out none they give all these
+-- rows; each tells that there are n; one call more than that, and the last hands out none.
+pub record Join {O : Type 0} (wrote : O → List ℤ) (count total : O → ℕ) (rows : List ℤ) (n : ℕ) (os : List O) : Type 0 where
+  pub whole : lastHas (λ o. eqb (count o) 0) os ≡ true → flat (map wrote os) ≡ rows
+  pub totals : Each (λ o. total o ≡ n) os
+  pub ends : n < length os → lastHas (λ o. eqb (count o) 0) os ≡ true
+
+-- calls from the list's beginning
+abbrev pub CallsJoin : List (List ℕ) → List (List ℤ) → List ℤ → List Lending → Type 0
+CallsJoin files tables list lendings =
+    Join written writtenOf totalOf
+    (triples (findingsOf (feedOf files)))
+    (length (findingsOf (feedOf files)))
+    (calls files tables list beginning lendings)

@@ -1,18 +1,17 @@
 -- The list of findings, and what a call hands out of it.
-use Prim.Native.Nat.{ℕ, _/_}
+use Prim.Native.Nat.{ℕ}
 use mathlib.Core.List.{List, [], _∷_}
-use mathlib.Core.Bool.{Bool, cond, not, _&&_, _||_}
+use mathlib.Core.Bool.{Bool, cond}
 use lib.IntN.{ℤ, pos}
-use lib.Signed.{ltZ}
-use lib.ListN.{length, take}
+use lib.ListN.{length}
 use lib.Dec.{eqb}
 use Rattle.meaning.specs.declared.Place.{Place}
 use Rattle.meaning.specs.declared.Answer.{Answer}
 use Rattle.meaning.specs.declared.Answer.the-variants.{Accepted, Findings, Refused}
-use Rattle.meaning.specs.Lists.{keep, laid}
 use Rattle.meaning.specs.Tables.{Feed}
 use Rattle.meaning.specs.Refusals.{Claim}
 use Rattle.meaning.specs.Rules.{bindings}
+use Rattle.meaning.specs.Pages.{placeIn, behind, pageOf, roomFor, rowed, handedOf}
 
 -- A finding is three numbers: file, line, rule.
 pub record Finding : Type 0 where
@@ -34,30 +33,27 @@ listed (p ∷ r) =
 unfoldable pub findingsOf : Feed → List Finding
 findingsOf w = listed (bindings w)
 
--- three numbers strictly greater than three others, compared in that order
-unfoldable pub above : ℤ → ℤ → ℤ → ℤ → ℤ → ℤ → Bool
-above a b c x y z =
-    ltZ a x || (not (ltZ x a) && (ltZ b y || (not (ltZ y b) && ltZ c z)))
+-- its row
+abbrev pub triple : Finding → List ℤ
+triple d = pos (d .file) ∷ pos (d .line) ∷ pos (d .rule) ∷ []
 
 -- a finding strictly greater than the starting place
-unfoldable pub after : Place → Finding → Bool
-after p d = above (p .file) (p .line) (p .rule) (pos (d .file)) (pos (d .line)) (pos (d .rule))
+abbrev pub after : Place → Finding → Bool
+after p d = behind p (placeIn (triple d))
 
--- what a call hands out: those after its starting place, as many as fit
-unfoldable pub page : Place → ℕ → List Finding → List Finding
-page p room ds = take room (keep (after p) ds)
+abbrev pub page : Place → ℕ → List Finding → List Finding
+page p room ds = pageOf triple p room ds
 
 -- Room is the list's length divided by 3.
-unfoldable pub roomOf : List ℤ → ℕ
-roomOf lent = length lent / 3
+abbrev pub roomOf : List ℤ → ℕ
+roomOf lent = roomFor 3 lent
 
-unfoldable pub triples : List Finding → List ℤ
-triples [] = []
-triples (d ∷ r) = pos (d .file) ∷ pos (d .line) ∷ pos (d .rule) ∷ triples r
+abbrev pub triples : List Finding → List ℤ
+triples ds = rowed triple ds
 
--- the lent list after the call: the rest stays unchanged
-unfoldable pub handed : Place → List Finding → List ℤ → List ℤ
-handed p ds lent = laid (triples (page p (roomOf lent) ds)) lent
+-- the lent list after the call
+abbrev pub handed : Place → List Finding → List ℤ → List ℤ
+handed p ds lent = handedOf triple 3 p ds lent
 
 -- The answer tells how many were written and the total over the whole feed, whatever the start; accepted exactly when there is none.
 unfoldable pub answerOf : Place → List Finding → List ℤ → Answer

@@ -7,6 +7,7 @@ pub mod Forms
 pub mod Tables
 pub mod Refusals
 pub mod Rules
+pub mod Pages
 pub mod Findings
 pub mod Outcome
 pub mod Promises

@@ -17,7 +17,8 @@ use Rattle.meaning.specs.Columns.{places, headerOf}
 use Rattle.meaning.specs.Tables.{Feed, fileOf, timeTrip, widthOf}
 use Rattle.meaning.specs.Refusals.{Test, test, Claim, claim, maxBytes, maxLines, rule1, rule2, rule3, rule4, headTests, lineTests, long, blank, formless, refusal, verdictOf}
 use Rattle.meaning.specs.Rules.{row, timed, arrives, departs, sequence, rulesOf, recordCount}
-use Rattle.meaning.specs.Findings.{Finding, after, triples, answerNumbers}
+use Rattle.meaning.specs.Pages.{placeIn, behind, rowed}
+use Rattle.meaning.specs.Findings.{Finding, triple, answerNumbers}
 use Rattle.meaning.specs.Outcome.{Outcome}
 
 -- no element comes before one that stands earlier, and none stands twice
@@ -222,16 +223,22 @@ pub record Findable (w : Feed) (d : Finding) : Type 0 where
 unfoldable pub comesBefore : Finding → Finding → Bool
 comesBefore d e = sooner3 (d .file) (d .line) (d .rule) (e .file) (e .line) (e .rule)
 
--- What a call from p hands out of the findings ds into a lent list: of those after p the earliest, none skipped, as many as fit,
--- three numbers each, the rest of the list unchanged; and how many were written, and the total over the whole feed.
+-- What a call from p hands out of entries ds with rows of this width: of those after p the earliest, none skipped, as many as fit, n of them; the
+-- lent list then has their rows, its rest unchanged.
+pub record PageGiven {A : Type 0} (row : A → List ℤ) (width : ℕ) (ds : List A) (p : Place) (lent list : List ℤ) (n : ℕ) : Type 0 where
+  pub given : List A
+  pub later : List A
+  pub after-p : keep (λ d. behind p (placeIn (row d))) ds ≡ given ++ later
+  pub fits : width * length given ≤ length lent
+  pub full : (later ≡ []) ⊎ (length lent < width * length given + width)
+  pub holds : list ≡ laid (rowed row given) lent
+  pub many : length given ≡ n
+
+-- a call hands out findings, three numbers each, and tells how many were written, and the total over the whole feed
 pub record PageTold (ds : List Finding) (p : Place) (lent : List ℤ) (o : Outcome) : Type 0 where
-  pub given : List Finding
-  pub later : List Finding
-  pub after-p : keep (after p) ds ≡ given ++ later
-  pub fits : 3 * length given ≤ length lent
-  pub full : (later ≡ []) ⊎ (length lent < 3 * length given + 3)
-  pub list : o .list ≡ laid (triples given) lent
-  pub answer : answerNumbers (o .answer) ≡ saysRead (length given) (length ds)
+  pub written : ℕ
+  pub page : PageGiven triple 3 ds p lent (o .list) written
+  pub answer : answerNumbers (o .answer) ≡ saysRead written (length ds)
 
 -- the beginning of the list
 abbrev pub beginning : Place
