@@ -1,23 +1,28 @@
--- Findings that come in one by one end in the list, the written ones and the total that the definitions say.
+-- Entries that come in one by one end in the list, the written ones and the total that the definitions say.
 use mathlib.Core.Path.{_≡_, refl, sym, ap, _∙_}
 use mathlib.Core.List.{List, [], _∷_, _++_, append-assoc, append-nil}
 use mathlib.Core.Bool.{Bool, true, false, cond}
 use Prim.Native.Nat.{ℕ, suc, _+_, _*_, _-_, _/_, _≤_, _<_}
+use native.Mathlib.Nat.{mul-comm, add-mul, one-mul, le-div-iff-mul-le}
 use native.Mathlib.Omega.{arith}
 use borrow.Author.Tests.{ltb-true, ltb-false}
 use lib.Dec.{ltb}
-use lib.IntN.{ℤ, pos}
+use lib.IntN.{ℤ}
 use lib.ListN.{length, take, length-append, length-take}
 use lib.Seq.{take-all, take-append-le, take-nil}
 use Rattle.meaning.specs.declared.Place.{Place}
-use Rattle.meaning.specs.Lists.{keep, laid}
+use Rattle.meaning.specs.Lists.{keep, flat, laid}
 use Rattle.meaning.specs.Refusals.{Test, Claim, onLine}
 use Rattle.meaning.specs.Rules.{onRecords}
-use Rattle.meaning.specs.Findings.{Finding, finding, listed, after, page, roomOf, triples, handed}
+use Rattle.meaning.specs.Pages.{placeIn, behind, pageOf, roomFor, rowed, handedOf}
+use Rattle.meaning.specs.Findings.{Finding, finding, listed, triple}
+use Rattle.meaning.specs.Promises.{comesBefore}
 use Rattle.meaning.proofs.ListLaws.{keep-append}
+use Rattle.meaning.proofs.Handing.{Kind, rowed-append, rowed-length, handed-long}
+use Rattle.meaning.proofs.Pages.{findings-kind}
 use Rattle.rows.specs.Cells.{putAt}
-use Rattle.rows.proofs.Records.{laid-more, laid-length}
-use Rattle.listing.specs.Handing.{State, found, noted, noting, lentOnly, handedOut}
+use Rattle.rows.proofs.Records.{laid-more}
+use Rattle.listing.specs.Handing.{State, added, noted, noting, lentOnly, handedIn, handedOut}
 
 -- ---- lists
 
@@ -33,73 +38,63 @@ listed-append (c ∷ cs) ds = go (c .broken) (finding (c .file) (c .line) (c .nu
     go true f e = ap (λ (l : List Finding). f ∷ l) e
     go false f e = e
 
-pub triples-append : (ds es : List Finding) → triples (ds ++ es) ≡ triples ds ++ triples es
-unfolding triples
-triples-append [] es = refl
-triples-append (d ∷ ds) es =
-    ap (λ (l : List ℤ). pos (d .file) ∷ pos (d .line) ∷ pos (d .rule) ∷ l) (triples-append ds es)
+-- ---- one entry more, by its row
 
-pub triples-length : (ds : List Finding) → length (triples ds) ≡ length ds * 3
-unfolding triples
-triples-length [] = refl
-triples-length (d ∷ ds) = omega (arith, triples-length ds)
+module _ (p : Place) (e : List ℤ) (s : State) where
+  pub added-in :
+      behind p (placeIn e) ≡ true
+      → ltb (s .written) (roomFor (length e) (s .out)) ≡ true
+      → added p e s ≡ record { out = putAt (s .out) (s .written * length e) e; written = s .written + 1; total = s .total + 1 }
+  unfolding added
+  added-in b h = rw (b, h)
 
--- ---- one finding more
+  pub added-full :
+      behind p (placeIn e) ≡ true
+      → ltb (s .written) (roomFor (length e) (s .out)) ≡ false
+      → added p e s ≡ record { out = s .out; written = s .written; total = s .total + 1 }
+  unfolding added
+  added-full b h = rw (b, h)
 
-module _ (p : Place) (d : Finding) (s : State) where
-  pub found-in :
-      after p d ≡ true
-      → ltb (s .written) (roomOf (s .out)) ≡ true
-      → found p d s ≡ record { out = putAt (s .out) (s .written * 3) (triples (d ∷ [])); written = s .written + 1; total = s .total + 1 }
-  unfolding found
-  found-in e h = rw (e, h)
+  pub added-before :
+      behind p (placeIn e) ≡ false → added p e s ≡ record { out = s .out; written = s .written; total = s .total + 1 }
+  unfolding added
+  added-before b = rw b
 
-  pub found-full :
-      after p d ≡ true
-      → ltb (s .written) (roomOf (s .out)) ≡ false
-      → found p d s ≡ record { out = s .out; written = s .written; total = s .total + 1 }
-  unfolding found
-  found-full e h = rw (e, h)
+-- a row has room where fewer are written than fit
+pub within-room : (n w m : ℕ) → 0 < w → n < m / w → n * w + w ≤ m
+within-room n w m h less =
+    let e : n * w + w ≡ (n + 1) * w = sym (add-mul n 1 w ∙ ap (λ (j : ℕ). n * w + j) (one-mul w)) in
+    rw e (le-div-iff-mul-le {k = w} {x = n + 1} {y = m} h .0 (omega arith))
 
-  pub found-before :
-      after p d ≡ false → found p d s ≡ record { out = s .out; written = s .written; total = s .total + 1 }
-  unfolding found
-  found-before e = rw e
+module _ {A : Type 0} (row : A → List ℤ) (p : Place) (m : ℕ) (ds : List A) (d : A) where
+  abbrev late : A → Bool
+  late x = behind p (placeIn (row x))
 
-module _ (p : Place) (m : ℕ) (ds : List Finding) (d : Finding) where
-  kept-more : after p d ≡ true → keep (after p) (ds ++ (d ∷ [])) ≡ keep (after p) ds ++ (d ∷ [])
+  kept-more : late d ≡ true → keep late (ds ++ (d ∷ [])) ≡ keep late ds ++ (d ∷ [])
   unfolding keep
-  kept-more e = keep-append (after p) ds (d ∷ []) ∙ rw e
+  kept-more e = keep-append late ds (d ∷ []) ∙ rw e
 
-  page-before : after p d ≡ false → page p m (ds ++ (d ∷ [])) ≡ page p m ds
-  unfolding page keep
+  page-before : late d ≡ false → pageOf row p m (ds ++ (d ∷ [])) ≡ pageOf row p m ds
+  unfolding pageOf keep
   page-before e = rw (keep-append, e, append-nil)
 
-  page-full : after p d ≡ true → m ≤ length (page p m ds) → page p m (ds ++ (d ∷ [])) ≡ page p m ds
-  unfolding page
+  page-full : late d ≡ true → m ≤ length (pageOf row p m ds) → pageOf row p m (ds ++ (d ∷ [])) ≡ pageOf row p m ds
+  unfolding pageOf
   page-full e h =
-      let k : m ≤ length (keep (after p) ds) = omega (arith, length-take m (keep (after p) ds)) in
-      rw (kept-more e) (take-append-le m (keep (after p) ds) (d ∷ []) k)
+      let k : m ≤ length (keep late ds) = omega (arith, length-take m (keep late ds)) in
+      rw (kept-more e) (take-append-le m (keep late ds) (d ∷ []) k)
 
   page-in :
-      after p d ≡ true
-      → length (page p m ds) < m
-      → page p m (ds ++ (d ∷ [])) ≡ page p m ds ++ (d ∷ [])
-  unfolding page
+      late d ≡ true
+      → length (pageOf row p m ds) < m
+      → pageOf row p m (ds ++ (d ∷ [])) ≡ pageOf row p m ds ++ (d ∷ [])
+  unfolding pageOf
   page-in e h =
-      let k : length (keep (after p) ds) < m = omega (arith, length-take m (keep (after p) ds)) in
-      let a : take m (keep (after p) ds) ≡ keep (after p) ds = take-all m (keep (after p) ds) (omega arith) in
-      rw (kept-more e, a) (take-all m (keep (after p) ds ++ (d ∷ [])) (rw length-append (omega arith)))
+      let k : length (keep late ds) < m = omega (arith, length-take m (keep late ds)) in
+      let a : take m (keep late ds) ≡ keep late ds = take-all m (keep late ds) (omega arith) in
+      rw (kept-more e, a) (take-all m (keep late ds ++ (d ∷ [])) (rw length-append (omega arith)))
 
--- ---- from findings to a list
-
-pub handed-length :
-    (p : Place) (ds : List Finding) (lent : List ℤ) → length (handed p ds lent) ≡ length lent
-unfolding handed page roomOf
-handed-length p ds lent =
-    let m : ℕ = length lent / 3 in
-    let k : List Finding = keep (after p) ds in
-    laid-length (triples (take m k)) lent (omega (arith, triples-length (take m k), length-take m k))
+-- ---- from entries to a list
 
 pub same-state :
     {o q : List ℤ} {w v n l : ℕ}
@@ -109,46 +104,60 @@ pub same-state :
     → _≡_ {A = State} (record { out = o; written = w; total = n }) (record { out = q; written = v; total = l })
 same-state a b c = rw (a, b, c)
 
-module _ (p : Place) (lent : List ℤ) (ds : List Finding) (d : Finding) where
-  room-same : roomOf (handed p ds lent) ≡ roomOf lent
-  unfolding roomOf
-  room-same = rw handed-length
+module _ {A : Type 0} {row : A → List ℤ} {width : ℕ} {less : A → A → Bool} (k : Kind row width less) (p : Place) (lent : List ℤ) (ds : List A) (d : A) where
+  abbrev room : ℕ
+  room = roomFor width lent
+
+  room-same : roomFor (length (row d)) (handedOf row width p ds lent) ≡ room
+  unfolding roomFor
+  room-same = rw (k .wide d, handed-long k ds p lent)
 
   total-more : length ds + 1 ≡ length (ds ++ (d ∷ []))
   total-more = rw length-append
 
   -- the page unchanged
   page-same :
-      page p (roomOf lent) (ds ++ (d ∷ [])) ≡ page p (roomOf lent) ds
-      → _≡_ {A = State} (record { out = handed p ds lent; written = length (page p (roomOf lent) ds); total = length ds + 1 }) (handedOut p (ds ++ (d ∷ [])) lent)
-  unfolding handed
+      pageOf row p room (ds ++ (d ∷ [])) ≡ pageOf row p room ds
+      → _≡_ {A = State} (record { out = handedOf row width p ds lent; written = length (pageOf row p room ds); total = length ds + 1 }) (handedIn row width p (ds ++ (d ∷ [])) lent)
+  unfolding handedOf
   page-same e = rw (e, total-more)
 
-  -- one triple more
+  one-row : rowed row (d ∷ []) ≡ row d
+  unfolding rowed flat
+  one-row = append-nil (row d)
+
+  -- one row more
   page-grown :
-      page p (roomOf lent) (ds ++ (d ∷ [])) ≡ page p (roomOf lent) ds ++ (d ∷ [])
-      → _≡_ {A = State} (record { out = putAt (handed p ds lent) (length (page p (roomOf lent) ds) * 3) (triples (d ∷ [])); written = length (page p (roomOf lent) ds) + 1; total = length ds + 1 }) (handedOut p (ds ++ (d ∷ [])) lent)
-  unfolding handed
+      pageOf row p room (ds ++ (d ∷ [])) ≡ pageOf row p room ds ++ (d ∷ [])
+      → _≡_ {A = State} (record { out = putAt (handedOf row width p ds lent) (length (pageOf row p room ds) * length (row d)) (row d); written = length (pageOf row p room ds) + 1; total = length ds + 1 }) (handedIn row width p (ds ++ (d ∷ [])) lent)
+  unfolding handedOf
   page-grown e =
-      let g : List Finding = page p (roomOf lent) ds in
+      let g : List A = pageOf row p room ds in
+      let n : length (rowed row g) ≡ length g * length (row d) = rowed-length row width (k .wide) g ∙ rw (k .wide d) (mul-comm width (length g)) in
       same-state
-      (laid-more (triples g) (triples (d ∷ [])) lent (length g * 3) (triples-length g) ∙ rw (e, triples-append))
+      (laid-more (rowed row g) (row d) lent (length g * length (row d)) n ∙ rw (e, rowed-append row g (d ∷ []), one-row))
       (rw (e, length-append))
       total-more
 
-  pub found-more : found p d (handedOut p ds lent) ≡ handedOut p (ds ++ (d ∷ [])) lent
-  found-more = go (after p d) (ltb (length (page p (roomOf lent) ds)) (roomOf lent)) refl refl
+  pub added-more : added p (row d) (handedIn row width p ds lent) ≡ handedIn row width p (ds ++ (d ∷ [])) lent
+  added-more = go (behind p (placeIn (row d))) (ltb (length (pageOf row p room ds)) room) refl refl
     where
       go :
           (a b : Bool)
-          → after p d ≡ a
-          → ltb (length (page p (roomOf lent) ds)) (roomOf lent) ≡ b
-          → found p d (handedOut p ds lent) ≡ handedOut p (ds ++ (d ∷ [])) lent
-      go false b e h = found-before p d (handedOut p ds lent) e ∙ page-same (page-before p (roomOf lent) ds d e)
+          → behind p (placeIn (row d)) ≡ a
+          → ltb (length (pageOf row p room ds)) room ≡ b
+          → added p (row d) (handedIn row width p ds lent) ≡ handedIn row width p (ds ++ (d ∷ [])) lent
+      go false b e h = added-before p (row d) (handedIn row width p ds lent) e ∙ page-same (page-before row p room ds d e)
       go true false e h =
-          found-full p d (handedOut p ds lent) e (rw room-same h) ∙ page-same (page-full p (roomOf lent) ds d e (ltb-false _ _ h))
+          added-full p (row d) (handedIn row width p ds lent) e (rw room-same h) ∙ page-same (page-full row p room ds d e (ltb-false _ _ h))
       go true true e h =
-          found-in p d (handedOut p ds lent) e (rw room-same h) ∙ page-grown (page-in p (roomOf lent) ds d e (ltb-true _ _ h))
+          added-in p (row d) (handedIn row width p ds lent) e (rw room-same h) ∙ page-grown (page-in row p room ds d e (ltb-true _ _ h))
+
+pub handed-none : {A : Type 0} (row : A → List ℤ) (width : ℕ) (p : Place) (lent : List ℤ) → lentOnly lent ≡ handedIn row width p [] lent
+unfolding handedOf pageOf keep rowed flat laid
+handed-none row width p lent = rw take-nil
+
+-- ---- findings
 
 pub noted-more :
     (p : Place) (lent : List ℤ) (ds : List Finding) (c : Claim)
@@ -158,8 +167,8 @@ noted-more p lent ds c = go (c .broken) (finding (c .file) (c .line) (c .number)
   where
     go :
         (b : Bool) (d : Finding)
-        → cond b (found p d (handedOut p ds lent)) (handedOut p ds lent) ≡ handedOut p (ds ++ cond b (d ∷ []) []) lent
-    go true d = found-more p lent ds d
+        → cond b (added p (triple d) (handedOut p ds lent)) (handedOut p ds lent) ≡ handedOut p (ds ++ cond b (d ∷ []) []) lent
+    go true d = added-more findings-kind p lent ds d
     go false d = rw append-nil
 
 pub noting-more :
@@ -172,15 +181,11 @@ noting-more p lent ds (c ∷ cs) =
     ∙ noting-more p lent (ds ++ listed (c ∷ [])) cs
     ∙ ap (λ (l : List Finding). handedOut p l lent) (append-assoc ds (listed (c ∷ [])) (listed cs) ∙ ap (λ (l : List Finding). ds ++ l) (sym (listed-append (c ∷ []) cs)))
 
-pub handed-none : (p : Place) (lent : List ℤ) → lentOnly lent ≡ handedOut p [] lent
-unfolding handed page keep triples laid
-handed-none p lent = rw take-nil
-
 -- all claims noted, from the list as lent: exactly what is to be handed out
 pub noting-all :
     (p : Place) (cs : List Claim) (lent : List ℤ)
     → noting p cs (lentOnly lent) ≡ handedOut p (listed cs) lent
-noting-all p cs lent = ap (noting p cs) (handed-none p lent) ∙ noting-more p lent [] cs
+noting-all p cs lent = ap (noting p cs) (handed-none triple 3 p lent) ∙ noting-more p lent [] cs
 
 -- claims in two parts
 pub noting-append :

@@ -1,19 +1,20 @@
-// Findings handed out into a lent list: those after a starting place, as many as fit, and how many there are.
+// Entries handed out into a lent list: those after a starting place, as many as fit, and how many there are.
 ghost use mathlib.Core.Path.{_≡_};
 ghost use Prim.Native.Nat.{_+_, _^_, _<_, _≤_};
+ghost use lib.ListN.{length};
 ghost use Rattle.meaning.specs.Refusals.{claim};
-ghost use Rattle.meaning.specs.Findings.{above, after, finding};
-ghost use Rattle.listing.specs.Handing.{state, found, noted};
+ghost use Rattle.meaning.specs.Pages.{above, behind, placeIn};
+ghost use Rattle.listing.specs.Handing.{state, added, noted};
 use meaning::Place;
 
-// How far a list has come: how many findings are written, and how many there are.
+// How far a list has come: how many entries are written, and how many there are.
 pub struct Sink {
     pub written: usize,
     pub total: usize,
 }
 
 // Whether three numbers are strictly greater than three others, compared in that order.
-pub fn greater(a: i32, b: i32, c: i32, x: i32, y: i32, z: i32) -> bool
+fn greater(a: i32, b: i32, c: i32, x: i32, y: i32, z: i32) -> bool
     ensures { λ r. ⌜ r ≡ above a b c x y z ⌝ }
 {
     if a < x {
@@ -31,34 +32,26 @@ pub fn greater(a: i32, b: i32, c: i32, x: i32, y: i32, z: i32) -> bool
     c < z
 }
 
-// Whether a finding is strictly greater than the starting place.
-pub fn comes_after(p: Place, file: usize, line: usize, rule: usize) -> bool
-    requires { ⌜ (file < 2 ^ 31) × ((line < 2 ^ 31) × (rule < 2 ^ 31)) ⌝ }
-    ensures { λ r. ⌜ r ≡ after p (finding file line rule) ⌝ }
+// Whether an entry, by its row, is strictly greater than the starting place.
+fn comes_after(p: Place, e: &[i32]) -> bool
+    requires { ⌜ 3 ≤ length (now e) ⌝ }
+    ensures { λ r. ⌜ r ≡ behind p (placeIn (now (e .entry))) ⌝ }
 {
-    greater(
-        p.file,
-        p.line,
-        p.rule,
-        file as i32,
-        line as i32,
-        rule as i32,
-    )
+    greater(p.file, p.line, p.rule, e[0], e[1], e[2])
 }
 
-// One finding more.
-pub fn hand_out(out: &mut [i32], k: Sink, p: Place, file: usize, line: usize, rule: usize) -> Sink
-    requires { ⌜ (file < 2 ^ 31) × ((line < 2 ^ 31) × (rule < 2 ^ 31)) ⌝ }
+// One entry more, by its row: file, line and rule, and whatever else it tells.
+pub fn hand_out(out: &mut [i32], k: Sink, p: Place, e: &[i32]) -> Sink
+    requires { ⌜ 3 ≤ length (now e) ⌝ }
     requires { ⌜ k .total < 2 ^ 62 ⌝ }
-    ensures { λ r. ⌜ state (now (out .exit)) r ≡ found p (finding file line rule) (state (now (out .entry)) k) ⌝ }
+    ensures { λ r. ⌜ state (now (out .exit)) r ≡ added p (now (e .entry)) (state (now (out .entry)) k) ⌝ }
     ensures { λ r. ⌜ r .total ≡ k .total + 1 ⌝ }
 {
     let written = k.written;
     let total = k.total + 1;
-    if comes_after(p, file, line, rule) {
-        if written < out.len() / 3 {
-            let d = [file as i32, line as i32, rule as i32];
-            rows::cells::store(out, written * 3, &d);
+    if comes_after(p, e) {
+        if written < out.len() / e.len() {
+            rows::cells::store(out, written * e.len(), e);
             return Sink {
                 written: written + 1,
                 total,
@@ -84,7 +77,8 @@ pub fn note(
     ensures { λ r. ⌜ r .total ≤ k .total + 1 ⌝ }
 {
     if broken {
-        return hand_out(out, k, p, file, line, rule);
+        let d = [file as i32, line as i32, rule as i32];
+        return hand_out(out, k, p, &d);
     }
     k
 }

@@ -16,7 +16,7 @@ use Rattle.meaning.specs.Lists.{keep, lastHas, flat, laid}
 use Rattle.meaning.specs.Pages.{placeIn, behind, pageOf, roomFor, rowed, handedOf, lastPlace}
 use Rattle.meaning.specs.Promises.{Ordered, Each, PageGiven}
 use Rattle.meaning.specs.Calls.{Join}
-use Rattle.meaning.proofs.ListLaws.{both, nothing, keep-all, keep-behind}
+use Rattle.meaning.proofs.ListLaws.{both, nothing, kept-fewer, keep-all, keep-behind}
 use Rattle.meaning.proofs.Laws.{each-cons}
 use Rattle.meaning.proofs.Records.{laid-length}
 
@@ -26,6 +26,13 @@ pub record Kind {A : Type 0} (row : A → List ℤ) (width : ℕ) (less : A → 
   pub holds : 3 ≤ width
   pub order : (d e : A) → behind (placeIn (row d)) (placeIn (row e)) ≡ less d e
   pub once : (d e : A) → less d e ≡ true → less e d ≡ false
+
+-- what is handed out is no more than there is
+pub page-within : {A : Type 0} (row : A → List ℤ) (p : Place) (room : ℕ) (ds : List A) → length (pageOf row p room ds) ≤ length ds
+unfolding pageOf
+page-within {A} row p room ds =
+    let late : A → Bool = λ d. behind p (placeIn (row d)) in
+    omega (arith, length-take room (keep late ds), kept-fewer late ds)
 
 -- ---- rows
 

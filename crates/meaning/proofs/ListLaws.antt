@@ -1,5 +1,5 @@
 -- Laws of the words about lists, and of the order of places.
-use Prim.Native.Nat.{ℕ, _≤_, _<_}
+use Prim.Native.Nat.{ℕ, suc, _≤_, _<_}
 use native.Mathlib.Omega.{arith}
 use native.Mathlib.Nat.{not-suc-le-zero}
 use mathlib.Core.Path.{_≡_, refl, sym, ap, ap₂, _∙_}
@@ -72,6 +72,15 @@ module _ {A : Type 0} (P : A → Bool) where
   unfolding keep
   keep-all [] h = refl
   keep-all (x ∷ l) h = rw (h x (List·Memᴰ·head refl), keep-all l (λ y m. h y (List·Memᴰ·tail m)))
+
+pub kept-fewer : {A : Type 0} (P : A → Bool) (l : List A) → length (keep P l) ≤ length l
+unfolding keep
+kept-fewer P [] = omega arith
+kept-fewer P (x ∷ l) = go (P x) (kept-fewer P l)
+  where
+    go : (b : Bool) → length (keep P l) ≤ length l → length (cond b (x ∷ keep P l) (keep P l)) ≤ suc (length l)
+    go true h = omega arith
+    go false h = omega arith
 
 -- ---- the order of places
 

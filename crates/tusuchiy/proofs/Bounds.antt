@@ -1,11 +1,11 @@
 -- Laws: the numbers of an answer are small.
-use Prim.Native.Nat.{ℕ, suc, _-_, _*_, _≤_}
+use Prim.Native.Nat.{ℕ, _-_, _*_, _≤_}
 use mathlib.Core.Path.{_≡_, refl, sym, ap, _∙_}
-use mathlib.Core.List.{List, [], _∷_, List·Memᴰ·head, List·Memᴰ·tail}
+use mathlib.Core.List.{List, List·Memᴰ·head, List·Memᴰ·tail}
 use mathlib.Core.Bool.{Bool, true, false, cond}
 use native.Mathlib.Omega.{arith}
 use lib.IntN.{ℤ}
-use lib.ListN.{length, getD, length-take}
+use lib.ListN.{length, getD}
 use lib.Dec.{ltb, eqb}
 use borrow.Author.Tests.{le-ltb, ltb-true, ltb-false}
 use Rattle.meaning.specs.declared.Refusal.{Refusal}
@@ -13,15 +13,15 @@ use Rattle.meaning.specs.declared.Verdict.the-variants.{Unreadable}
 use Rattle.meaning.specs.declared.Place.{Place}
 use Rattle.meaning.specs.declared.Answer.{Answer}
 use Rattle.meaning.specs.declared.Answer.the-variants.{Accepted, Findings, Refused}
-use Rattle.meaning.specs.Lists.{keep}
 use Rattle.meaning.specs.Bytes.{countLf}
 use Rattle.meaning.specs.Tables.{fileOf}
 use Rattle.meaning.specs.Refusals.{Claim, claim, rule2, claims, verdictOf, maxLines}
-use Rattle.meaning.specs.Findings.{Finding, after, page, roomOf}
+use Rattle.meaning.specs.Findings.{Finding, triple, page, roomOf}
 use Rattle.meaning.specs.Promises.{fileTests, speaksBefore, Sayable}
 use Rattle.meaning.proofs.FirstBroken.{first-broken, earlier-kept}
 use Rattle.meaning.proofs.Claims.{claim-of-file, claims-ordered}
 use Rattle.meaning.proofs.Sayable.{refusal-numbers}
+use Rattle.meaning.proofs.Handing.{page-within}
 use Rattle.text.proofs.Lines.{lines-all}
 use Rattle.listing.specs.declared.Sink.{Sink}
 use Rattle.listing.specs.Handing.{State, state, handedOut}
@@ -52,20 +52,6 @@ module _ (files : List (List ℕ)) (rooms : List ℕ) (r : Refusal) (e : verdict
   pub small-refusal : length files ≤ 6 → Small (Refused r)
   small-refusal h = (said .highest, (omega (arith, said .file .1), (small-line, said .column)))
 
-kept-fewer : {A : Type 0} (P : A → Bool) (l : List A) → length (keep P l) ≤ length l
-unfolding keep
-kept-fewer P [] = omega arith
-kept-fewer P (x ∷ l) = go (P x) (kept-fewer P l)
-  where
-    go : (b : Bool) → length (keep P l) ≤ length l → length (cond b (x ∷ keep P l) (keep P l)) ≤ suc (length l)
-    go true h = omega arith
-    go false h = omega arith
-
--- what is written is no more than there is
-pub page-within : (p : Place) (room : ℕ) (ds : List Finding) → length (page p room ds) ≤ length ds
-unfolding page
-page-within p room ds = omega (arith, length-take room (keep (after p) ds), kept-fewer (after p) ds)
-
 pub small-findings :
     (p : Place) (ds : List Finding) (lent list : List ℤ) (k : Sink) (r : Answer)
     → state list k ≡ handedOut p ds lent
@@ -75,7 +61,7 @@ pub small-findings :
 small-findings p ds lent list k r g h e =
     let n : k .written ≡ length (page p (roomOf lent) ds) = ap (λ (z : State). z .written) g in
     let m : k .total ≡ length ds = ap (λ (z : State). z .total) g in
-    rw e (go (eqb (k .total) 0) (omega (arith, page-within p (roomOf lent) ds)))
+    rw e (go (eqb (k .total) 0) (omega (arith, page-within triple p (roomOf lent) ds)))
   where
     go : (b : Bool) → k .written ≤ 18 * maxLines → Small (cond b Accepted (Findings (k .written) (k .total)))
     go true w = tt

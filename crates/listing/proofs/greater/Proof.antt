@@ -2,7 +2,7 @@
 use mir.Syntax.{w32}
 use mir.ValLaws.{toZ-ofZ}
 use Rattle.num.proofs.Laws.{less-is}
-use Rattle.meaning.specs.Findings.{above}
+use Rattle.meaning.specs.Pages.{above}
 use Rattle.listing.proofs.greater.Statement.{statement}
 use Rattle.listing.proofs.greater.Tie as tie
 
