@@ -1,1 +1,3 @@
 -- Laws of the list of faults.
+pub mod LastLf
+pub mod OneFault
