@@ -1,3 +1,5 @@
 -- Laws of the list of faults.
 pub mod LastLf
 pub mod OneFault
+pub mod Places
+pub mod Exactly
