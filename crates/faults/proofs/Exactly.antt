@@ -7,7 +7,7 @@ use mathlib.Core.Logic.{_↔_, _⊎_, inl, inr, ⊎-elim}
 use mathlib.Core.Bool.{Bool, true, false, cond, not}
 use mathlib.Core.List.{List, [], _∷_, _++_, List·Memᴰ}
 use lib.ListN.{length, getD}
-use borrow.Author.Tests.{ne-eqb}
+use borrow.Author.Tests.{ne-eqb, not-true}
 use Rattle.meaning.specs.declared.Refusal.{Refusal}
 use Rattle.meaning.specs.declared.Verdict.{Verdict}
 use Rattle.meaning.specs.declared.Verdict.the-variants.{Readable, Unreadable}
@@ -122,10 +122,6 @@ module _ (files : List (List ℕ)) (d : Refusal) where
       whole (long n h) = absurd (omega (arith, ap length none))
       whole (many n h) = absurd (omega (arith, ap countLf none))
       whole (unclosed n h) = (n, not-true (mayLack files (d .file)) (rw none at h))
-        where
-          not-true : (b : Bool) → not b ≡ true → b ≡ false
-          not-true true e = both false e refl
-          not-true false e = refl
 
       line : OnText files d → (d .number ≡ 4) × (mayLack files (d .file) ≡ false)
       line t = let z : length (textsOf []) ≡ 0 = ap length texts-none in absurd (omega (arith, t .judged .from, t .judged .to, ap (λ (s : List ℕ). length (textsOf s)) none))

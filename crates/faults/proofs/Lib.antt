@@ -3,3 +3,4 @@ pub mod LastLf
 pub mod OneFault
 pub mod Places
 pub mod Exactly
+pub mod Rises

@@ -59,7 +59,7 @@ InFile f d = d .file ≡ f
 at-file : (f n : ℕ) (ts : List Test) → Each (InFile f) (faultAt f n ts)
 at-file f n ts d m = fault-here f n ts d m .file
 
-lines-file : (f : ℕ) (ts : List (List ℕ)) → Each (InFile f) (lineFaults f ts)
+pub lines-file : (f : ℕ) (ts : List (List ℕ)) → Each (InFile f) (lineFaults f ts)
 lines-file f ts d m =
     let t = along-in [] (λ k l. faultAt f k (testsAt f ts k l)) 1 ts d (rw (lines-along f ts) at m) in
     at-file f (t .number) _ d (t .here)
@@ -82,7 +82,7 @@ file-file files f s =
 abbrev pub wholly : ℕ → ℕ → Refusal
 wholly n f = record { number = n; file = f; line = 0; column = 0 }
 
-lone-exactly : (f n : ℕ) (b : Bool) (d : Refusal) → List·Memᴰ d (faultAt f 0 (test n b ∷ [])) ↔ (d ≡ wholly n f) × (b ≡ true)
+pub lone-exactly : (f n : ℕ) (b : Bool) (d : Refusal) → List·Memᴰ d (faultAt f 0 (test n b ∷ [])) ↔ (d ≡ wholly n f) × (b ≡ true)
 unfolding faultAt onLine speaks
 lone-exactly f n true d = (λ m. (List·Memᴰ·eq-of-singleton m, refl), λ e. List·Memᴰ·head (e .0))
 lone-exactly f n false d = (λ m. absurd (List·Memᴰ·not-nil m), λ e. both false (e .1) refl)
