@@ -4,3 +4,4 @@ pub mod OneFault
 pub mod Places
 pub mod Exactly
 pub mod Rises
+pub mod Numbers
