@@ -1,11 +1,11 @@
 -- A fault is in the list exactly when the words say so; a line has one at most; an empty file has 4 and nothing else.
-use Prim.Native.Nat.{ℕ, _-_, _≤_, _<_}
+use Prim.Native.Nat.{ℕ, _-_, _≤_}
 use native.Mathlib.Omega.{arith}
 use native.Mathlib.Decide.{ℕ-discrete}
 use mathlib.Core.Path.{_≡_, refl, sym, ap, subst}
 use mathlib.Core.Logic.{_↔_, _⊎_, inl, inr, ⊎-elim}
-use mathlib.Core.Bool.{Bool, true, false, cond, not}
-use mathlib.Core.List.{List, [], _∷_, _++_, List·Memᴰ}
+use mathlib.Core.Bool.{false}
+use mathlib.Core.List.{List, [], List·Memᴰ}
 use lib.ListN.{length, getD}
 use borrow.Author.Tests.{ne-eqb, not-true}
 use Rattle.meaning.specs.declared.Refusal.{Refusal}
@@ -14,12 +14,12 @@ use Rattle.meaning.specs.declared.Verdict.the-variants.{Readable, Unreadable}
 use Rattle.meaning.specs.Lists.{empty}
 use Rattle.meaning.specs.Bytes.{countLf}
 use Rattle.meaning.specs.Tables.{fileOf}
-use Rattle.meaning.specs.Refusals.{Claim, onLine, maxBytes, maxLines, mayLack, rule4, headTests, speaks}
+use Rattle.meaning.specs.Refusals.{Claim, onLine, mayLack, rule4, headTests, speaks}
 use Rattle.meaning.specs.Promises.{FirstBroken, NoneBroken, SomeBroken}
 use Rattle.meaning.proofs.ListLaws.{both}
 use Rattle.meaning.proofs.FirstBroken.{spoken-first, silent-none, first-unique}
 use Rattle.faults.specs.List.{textsOf, testsUnder, headSaid, faultsOf}
-use Rattle.faults.specs.Promises.{bytesAt, textsAt, headAt, textAt, headClaims, WholeRule, long, many, unclosed, OfWhole, OfJudged, OfHeader, OfLine, OfText, Fault, of-whole, of-header, of-line, of-text, FaultOf}
+use Rattle.faults.specs.Promises.{bytesAt, headAt, textAt, headClaims, WholeRule, long, many, unclosed, OfWhole, OfHeader, OfLine, OfText, Fault, of-whole, of-header, of-line, of-text, FaultOf}
 use Rattle.faults.proofs.LastLf.{texts-none}
 use Rattle.faults.proofs.OneFault.{claimed, first-among}
 use Rattle.faults.proofs.Places.{testsAt, claimsAt, OnText, place-exactly}

@@ -1,9 +1,9 @@
 -- Laws of the bytes after the last LF, and of the lines that a file has with them.
-use Prim.Native.Nat.{ℕ, suc, _+_, _-_, _≤_, _<_}
+use Prim.Native.Nat.{ℕ, suc, _+_, _-_, _≤_}
 use native.Mathlib.Omega.{arith}
 use native.Mathlib.Numerals.{unary-clauses}
 use mathlib.Core.Path.{_≡_, refl, ap, _∙_}
-use mathlib.Core.Logic.{_⊎_, inl, inr, ⊎-elim}
+use mathlib.Core.Logic.{_⊎_, inl, inr}
 use mathlib.Core.Bool.{Bool, true, false, cond, not}
 use mathlib.Core.List.{List, [], _∷_, _++_, append-nil, map}
 use lib.ListN.{length, getD, take, drop, length-append, length-drop, length-map, drop-of-length-le}
@@ -13,7 +13,6 @@ use borrow.Author.Tests.{eqb-true, eqb-false, ne-eqb, ltb-true, ltb-false, not-f
 use Rattle.meaning.specs.Lists.{same, empty}
 use Rattle.meaning.specs.Bytes.{Line, leadingMark, startOf, countLf, cuts, linesFrom, linesOf}
 use Rattle.meaning.specs.Refusals.{mayLack, ended, rule4}
-use Rattle.meaning.proofs.ListLaws.{nothing}
 use Rattle.meaning.proofs.Records.{count-some}
 use Rattle.text.proofs.Lines.{lines-all}
 use Rattle.faults.specs.List.{afterLf, unended, textsFrom, textsOf}

@@ -1,7 +1,9 @@
--- Laws of the list of faults.
+-- Laws of the list of faults, a file for each promise; last, that all of them hold.
 pub mod LastLf
 pub mod OneFault
 pub mod Places
 pub mod Exactly
 pub mod Rises
 pub mod Numbers
+pub mod Verdict
+pub mod AtOnce

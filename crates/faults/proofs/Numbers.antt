@@ -1,24 +1,23 @@
 -- What the numbers of a fault can be.
-use Prim.Native.Nat.{ℕ, zero, suc, _+_, _≤_, _<_}
+use Prim.Native.Nat.{ℕ, zero, suc, _≤_, _<_}
 use native.Mathlib.Omega.{arith}
-use mathlib.Core.Path.{_≡_, refl, sym, ap, subst}
-use mathlib.Core.Bool.{Bool, true, false, _&&_}
-use mathlib.Core.List.{List, [], _∷_, _++_, List·Memᴰ, List·Memᴰ·head, List·Memᴰ·tail, List·Memᴰ·not-nil}
+use mathlib.Core.Path.{_≡_, refl, ap}
+use mathlib.Core.Bool.{Bool, false, _&&_}
+use mathlib.Core.List.{List, [], List·Memᴰ·head, List·Memᴰ·tail, List·Memᴰ·not-nil}
 use lib.ListN.{length, getD}
-use lib.Dec.{T, leb, ltb, eqb}
+use lib.Dec.{T, leb, eqb}
 use borrow.Author.Tests.{leb-true, ltb-false, eqb-true}
 use Rattle.meaning.specs.declared.Refusal.{Refusal}
-use Rattle.meaning.specs.Bytes.{countLf, fields, values}
+use Rattle.meaning.specs.Bytes.{fields, values}
 use Rattle.meaning.specs.Columns.{places}
-use Rattle.meaning.specs.Refusals.{Test, test, testAt, Claim, claimOf, onLine, maxLines, rule7, rule8, rule11, rule12, rule13, textTests, headTests, valueTests, lineTests, refusal}
+use Rattle.meaning.specs.Refusals.{Test, test, claimOf, onLine, rule7, rule11, rule12, rule13, textTests, headTests, valueTests, lineTests, refusal}
 use Rattle.meaning.specs.Promises.{Each, testOf, noClaim, FirstBroken, NoneBroken}
 use Rattle.meaning.proofs.Computed.{all, mem-all}
 use Rattle.meaning.proofs.ListLaws.{and-both}
 use Rattle.meaning.proofs.Laws.{each-cons, each-append}
-use Rattle.meaning.proofs.Lines.{OnLine, line-of}
 use Rattle.meaning.proofs.Columns.{values-count, rule8-within, leftmost-within}
-use Rattle.faults.specs.List.{textsOf, faultsOf}
-use Rattle.faults.specs.Promises.{bytesAt, textsAt, headAt, textAt, headClaims, WholeRule, long, many, unclosed, OfWhole, OfJudged, OfHeader, OfLine, OfText, Fault, of-whole, of-header, of-line, of-text, FaultOf, Nameable}
+use Rattle.faults.specs.List.{faultsOf}
+use Rattle.faults.specs.Promises.{bytesAt, headAt, textAt, WholeRule, long, many, unclosed, OfWhole, OfJudged, Fault, of-whole, of-header, of-line, of-text, Nameable}
 use Rattle.faults.proofs.LastLf.{texts-few}
 use Rattle.faults.proofs.OneFault.{claimed, first-here}
 use Rattle.faults.proofs.Exactly.{faults-exactly}

@@ -1,15 +1,15 @@
 -- Laws of the fault of one place: it is the first of the tests that is broken, and it stands there.
 use Prim.Native.Nat.{ℕ}
 use mathlib.Core.Path.{_≡_, refl, sym, ap}
-use mathlib.Core.Logic.{_↔_, _⊎_, inl, inr}
-use mathlib.Core.Bool.{true, false}
-use mathlib.Core.List.{List, [], _∷_, _++_, List·Memᴰ, List·Memᴰ·head, List·Memᴰ·not-nil, List·Memᴰ·eq-of-singleton, Memᴰ·cast}
+use mathlib.Core.Logic.{_↔_}
+use mathlib.Core.Bool.{true}
+use mathlib.Core.List.{List, List·Memᴰ, List·Memᴰ·head, List·Memᴰ·not-nil, List·Memᴰ·eq-of-singleton, Memᴰ·cast}
 use lib.ListN.{getD}
 use Rattle.meaning.specs.declared.Refusal.{Refusal}
 use Rattle.meaning.specs.declared.Verdict.{Verdict}
 use Rattle.meaning.specs.declared.Verdict.the-variants.{Readable, Unreadable}
-use Rattle.meaning.specs.Refusals.{Test, Claim, onLine, refusal, speaks}
-use Rattle.meaning.specs.Promises.{Ordered, testOf, noClaim, FirstBroken}
+use Rattle.meaning.specs.Refusals.{Test, Claim, onLine, speaks}
+use Rattle.meaning.specs.Promises.{Ordered, noClaim, FirstBroken}
 use Rattle.meaning.proofs.Laws.{getD-mem}
 use Rattle.meaning.proofs.Lines.{OnLine, line-in}
 use Rattle.meaning.proofs.FirstBroken.{spoken-first}
