@@ -1,4 +1,4 @@
--- Laws of the list of faults, a file for each promise; last, that all of them hold.
+-- Laws of the list of faults, a file for each promise; that all of them hold; then the worked cases.
 pub mod LastLf
 pub mod OneFault
 pub mod Places
@@ -7,3 +7,4 @@ pub mod Rises
 pub mod Numbers
 pub mod Verdict
 pub mod AtOnce
+pub mod Cases
