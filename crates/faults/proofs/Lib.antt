@@ -7,4 +7,5 @@ pub mod Rises
 pub mod Numbers
 pub mod Verdict
 pub mod AtOnce
+pub mod Told
 pub mod Cases

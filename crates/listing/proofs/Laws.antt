@@ -22,7 +22,7 @@ use Rattle.meaning.proofs.Handing.{Kind, rowed-append, rowed-length, handed-lon
 use Rattle.meaning.proofs.Pages.{findings-kind}
 use Rattle.rows.specs.Cells.{putAt}
 use Rattle.rows.proofs.Records.{laid-more}
-use Rattle.listing.specs.Handing.{State, added, noted, noting, lentOnly, handedIn, handedOut}
+use Rattle.listing.specs.Handing.{State, added, adding, noted, noting, lentOnly, handedIn, handedOut}
 
 -- ---- lists
 
@@ -153,9 +153,28 @@ module _ {A : Type 0} {row : A → List ℤ} {width : ℕ} {less : A → A → B
       go true true e h =
           added-in p (row d) (handedIn row width p ds lent) e (rw room-same h) ∙ page-grown (page-in row p room ds d e (ltb-true _ _ h))
 
+-- entries in two parts
+pub adding-append : {A : Type 0} (row : A → List ℤ) (p : Place) (ds es : List A) (s : State) → adding row p (ds ++ es) s ≡ adding row p es (adding row p ds s)
+unfolding adding
+adding-append row p [] es s = refl
+adding-append row p (d ∷ ds) es s = adding-append row p ds es (added p (row d) s)
+
 pub handed-none : {A : Type 0} (row : A → List ℤ) (width : ℕ) (p : Place) (lent : List ℤ) → lentOnly lent ≡ handedIn row width p [] lent
 unfolding handedOf pageOf keep rowed flat laid
 handed-none row width p lent = rw take-nil
+
+-- all entries added, from the list as lent: exactly what is to be handed out
+module _ {A : Type 0} {row : A → List ℤ} {width : ℕ} {less : A → A → Bool} (k : Kind row width less) (p : Place) (lent : List ℤ) where
+  adding-more : (ds es : List A) → adding row p es (handedIn row width p ds lent) ≡ handedIn row width p (ds ++ es) lent
+  unfolding adding
+  adding-more ds [] = rw append-nil
+  adding-more ds (e ∷ es) =
+      ap (adding row p es) (added-more k p lent ds e)
+      ∙ adding-more (ds ++ (e ∷ [])) es
+      ∙ ap (λ (l : List A). handedIn row width p l lent) (append-assoc ds (e ∷ []) es)
+
+  pub adding-all : (ds : List A) → adding row p ds (lentOnly lent) ≡ handedIn row width p ds lent
+  adding-all ds = ap (adding row p ds) (handed-none row width p lent) ∙ adding-more [] ds
 
 -- ---- findings
 

@@ -29,6 +29,11 @@ added p e s =
     (record { out = putAt (s .out) (s .written * length e) e; written = s .written + 1; total = s .total + 1 })
     (record { out = s .out; written = s .written; total = s .total + 1 })
 
+-- entries one after the other
+unfoldable pub adding : {A : Type 0} → (A → List ℤ) → Place → List A → State → State
+adding row p [] s = s
+adding row p (d ∷ r) s = adding row p r (added p (row d) s)
+
 -- one claim more: where it is broken, a finding
 unfoldable pub noted : Place → Claim → State → State
 noted p c s = cond (c .broken) (added p (triple (finding (c .file) (c .line) (c .number))) s) s

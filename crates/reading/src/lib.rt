@@ -149,9 +149,9 @@ fn is_long(c: Column, n: usize) -> bool
 }
 
 // A broken rule, and the column in which it is broken, 0 where it names none. Rule 0: none is broken.
-struct Fault {
-    rule: usize,
-    column: usize,
+pub struct Fault {
+    pub rule: usize,
+    pub column: usize,
 }
 
 // The first of rules 11 to 13 that the value of a raw field breaks under a known column that stands in column p; an absent one breaks none.
@@ -232,7 +232,7 @@ fn row_fault(f: usize, at: [usize; 10], l: &[u8]) -> Fault
 }
 
 // The first of rules 5, 14, 6 and 7 that a line breaks, by what a walk along it told.
-fn text_rule(l: &[u8], m: Measured) -> usize
+pub fn text_rule(l: &[u8], m: Measured) -> usize
     requires { ⌜ (m .good ≡ good (now l)) × (m .fields ≡ length (fields (now l))) ⌝ }
     ensures { λ r. ⌜ fault r 0 ≡ first (textTests (now (l .entry))) ⌝ }
 {
@@ -252,7 +252,7 @@ fn text_rule(l: &[u8], m: Measured) -> usize
 }
 
 // The first rule that a header breaks, and its column.
-fn header_fault(f: usize, c: Columns, h: &[u8]) -> Fault
+pub fn header_fault(f: usize, c: Columns, h: &[u8]) -> Fault
     requires { ⌜ (f < 7) × (c .at ≡ placesOf f (values (now h))) ⌝ }
     ensures { λ r. ⌜ r ≡ first (headTests f (now (h .entry))) ⌝ }
 {
@@ -271,7 +271,7 @@ fn header_fault(f: usize, c: Columns, h: &[u8]) -> Fault
 }
 
 // The first rule that a line after the header breaks, and its column.
-fn line_fault(f: usize, c: Columns, l: &[u8]) -> Fault
+pub fn line_fault(f: usize, c: Columns, l: &[u8]) -> Fault
     requires { ⌜ f < 7 ⌝ }
     ensures { λ r. ⌜ r ≡ first (lineTests f (c .at) (c .count) (now (l .entry))) ⌝ }
 {
@@ -382,7 +382,7 @@ fn is_unended(f: usize, s: &[u8], dated: bool) -> bool
 }
 
 // Which of rules 1 to 4 a file breaks, with its table's length.
-fn whole_of(f: usize, s: &[u8], room: usize, dated: bool) -> [bool; 4]
+pub fn whole_of(f: usize, s: &[u8], room: usize, dated: bool) -> [bool; 4]
     requires { ⌜ (0 < f) × (f < 7) ⌝ }
     ensures { λ r. ⌜ ((files : List (List ℕ)) → dated ≡ not (empty (fileOf files 6)) → r ≡ wholeOf files f (now (s .entry)) room) ⌝ }
 {
