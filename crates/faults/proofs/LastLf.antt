@@ -40,6 +40,7 @@ ends-cons b [] alone e = alone refl
 ends-cons b (c ∷ front) alone (inl e) = let z : suc (length front) ≡ 0 = ap length e in absurd (omega arith)
 ends-cons b (c ∷ front) alone (inr e) = simp unary-clauses (simp unary-clauses at e)
 
+-- every list of bytes is so
 parted : (s : List ℕ) → Parted s
 unfolding afterLf countLf
 parted [] = record { front = []; last = record { whole = refl; none = refl; ends = inl refl } }
@@ -117,6 +118,7 @@ pub texts-none : textsOf [] ≡ []
 unfolding textsOf textsFrom linesFrom startOf same leadingMark cuts unended empty afterLf
 texts-none = refl
 
+-- at most one line is unended
 unended-few : (r : List ℕ) → length (unended r) ≤ 1
 unfolding unended
 unended-few r = go (empty (afterLf r))
