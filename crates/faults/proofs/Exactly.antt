@@ -35,6 +35,7 @@ pub none-some : {A : Type 0} (cs : List Claim) → NoneBroken cs → SomeBroken 
 none-some cs none some = both (some .which .broken) (some .broken) (none (some .which) (some .among))
 
 module _ (files : List (List ℕ)) (f : ℕ) where
+  -- the texts of a file's lines, and of its header
   abbrev textsIn : List (List ℕ)
   textsIn = textsOf (fileOf files f)
 
@@ -74,19 +75,21 @@ module _ (files : List (List ℕ)) (d : Refusal) where
           let low : 2 ≤ d .line = omega (arith, e, t .judged .from) in
           later low (headSaid (d .file) h) refl (rw (later-claims files (d .file) (d .line) low) at (t .first))
 
-  -- and back
+  -- and back, of the header
   header-first : OfHeader files d → OnText files d
   header-first t = record {
     judged = t .judged;
     first = subst (λ (n : ℕ). FirstBroken (claimsAt files (d .file) n) d) (sym (t .line)) (rw (first-claims files (d .file)) (t .first));
   }
 
+  -- of a line under a good header
   line-first : OfLine files d → OnText files d
   unfolding headSaid
   line-first t =
       let e : headSaid (d .file) (headAt files d) ≡ Readable = silent-none (headClaims files d) .1 (t .good) in
       record { judged = t .judged; first = rw (later-claims files (d .file) (d .line) (t .later), e) (t .first) }
 
+  -- of a line under a refused one
   text-first : OfText files d → OnText files d
   unfolding headSaid
   text-first t = record { judged = t .judged; first = rw (later-claims files (d .file) (d .line) (t .later)) (go (headSaid (d .file) (headAt files d)) refl) }

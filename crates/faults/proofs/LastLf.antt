@@ -13,6 +13,7 @@ use borrow.Author.Tests.{eqb-true, eqb-false, ne-eqb, ltb-true, ltb-false, not-f
 use Rattle.meaning.specs.Lists.{same, empty}
 use Rattle.meaning.specs.Bytes.{Line, leadingMark, startOf, countLf, cuts, linesFrom, linesOf}
 use Rattle.meaning.specs.Refusals.{mayLack, ended, rule4}
+use Rattle.meaning.proofs.ListLaws.{nothing}
 use Rattle.meaning.proofs.Records.{count-some}
 use Rattle.text.proofs.Lines.{lines-all}
 use Rattle.faults.specs.List.{afterLf, unended, textsFrom, textsOf}
@@ -40,6 +41,7 @@ ends-cons b [] alone e = alone refl
 ends-cons b (c ∷ front) alone (inl e) = let z : suc (length front) ≡ 0 = ap length e in absurd (omega arith)
 ends-cons b (c ∷ front) alone (inr e) = simp unary-clauses (simp unary-clauses at e)
 
+-- every list of bytes is so
 parted : (s : List ℕ) → Parted s
 unfolding afterLf countLf
 parted [] = record { front = []; last = record { whole = refl; none = refl; ends = inl refl } }
@@ -98,10 +100,17 @@ after-from s at e = go (ltb at (length s)) refl
 abbrev pub texts : List Line → List (List ℕ)
 texts ls = map (λ l. l .text) ls
 
--- no line is unended where no byte is left
-texts-ended : (s : List ℕ) → afterLf (drop (startOf s) s) ≡ [] → textsOf s ≡ texts (linesOf s)
+-- Where no byte is left after the last LF, a file's lines are those that end with LF.
+pub texts-ended : (s : List ℕ) → afterLf (drop (startOf s) s) ≡ [] → textsOf s ≡ texts (linesOf s)
 unfolding textsOf textsFrom linesOf unended empty
 texts-ended s e = rw (e, append-nil)
+
+-- Where some are left, they are one line more, the last, as they stand.
+pub texts-unended : (s : List ℕ) → (afterLf (drop (startOf s) s) ≡ [] → ⊥) → textsOf s ≡ texts (linesOf s) ++ (afterLf (drop (startOf s) s) ∷ [])
+unfolding textsOf textsFrom linesOf unended empty
+texts-unended s some =
+    let left = afterLf (drop (startOf s) s) in
+    rw (ne-eqb (length left) 0 (λ e. some (nothing left (omega arith))))
 
 -- A file that keeps rule 4 has just the lines that end with LF.
 pub texts-kept : (files : List (List ℕ)) (f : ℕ) (s : List ℕ) → rule4 files f s 0 ≡ false → textsOf s ≡ texts (linesOf s)
@@ -117,6 +126,7 @@ pub texts-none : textsOf [] ≡ []
 unfolding textsOf textsFrom linesFrom startOf same leadingMark cuts unended empty afterLf
 texts-none = refl
 
+-- at most one line is unended
 unended-few : (r : List ℕ) → length (unended r) ≤ 1
 unfolding unended
 unended-few r = go (empty (afterLf r))

@@ -28,6 +28,7 @@ use Rattle.faults.proofs.Exactly.{faults-exactly}
 abbrev Few : Test → Type 0
 Few t = t .column ≤ 32
 
+-- no test at all
 none-few : Each Few []
 none-few t m = absurd (List·Memᴰ·not-nil m)
 
@@ -74,6 +75,7 @@ good-few f h none = ltb-false 32 (length (fields h)) (none (claimOf f 1 (test 7 
 abbrev ofLine : Test → Bool
 ofLine t = leb 5 (t .number) && leb (t .number) 14
 
+-- the rules of a header, of a line, and of a line's text are such
 head-numbers : (f : ℕ) (h : List ℕ) → T (all ofLine (headTests f h))
 unfolding headTests textTests
 head-numbers f h = tt
@@ -126,6 +128,7 @@ module _ (files : List (List ℕ)) (d : Refusal) (from : 1 ≤ d .file) (to : d 
         column = few;
       }
 
+  -- of any fault
   name-fault : Fault files d → Nameable files d
   name-fault (of-whole w) = name-whole w
   name-fault (of-header t) = name-line (t .judged) 1 _ (head-numbers (d .file) (headAt files d)) (t .first) (head-few (d .file) (headAt files d) d (t .first))

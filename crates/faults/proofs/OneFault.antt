@@ -1,5 +1,5 @@
--- Laws of the fault of one place: it is the first of the tests that is broken, and it stands there.
-use Prim.Native.Nat.{ℕ}
+-- Laws of one fault: it is the first of the tests of its place that is broken, and it stands there; and of two, which comes first.
+use Prim.Native.Nat.{ℕ, _<_}
 use mathlib.Core.Path.{_≡_, refl, sym, ap}
 use mathlib.Core.Logic.{_↔_}
 use mathlib.Core.Bool.{true}
@@ -11,7 +11,7 @@ use Rattle.meaning.specs.declared.Verdict.the-variants.{Readable, Unreadable}
 use Rattle.meaning.specs.Refusals.{Test, Claim, onLine, speaks}
 use Rattle.meaning.specs.Promises.{Ordered, noClaim, FirstBroken}
 use Rattle.meaning.proofs.Laws.{getD-mem}
-use Rattle.meaning.proofs.Lines.{OnLine, line-in}
+use Rattle.meaning.proofs.Lines.{OnLine, line-in, rank, rank-file, rank-line, rank-turn, byNumber}
 use Rattle.meaning.proofs.FirstBroken.{spoken-first}
 use Rattle.faults.specs.List.{said, faultAt}
 use Rattle.faults.specs.Promises.{faultBefore}
@@ -19,6 +19,20 @@ use Rattle.faults.specs.Promises.{faultBefore}
 -- the broken claim that a fault is
 abbrev pub claimed : Refusal → Claim
 claimed d = record { number = d .number; file = d .file; line = d .line; column = d .column; broken = true }
+
+-- faults come in the order of their claims by file, line, number
+module _ (d e : Refusal) where
+  pub before-file : d .file < e .file → faultBefore d e ≡ true
+  unfolding faultBefore rank
+  before-file h = rank-file byNumber (claimed d) (claimed e) h
+
+  pub before-line : d .file ≡ e .file → d .line < e .line → faultBefore d e ≡ true
+  unfolding faultBefore rank
+  before-line f h = rank-line byNumber (claimed d) (claimed e) f h
+
+  pub before-number : d .file ≡ e .file → d .line ≡ e .line → d .number < e .number → faultBefore d e ≡ true
+  unfolding faultBefore rank
+  before-number f n h = rank-turn byNumber (claimed d) (claimed e) f n h
 
 -- the first broken is one of the claims
 pub first-among : (cs : List Claim) (d : Refusal) → FirstBroken cs d → List·Memᴰ (claimed d) cs
@@ -48,6 +62,7 @@ module _ (f n : ℕ) (ts : List Test) where
   pub first-here : (d : Refusal) → FirstBroken (onLine f n ts) d → OnLine f n ts (claimed d)
   first-here d b = line-in f n ts (claimed d) (first-among (onLine f n ts) d b)
 
+  -- So has the fault of a place.
   pub fault-here : (d : Refusal) → List·Memᴰ d (faultAt f n ts) → OnLine f n ts (claimed d)
   fault-here d m = first-here d (fault-exactly d .0 m)
 

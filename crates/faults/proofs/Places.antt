@@ -1,5 +1,5 @@
 -- The faults of a feed place by place: files in order, lines in order, and what each place is put to.
-use Prim.Native.Nat.{ℕ, _+_, _-_, _≤_}
+use Prim.Native.Nat.{ℕ, _+_, _-_, _≤_, _<_}
 use native.Mathlib.Omega.{arith}
 use mathlib.Core.Path.{_≡_, refl, sym, ap, subst}
 use mathlib.Core.Logic.{_↔_, _⊎_, inl, inr, ⊎-elim}
@@ -12,12 +12,12 @@ use Rattle.meaning.specs.declared.Refusal.{Refusal}
 use Rattle.meaning.specs.Bytes.{countLf}
 use Rattle.meaning.specs.Tables.{fileOf}
 use Rattle.meaning.specs.Refusals.{Test, test, Claim, onLine, maxBytes, maxLines, rule1, rule2, rule4, headTests, speaks}
-use Rattle.meaning.specs.Promises.{Each, FirstBroken}
+use Rattle.meaning.specs.Promises.{Ordered, Each, FirstBroken}
 use Rattle.meaning.proofs.ListLaws.{both}
-use Rattle.meaning.proofs.Laws.{each-append, along, Along, along-in, along-of}
+use Rattle.meaning.proofs.Laws.{each-append, along, Along, along-in, along-of, along-ordered}
 use Rattle.faults.specs.List.{textsOf, faultAt, wholeFaults, testsUnder, headSaid, laterFaults, lineFaults, fileFaults, faultsFrom, faultsOf}
-use Rattle.faults.specs.Promises.{bytesAt, textsAt, WholeRule, long, many, unclosed, OfWhole, OfJudged}
-use Rattle.faults.proofs.OneFault.{fault-exactly, fault-here, first-here}
+use Rattle.faults.specs.Promises.{bytesAt, textsAt, WholeRule, long, many, unclosed, OfWhole, OfJudged, faultBefore}
+use Rattle.faults.proofs.OneFault.{before-line, fault-exactly, fault-here, fault-ordered, first-here}
 
 -- ---- lines and files in order
 
@@ -29,6 +29,7 @@ testsAt f ts n l = cond (eqb n 1) (headTests f l) (testsUnder (headSaid f (getD 
 unfoldable pub claimsAt : List (List ℕ) → ℕ → ℕ → List Claim
 claimsAt files f n = onLine f n (testsAt f (textsOf (fileOf files f)) n (getD (textsOf (fileOf files f)) (n - 1) []))
 
+-- the faults of the lines after the header, line by line
 later-along : (head : List ℕ → List Test) (f : ℕ) (h : List ℕ) (n : ℕ) (ls : List (List ℕ)) → 2 ≤ n
     → laterFaults f h n ls ≡ along (λ k l. faultAt f k (cond (eqb k 1) (head l) (testsUnder (headSaid f h) f h l))) n ls
 unfolding laterFaults along
@@ -37,32 +38,71 @@ later-along head f h n (l ∷ r) low =
     let ne : n ≡ 1 → ⊥ = λ e. omega arith in
     rw (ne-eqb n 1 ne, later-along head f h (n + 1) r (omega arith))
 
-pub lines-along : (f : ℕ) (ts : List (List ℕ)) → lineFaults f ts ≡ along (λ k l. faultAt f k (testsAt f ts k l)) 1 ts
+-- so are those of all lines
+lines-along : (f : ℕ) (ts : List (List ℕ)) → lineFaults f ts ≡ along (λ k l. faultAt f k (testsAt f ts k l)) 1 ts
 unfolding lineFaults along testsAt
 lines-along f [] = refl
 lines-along f (h ∷ r) = rw (later-along (headTests f) f h 2 r (omega arith))
 
+-- and those of files, file by file
 files-along : (files : List (List ℕ)) (f : ℕ) (ss : List (List ℕ)) → faultsFrom files f ss ≡ along (fileFaults files) f ss
 unfolding faultsFrom along
 files-along files f [] = refl
 files-along files f (s ∷ r) = rw (files-along files (f + 1) r)
 
+-- the list, file by file
 pub faults-along : (files : List (List ℕ)) → faultsOf files ≡ along (fileFaults files) 1 files
 unfolding faultsOf
 faults-along files = files-along files 1 files
 
+-- ---- lines
+
+-- a fault on one of these lines
+pub record OfTexts (f : ℕ) (ts : List (List ℕ)) (d : Refusal) : Type 0 where
+  pub file : d .file ≡ f
+  pub from : 1 ≤ d .line
+  pub to : d .line ≤ length ts
+  pub first : FirstBroken (onLine f (d .line) (testsAt f ts (d .line) (getD ts (d .line - 1) []))) d
+
+module _ (f : ℕ) (ts : List (List ℕ)) where
+  -- the fault of line k, whose text is l
+  abbrev byLine : ℕ → List ℕ → List Refusal
+  byLine k l = faultAt f k (testsAt f ts k l)
+
+  -- a fault of lines is the first of the tests of its line that is broken
+  pub texts-exactly : (d : Refusal) → List·Memᴰ d (lineFaults f ts) ↔ OfTexts f ts d
+  texts-exactly d = (λ m. there (along-in [] byLine 1 ts d (rw (lines-along f ts) at m)), λ t. rw (lines-along f ts) (along-of [] byLine 1 ts d (back t)))
+    where
+      there : Along [] byLine 1 ts d → OfTexts f ts d
+      there t =
+          let tests = testsAt f ts (t .number) (getD ts (t .number - 1) []) in
+          let b = fault-exactly f (t .number) tests d .0 (t .here) in
+          let u = first-here f (t .number) tests d b in
+          let e : d .line ≡ t .number = u .line in
+          record { file = u .file; from = omega arith; to = omega arith; first = subst (λ (n : ℕ). FirstBroken (onLine f n (testsAt f ts n (getD ts (n - 1) []))) d) (sym e) b }
+
+      back : OfTexts f ts d → Along [] byLine 1 ts d
+      back t = record { number = d .line; from = t .from; to = omega arith; here = fault-exactly f (d .line) (testsAt f ts (d .line) (getD ts (d .line - 1) [])) d .1 (t .first) }
+
+  -- the faults of lines rise
+  pub lines-rise : Ordered faultBefore (lineFaults f ts)
+  lines-rise = rw (lines-along f ts) (along-ordered [] byLine faultBefore (λ k l. fault-ordered f k (testsAt f ts k l)) apart 1 ts)
+    where
+      apart : (j k : ℕ) (b c : List ℕ) (d e : Refusal) → j < k → List·Memᴰ d (byLine j b) → List·Memᴰ e (byLine k c) → faultBefore d e ≡ true
+      apart j k b c d e h m n =
+          let u = fault-here f j (testsAt f ts j b) d m in
+          let v = fault-here f k (testsAt f ts k c) e n in
+          before-line d e (cc) (omega arith)
+
 -- ---- of which file
 
+-- a fault of file f
 abbrev pub InFile : ℕ → Refusal → Type 0
 InFile f d = d .file ≡ f
 
+-- so is the fault of a place there
 at-file : (f n : ℕ) (ts : List Test) → Each (InFile f) (faultAt f n ts)
 at-file f n ts d m = fault-here f n ts d m .file
-
-pub lines-file : (f : ℕ) (ts : List (List ℕ)) → Each (InFile f) (lineFaults f ts)
-lines-file f ts d m =
-    let t = along-in [] (λ k l. faultAt f k (testsAt f ts k l)) 1 ts d (rw (lines-along f ts) at m) in
-    at-file f (t .number) _ d (t .here)
 
 -- the faults of a file have its number
 pub file-file : (files : List (List ℕ)) (f : ℕ) (s : List ℕ) → Each (InFile f) (fileFaults files f s)
@@ -74,7 +114,7 @@ file-file files f s =
   where
     go : (t : Bool) → Each (InFile f) (cond t [] (lineFaults f (textsOf s)))
     go true = λ d m. absurd (List·Memᴰ·not-nil m)
-    go false = lines-file f (textsOf s)
+    go false = λ d m. texts-exactly f (textsOf s) d .0 m .file
 
 -- ---- of its own file
 
@@ -82,12 +122,14 @@ file-file files f s =
 abbrev pub wholly : ℕ → ℕ → Refusal
 wholly n f = record { number = n; file = f; line = 0; column = 0 }
 
+-- it is the fault where the rule is broken
 pub lone-exactly : (f n : ℕ) (b : Bool) (d : Refusal) → List·Memᴰ d (faultAt f 0 (test n b ∷ [])) ↔ (d ≡ wholly n f) × (b ≡ true)
 unfolding faultAt onLine speaks
 lone-exactly f n true d = (λ m. (List·Memᴰ·eq-of-singleton m, refl), λ e. List·Memᴰ·head (e .0))
 lone-exactly f n false d = (λ m. absurd (List·Memᴰ·not-nil m), λ e. both false (e .1) refl)
 
 module _ (files : List (List ℕ)) (d : Refusal) where
+  -- the faults of the whole file are those of rules 1, 2 and 4
   whole-in : List·Memᴰ d (wholeFaults files (d .file) (bytesAt files d)) → OfWhole files d
   unfolding wholeFaults rule1 rule2
   whole-in m =
@@ -105,6 +147,7 @@ module _ (files : List (List ℕ)) (d : Refusal) where
       of : (n : ℕ) → d ≡ wholly n (d .file) → (d .number ≡ n → WholeRule files d) → OfWhole files d
       of n e rule = record { line = ap (λ (x : Refusal). x .line) e; column = ap (λ (x : Refusal). x .column) e; rule = rule (ap (λ (x : Refusal). x .number) e) }
 
+  -- and those of rules 1, 2 and 4 are its faults
   whole-of : OfWhole files d → List·Memᴰ d (wholeFaults files (d .file) (bytesAt files d))
   unfolding wholeFaults rule1 rule2
   whole-of w = go (w .rule)
@@ -131,28 +174,17 @@ module _ (files : List (List ℕ)) (d : Refusal) where
     pub judged : OfJudged files d
     pub first : FirstBroken (claimsAt files (d .file) (d .line)) d
 
-  abbrev byLine : ℕ → List ℕ → List Refusal
-  byLine k l = faultAt (d .file) k (testsAt (d .file) (textsAt files d) k l)
+  -- a fault on a line of its own file, where the lines are judged
+  text-in : length (bytesAt files d) ≤ maxBytes → countLf (bytesAt files d) ≤ maxLines → List·Memᴰ d (lineFaults (d .file) (textsAt files d)) → OnText
+  unfolding claimsAt
+  text-in short few m =
+      let t = texts-exactly (d .file) (textsAt files d) d .0 m in
+      record { judged = record { short = short; few = few; from = t .from; to = t .to }; first = t .first }
 
-  module _ (short : length (bytesAt files d) ≤ maxBytes) (few : countLf (bytesAt files d) ≤ maxLines) where
-    text-in : List·Memᴰ d (lineFaults (d .file) (textsAt files d)) → OnText
-    unfolding claimsAt
-    text-in m =
-        let ts = textsAt files d in
-        let t = along-in [] byLine 1 ts d (rw (lines-along (d .file) ts) at m) in
-        let tests = testsAt (d .file) ts (t .number) (getD ts (t .number - 1) []) in
-        let b = fault-exactly (d .file) (t .number) tests d .0 (t .here) in
-        let e : d .line ≡ t .number = first-here (d .file) (t .number) tests d b .line in
-        record { judged = record { short = short; few = few; from = omega arith; to = omega arith }; first = subst (λ (n : ℕ). FirstBroken (claimsAt files (d .file) n) d) (sym e) b }
-
+  -- and back
   text-of : OnText → List·Memᴰ d (lineFaults (d .file) (textsAt files d))
   unfolding claimsAt
-  text-of t =
-      let ts = textsAt files d in
-      let j = t .judged in
-      let tests = testsAt (d .file) ts (d .line) (getD ts (d .line - 1) []) in
-      let k : Along [] byLine 1 ts d = record { number = d .line; from = j .from; to = omega arith; here = fault-exactly (d .file) (d .line) tests d .1 (t .first) } in
-      rw (lines-along (d .file) ts) (along-of [] byLine 1 ts d k)
+  text-of t = texts-exactly (d .file) (textsAt files d) d .1 (record { file = refl; from = t .judged .from; to = t .judged .to; first = t .first })
 
   -- a fault among those of its own file
   pub own-exactly : List·Memᴰ d (fileFaults files (d .file) (bytesAt files d)) ↔ (OfWhole files d ⊎ OnText)

@@ -36,15 +36,18 @@ use Rattle.faults.proofs.Exactly.{none-some, faults-exactly}
 -- ---- what a line is put to, by the lines that end with LF
 
 module _ (files : List (List ℕ)) (f : ℕ) (same : textsOf (fileOf files f) ≡ texts (linesOf (fileOf files f))) where
+  -- the lines that end with LF, and the text of line n
   abbrev lines : List Line
   lines = linesOf (fileOf files f)
 
   abbrev lineText : ℕ → List ℕ
   lineText n = getD (textsOf (fileOf files f)) (n - 1) []
 
+  -- there are as many texts as lines
   texts-count : length (textsOf (fileOf files f)) ≡ length lines
   texts-count = ap length same ∙ length-map lines (λ l. l .text)
 
+  -- and each is a line's
   text-at : (k : ℕ) → k < length lines → getD (textsOf (fileOf files f)) k [] ≡ getD lines k noLine .text
   text-at k h = rw same (getD-map-in (λ l. l .text) lines k noLine [] h)
 
@@ -53,6 +56,7 @@ module _ (files : List (List ℕ)) (f : ℕ) (same : textsOf (fileOf files f) �
   unfolding testsOn
   tests-first h = rw (text-at 0 (omega arith))
 
+  -- the field count of lines is their header's
   counted : (ls : List Line) → 1 ≤ length ls → fieldCount ls ≡ length (fields (getD ls 0 noLine .text))
   unfolding fieldCount
   counted [] h = absurd (omega arith)
@@ -69,9 +73,11 @@ module _ (files : List (List ℕ)) (f : ℕ) (same : textsOf (fileOf files f) �
 
 module _ (files : List (List ℕ)) (rooms : List ℕ) (count : length rooms ≡ length files) (none : NoneBroken (claims files rooms)) where
   module _ (f : ℕ) (from : 1 ≤ f) (to : f ≤ length files) where
+    -- rules 1 to 4 are kept
     whole : WholeKept files f (fileOf files f) (getD rooms (f - 1) 0)
     whole = whole-kept files rooms (readable-exactly files rooms .1 none) f from to (omega arith)
 
+    -- so that every line ends with LF
     same-texts : textsOf (fileOf files f) ≡ texts (linesOf (fileOf files f))
     unfolding rule4
     same-texts = texts-kept files f (fileOf files f) (whole .ended)
@@ -82,11 +88,13 @@ module _ (files : List (List ℕ)) (rooms : List ℕ) (count : length rooms ≡ 
         let u = line-in f n _ p m in
         none (claimOf f n (testOf p)) (claim-of-line files rooms (claimOf f n (testOf p)) first .1 (record { from = from; to = to; first = first; last = last; rule = u .rule }))
 
+    -- none of the header's
     quiet-head : 1 ≤ length (textsOf (fileOf files f)) → NoneBroken (onLine f 1 (headTests f (getD (textsOf (fileOf files f)) 0 [])))
     quiet-head h =
         let some : 1 ≤ length (linesOf (fileOf files f)) = omega (arith, texts-count files f same-texts) in
         rw (tests-first files f same-texts some) at (quiet 1 (omega arith) some)
 
+    -- nor of a later line's
     quiet-line : (n : ℕ) → 2 ≤ n → n ≤ length (textsOf (fileOf files f)) → NoneBroken (onLine f n (lineTests f (places f (values (lineText files f same-texts 1))) (length (fields (lineText files f same-texts 1))) (lineText files f same-texts n)))
     quiet-line n low high =
         let last : n ≤ length (linesOf (fileOf files f)) = omega (arith, texts-count files f same-texts) in
@@ -142,6 +150,7 @@ first-by-turn f n ts q up on broken earlier = record { at = k .index; inside = k
         let r : rank turn p q ≡ true = rw (k .here) at (in-order (rank turn) cs noClaim j (k .index) (line-ordered turn f n 0 11 ts up) h (k .inside)) in
         earlier (testOf p) (u .rule) (turn-less p q (u .file ∙ sym (on .file)) (u .line ∙ sym (on .line)) r)
 
+-- the tests of a header, and of a line, stand in their turns
 head-rising : (f : ℕ) (h : List ℕ) → rising turn 0 11 (headTests f h) ≡ true
 unfolding rising turn place lineOrder headTests textTests
 head-rising f h = refl
@@ -155,13 +164,16 @@ module _ (files : List (List ℕ)) (q : Claim) (t : LineClaim files q) (broken :
     (earlier : (m : ℕ) → 1 ≤ m → m ≤ length (linesOf (fileOf files (q .file))) → (u : Test)
     → List·Memᴰ u (testsOn (q .file) (linesOf (fileOf files (q .file))) m (getD (linesOf (fileOf files (q .file))) (m - 1) noLine))
     → Sooner m (turn (u .number)) (q .line) (turn (q .number)) → u .broken ≡ false) where
+  -- every line ends with LF
   spoken-texts : textsOf (fileOf files (q .file)) ≡ texts (linesOf (fileOf files (q .file)))
   unfolding rule4
   spoken-texts = texts-kept files (q .file) (fileOf files (q .file)) (whole .ended)
 
+  -- so that the lines are judged, the claim's among them
   spoken-judged : OfJudged files (refusal q)
   spoken-judged = record { short = whole .short; few = whole .few; from = t .first; to = omega (arith, t .last, texts-count files (q .file) spoken-texts) }
 
+  -- the claim is the first broken on its line, and its header is good where it is a later one
   spoken-fault : FaultOf files (refusal q)
   spoken-fault = record { from = t .from; to = t .to; fault = go (ℕ-discrete (q .line) 1) }
     where
@@ -202,6 +214,7 @@ module _ (files : List (List ℕ)) (tables : List (List ℤ)) (enough : LongEnou
   abbrev rooms : List ℕ
   rooms = map length tables
 
+  -- there is a table for each file
   rooms-count : length rooms ≡ length files
   rooms-count = length-map tables length ∙ enough .0
 
@@ -210,6 +223,7 @@ module _ (files : List (List ℕ)) (tables : List (List ℤ)) (enough : LongEnou
   roomy f from to = rw (getD-map-in length tables (f - 1) [] 0 (omega (arith, enough .0))) (enough .1 f from to)
 
   module _ (r : Refusal) (b : FirstBroken (claims files rooms) r) where
+    -- the claim that speaks
     abbrev first : Claim
     first = spoken files rooms r b
 
@@ -250,6 +264,7 @@ module _ (files : List (List ℕ)) (tables : List (List ℤ)) (enough : LongEnou
         high-of : (q : Claim) → refusal q ≡ r → 5 ≤ q .number
         high-of q e = let z : q .number ≡ first .number = ap (λ (x : Refusal). x .number) (e ∙ sym (b .spoken)) in omega (arith, line-number files first t .0)
 
+    -- so they are of its file
     whole-here : LineClaim files first → WholeKept files (first .file) (fileOf files (first .file)) (getD rooms (first .file - 1) 0)
     unfolding fileTests rule1 rule2 rule3
     whole-here t =
@@ -264,6 +279,7 @@ module _ (files : List (List ℕ)) (tables : List (List ℤ)) (enough : LongEnou
           ended = kept (test 4 (rule4 files f s room)) (List·Memᴰ·tail (List·Memᴰ·tail (List·Memᴰ·tail (List·Memᴰ·head refl))));
         }
 
+    -- a claim of a line is a fault
     first-line-fault : LineClaim files first → FaultOf files (refusal first)
     first-line-fault t = spoken-fault files first t (b .broken) (getD rooms (first .file - 1) 0) (whole-here t) (earlier files rooms r b t)
 

@@ -87,7 +87,7 @@ crAtEnd = has (routes "route_id,route_type\r\nR,3\r") (fault 2 0 4 0 ∷ fault 2
 -- ---- a refused header hides the values below it, the field count too, and nothing else
 
 abbrev pub header5 : Case
-header5 = has (routes "route_id,route_type\t\nR,x\nS,3\t\n") (fault 2 1 5 0 ∷ fault 2 3 5 0 ∷ [])
+header5 = has (routes "route_id,route_type,\t\nR,x,\nS,3,\t\n") (fault 2 1 5 0 ∷ fault 2 3 5 0 ∷ [])
 
 abbrev pub header14 : Case
 header14 = has (routes "route_id,route_type,é\n,3,\nS,é,\n") (fault 2 1 14 0 ∷ fault 2 3 14 0 ∷ [])
