@@ -25,7 +25,7 @@ use Rattle.faults.proofs.Exactly.{faults-exactly}
 -- ---- columns
 
 -- a test that names one of 32 columns, or none
-abbrev Few : Test → Type 0
+abbrev pub Few : Test → Type 0
 Few t = t .column ≤ 32
 
 -- no test at all
@@ -33,12 +33,12 @@ none-few : Each Few []
 none-few t m = absurd (List·Memᴰ·not-nil m)
 
 -- the tests that don't look at the header name no column
-text-few : (l : List ℕ) → Each Few (textTests l)
+pub text-few : (l : List ℕ) → Each Few (textTests l)
 unfolding textTests
 text-few l t m = let z = eqb-true (t .column) 0 (mem-all (λ u. eqb (u .column) 0) _ tt t m) in omega arith
 
 -- a header of at most 32 fields leaves the values of a line as many columns
-line-few : (f : ℕ) (h l : List ℕ) (count : ℕ) → length (fields h) ≤ 32 → Each Few (lineTests f (places f (values h)) count l)
+pub line-few : (f : ℕ) (h l : List ℕ) (count : ℕ) → length (fields h) ≤ 32 → Each Few (lineTests f (places f (values h)) count l)
 unfolding lineTests valueTests rule11 rule12 rule13
 line-few f h l count few =
     each-append Few (textTests l) _ (text-few l)
@@ -51,7 +51,7 @@ line-few f h l count few =
     within k = omega (arith, values-count h)
 
 -- a header of more than 32 fields is refused before its names are looked at
-head-few : (f : ℕ) (h : List ℕ) (d : Refusal) → FirstBroken (onLine f 1 (headTests f h)) d → d .column ≤ 32
+pub head-few : (f : ℕ) (h : List ℕ) (d : Refusal) → FirstBroken (onLine f 1 (headTests f h)) d → d .column ≤ 32
 unfolding onLine headTests textTests rule7
 head-few f h d b = let e : refusal (getD (onLine f 1 (headTests f h)) (b .at) noClaim) .column ≡ d .column = ap (λ (x : Refusal). x .column) (b .spoken) in omega (arith, go (b .at) (b .silent))
   where
@@ -65,26 +65,26 @@ head-few f h d b = let e : refusal (getD (onLine f 1 (headTests f h)) (b .at) no
     go (suc (suc (suc (suc (suc (suc k)))))) silent = omega arith
 
 -- a good header has at most 32 fields
-good-few : (f : ℕ) (h : List ℕ) → NoneBroken (onLine f 1 (headTests f h)) → length (fields h) ≤ 32
+pub good-few : (f : ℕ) (h : List ℕ) → NoneBroken (onLine f 1 (headTests f h)) → length (fields h) ≤ 32
 unfolding onLine headTests textTests rule7
 good-few f h none = ltb-false 32 (length (fields h)) (none (claimOf f 1 (test 7 (rule7 h))) (List·Memᴰ·tail (List·Memᴰ·tail (List·Memᴰ·tail (List·Memᴰ·head refl)))))
 
 -- ---- numbers
 
 -- a number of a line's rules
-abbrev ofLine : Test → Bool
+abbrev pub ofLine : Test → Bool
 ofLine t = leb 5 (t .number) && leb (t .number) 14
 
 -- the rules of a header, of a line, and of a line's text are such
-head-numbers : (f : ℕ) (h : List ℕ) → T (all ofLine (headTests f h))
+pub head-numbers : (f : ℕ) (h : List ℕ) → T (all ofLine (headTests f h))
 unfolding headTests textTests
 head-numbers f h = tt
 
-line-numbers : (f : ℕ) (ps : List ℕ) (count : ℕ) (l : List ℕ) → T (all ofLine (lineTests f ps count l))
+pub line-numbers : (f : ℕ) (ps : List ℕ) (count : ℕ) (l : List ℕ) → T (all ofLine (lineTests f ps count l))
 unfolding lineTests textTests valueTests
 line-numbers f ps count l = tt
 
-text-numbers : (l : List ℕ) → T (all ofLine (textTests l))
+pub text-numbers : (l : List ℕ) → T (all ofLine (textTests l))
 unfolding textTests
 text-numbers l = tt
 

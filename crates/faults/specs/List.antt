@@ -1,14 +1,14 @@
 -- The faults of a feed, from the same rules as the verdict. A fault is a refusal: its number, file, line and column.
 use Prim.Native.Nat.{ℕ, _+_}
 use mathlib.Core.List.{List, [], _∷_, _++_, map}
-use mathlib.Core.Bool.{Bool, cond, _||_}
+use mathlib.Core.Bool.{cond, _||_}
 use lib.ListN.{length, drop}
 use lib.Dec.{eqb}
 use Rattle.meaning.specs.declared.Refusal.{Refusal}
 use Rattle.meaning.specs.declared.Verdict.{Verdict}
 use Rattle.meaning.specs.declared.Verdict.the-variants.{Readable, Unreadable}
 use Rattle.meaning.specs.Lists.{empty}
-use Rattle.meaning.specs.Bytes.{Line, countLf, startOf, linesFrom, fields, values}
+use Rattle.meaning.specs.Bytes.{countLf, startOf, linesFrom, fields, values}
 use Rattle.meaning.specs.Columns.{places}
 use Rattle.meaning.specs.Refusals.{Test, test, onLine, rule1, rule2, rule4, textTests, headTests, lineTests, speaks}
 

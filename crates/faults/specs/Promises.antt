@@ -5,7 +5,7 @@ use mathlib.Core.Logic.{_↔_, _⊎_}
 use mathlib.Core.Bool.{Bool, true, false}
 use mathlib.Core.List.{List, [], _∷_, _++_, map, List·Memᴰ}
 use lib.IntN.{ℤ}
-use lib.ListN.{length, getD, take}
+use lib.ListN.{length, getD, take, drop}
 use Rattle.meaning.specs.declared.Refusal.{Refusal}
 use Rattle.meaning.specs.Bytes.{countLf, linesOf, startOf, fields, values}
 use Rattle.meaning.specs.Columns.{places}
@@ -23,6 +23,13 @@ pub record LastLf (s front rest : List ℕ) : Type 0 where
   pub whole : s ≡ front ++ rest
   pub none : countLf rest ≡ 0
   pub ends : (front ≡ []) ⊎ (getD front (length front - 1) 0 ≡ 10)
+
+-- the texts of a file's lines: those that an LF ends and, where bytes follow the last LF, these as a last one
+pub record Texts (s : List ℕ) : Type 0 where
+  pub ended : afterLf (drop (startOf s) s) ≡ [] → textsOf s ≡ map (λ l. l .text) (linesOf s)
+  pub unended :
+      (afterLf (drop (startOf s) s) ≡ [] → ⊥)
+      → textsOf s ≡ map (λ l. l .text) (linesOf s) ++ (afterLf (drop (startOf s) s) ∷ [])
 
 -- ---- one fault
 
@@ -113,7 +120,8 @@ pub record Nameable (files : List (List ℕ)) (d : Refusal) : Type 0 where
   pub column : d .column ≤ 32
 
 pub record AtOnce (files : List (List ℕ)) : Type 1 where
-  -- bytes after the last LF count as a last line: they are what the words say
+  -- bytes after the last LF count as a last line
+  pub texts : (s : List ℕ) → Texts s
   pub after-lf : (s : List ℕ) → LastLf s (take (length s - length (afterLf s)) s) (afterLf s)
   -- a fault is in the list exactly when the words say so
   pub exactly : (d : Refusal) → List·Memᴰ d (faultsOf files) ↔ FaultOf files d

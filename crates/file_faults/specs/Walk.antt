@@ -8,13 +8,14 @@ use lib.Dec.{ltb, eqb}
 use Rattle.meaning.specs.declared.Refusal.{Refusal}
 use Rattle.meaning.specs.declared.Verdict.{Verdict}
 use Rattle.meaning.specs.declared.Verdict.the-variants.{Readable, Unreadable}
-use Rattle.meaning.specs.Bytes.{bounds, part}
+use Rattle.meaning.specs.Bytes.{bounds, part, fields, values}
 use Rattle.meaning.specs.Refusals.{test}
 use Rattle.text.specs.declared.LineStep.{LineStep}
 use Rattle.text.specs.declared.LineStep.the-variants.{Line, Done}
 use Rattle.text.specs.Lines.{lineAt}
 use Rattle.reading.specs.declared.Fault.{Fault}
-use Rattle.faults.specs.List.{textsFrom, faultAt}
+use Rattle.columns.specs.Columns.{placesOf}
+use Rattle.faults.specs.List.{textsFrom, faultAt, headSaid}
 
 -- where no LF ends a line, the bytes from `at` to the file's end are one, if there are any
 abbrev pub orRest : List ℕ → ℕ → LineStep → LineStep
@@ -41,6 +42,17 @@ faultOf f n t = cond (eqb (t .rule) 0) [] (record { number = t .rule; file = f; 
 abbrev pub isGood : Verdict → Bool
 isGood Readable = true
 isGood (Unreadable r) = false
+
+-- what is told of a header with text h: whether it is good, in which columns its known names stand, and how many fields it has
+pub record Heads (f : ℕ) (h : List ℕ) (good : Bool) (at : List ℕ) (count : ℕ) : Type 0 where
+  pub said : good ≡ isGood (headSaid f h)
+  pub columns : at ≡ placesOf f (values h)
+  pub wide : count ≡ length (fields h)
+
+-- and that there is such a header
+pub record Header (f : ℕ) (good : Bool) (at : List ℕ) (count : ℕ) : Type 0 where
+  pub text : List ℕ
+  pub heads : Heads f text good at count
 
 -- rules 1, 2 and 4 of a whole file, by the marks of its rules 1 to 4
 unfoldable pub markedFaults : ℕ → List Bool → List Refusal

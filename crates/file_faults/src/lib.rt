@@ -9,9 +9,9 @@ ghost use Rattle.meaning.specs.Tables.{fileOf};
 ghost use Rattle.meaning.specs.Refusals.{maxBytes, test, textTests, lineTests};
 ghost use Rattle.reading.specs.Tests.{first};
 ghost use Rattle.listing.specs.Handing.{state, adding};
-ghost use Rattle.faults.specs.List.{textsFrom, textsOf, headSaid, laterFaults, lineFaults, fileFaults};
+ghost use Rattle.faults.specs.List.{textsFrom, textsOf, faultAt, headSaid, testsUnder, laterFaults, lineFaults, fileFaults};
 ghost use Rattle.faults.specs.Told.{quad};
-ghost use Rattle.file_faults.specs.Walk.{anyAt, faultOf, isGood, markedFaults};
+ghost use Rattle.file_faults.specs.Walk.{anyAt, faultOf, Heads, Header, markedFaults};
 use columns::Columns;
 use listing::Sink;
 use meaning::Place;
@@ -47,12 +47,7 @@ fn note_fault(out: &mut [i32], k: Sink, p: Place, file: usize, line: usize, t: F
     if t.rule == 0 {
         return k;
     }
-    let d = [
-        file as i32,
-        line as i32,
-        t.rule as i32,
-        t.column as i32,
-    ];
+    let d = [file as i32, line as i32, t.rule as i32, t.column as i32];
     listing::hand_out(out, k, p, &d)
 }
 
@@ -89,71 +84,21 @@ fn later_fault(f: usize, good: bool, c: Columns, l: &[u8]) -> Fault
     Fault { rule, column: 0 }
 }
 
-// The faults of the lines after the header h, from byte `from` on, counted from 2.
-fn list_later(
+// The fault of line n, after the header.
+fn list_line(
     f: usize,
     good: bool,
-    h: &[u8],
-    s: &[u8],
-    from: usize,
+    c: Columns,
+    l: &[u8],
+    n: usize,
     out: &mut [i32],
     k: Sink,
     p: Place,
 ) -> Sink
-    requires { ⌜ (f < 7) × ((length (now s) ≤ maxBytes) × (k .total < 2 ^ 60)) ⌝ }
-    requires { ⌜ good ≡ isGood (headSaid f (now h)) ⌝ }
-    ensures { λ r. ⌜ state (now (out .exit)) r ≡ adding quad p (laterFaults f (now (h .entry)) 2 (textsFrom (now (s .entry)) from)) (state (now (out .entry)) k) ⌝ }
-    ensures { λ r. ⌜ r .total ≤ k .total + length (now (s .entry)) ⌝ }
+    requires { ⌜ (f < 7) × ((n < 2 ^ 31) × (k .total < 2 ^ 62)) ⌝ }
+    requires { ⌜ Header f good (c .at) (c .count) ⌝ }
+    ensures { λ r. ⌜ ((h : List ℕ) → Heads f h good (c .at) (c .count) → state (now (out .exit)) r ≡ adding quad p (faultAt f n (testsUnder (headSaid f h) f h (now (l .entry)))) (state (now (out .entry)) k)) ⌝ }
+    ensures { λ r. ⌜ r .total ≤ k .total + 1 ⌝ }
 {
-    let c = columns::columns_of(f, h);
-    let mut at = from;
-    let mut n: usize = 2;
-    let mut sink = k;
-    loop {
-        match any_line(s, at) {
-            LineStep::Line { start, end, next } => {
-                let t = later_fault(f, good, c, &s[start..end]);
-                sink = note_fault(out, sink, p, f, n, t);
-                n += 1;
-                at = next;
-            }
-            LineStep::Done => {
-                return sink;
-            }
-        }
-    }
-}
-
-// The faults of a file's lines: of its header, then of the others.
-fn list_lines(f: usize, s: &[u8], out: &mut [i32], k: Sink, p: Place) -> Sink
-    requires { ⌜ (f < 7) × ((length (now s) ≤ maxBytes) × (k .total < 2 ^ 59)) ⌝ }
-    ensures { λ r. ⌜ state (now (out .exit)) r ≡ adding quad p (lineFaults f (textsOf (now (s .entry)))) (state (now (out .entry)) k) ⌝ }
-    ensures { λ r. ⌜ r .total ≤ k .total + length (now (s .entry)) + 1 ⌝ }
-{
-    match any_line(s, text::body_start(s)) {
-        LineStep::Line { start, end, next } => {
-            let c = columns::columns_of(f, &s[start..end]);
-            let t = reading::header_fault(f, c, &s[start..end]);
-            let sink = note_fault(out, k, p, f, 1, t);
-            list_later(f, t.rule == 0, &s[start..end], s, next, out, sink, p)
-        }
-        LineStep::Done => k,
-    }
-}
-
-// The faults of file f: as a whole, then of its lines, where it breaks neither 1 nor 2. `dated`: file 6 is supplied.
-pub fn list_faults(f: usize, s: &[u8], dated: bool, out: &mut [i32], k: Sink, p: Place) -> Sink
-    requires { ⌜ (0 < f) × ((f < 7) × (k .total < 2 ^ 58)) ⌝ }
-    ensures { λ r. ⌜ ((files : List (List ℕ)) → dated ≡ not (empty (fileOf files 6)) → state (now (out .exit)) r ≡ adding quad p (fileFaults files f (now (s .entry))) (state (now (out .entry)) k)) ⌝ }
-    ensures { λ r. ⌜ r .total ≤ k .total + maxBytes + 4 ⌝ }
-{
-    let whole = reading::whole_of(f, s, 0, dated);
-    let sink = list_whole(f, whole, out, k, p);
-    if whole[0] {
-        return sink;
-    }
-    if whole[1] {
-        return sink;
-    }
-    list_lines(f, s, out, sink, p)
+    note_fault(out, k, p, f, n, later_fault(f, good, c, l))
 }

@@ -1,33 +1,37 @@
+-- `file_faults::any_line` meets its contract.
+use mathlib.Core.Path.{sym, _∙_}
+use borrow.Author.Tests.{lt-ltb, le-ltb}
 use borrow.Author.Needs.{needs}
+use Rattle.file_faults.specs.Walk.{anyAt}
 use Rattle.file_faults.proofs.any_line.Statement.{statement}
 use Rattle.file_faults.proofs.any_line.Tie as tie
-use Rattle.file_faults.proofs.any_line.Reads as reads
-use Rattle.file_faults.proofs.any_line.Lts as lts
-use Rattle.text.proofs.next_line.Reads as next-line-reads
 
--- src/lib.rt:25:11
 next-line-requires : tie.Need-next-line-requires
 next-line-requires c κs = search needs
 
--- src/lib.rt:26:26
 enum-known-start : tie.Need-enum-known-start
 enum-known-start c = search needs
 
--- src/lib.rt:28:21
 enum-told : tie.Need-enum-told
 enum-told c = search needs
 
--- src/lib.rt:29:17
 returns : tie.Need-returns
-returns c = ?
+unfolding anyAt
+returns c =
+    let e = sym (c .before .before .before .next-line .ensures) ∙ c .before .enum-told .given .1 in
+    rw (e, lt-ltb _ _ (c .if1 .taken))
 
--- src/lib.rt:22:1
 returns-2 : tie.Need-returns-2
-returns-2 c = ?
+unfolding anyAt
+returns-2 c =
+    let e = sym (c .before .before .before .next-line .ensures) ∙ c .before .start .given .1 in
+    rw e
 
--- src/lib.rt:22:1
 returns-3 : tie.Need-returns-3
-returns-3 c = ?
+unfolding anyAt
+returns-3 c =
+    let e = sym (c .before .before .before .next-line .ensures) ∙ c .before .enum-told .given .1 in
+    rw (e, le-ltb _ _ (c .if1 .left))
 
 pub any-line-spec : {M : Type 1} → statement M
 any-line-spec =
