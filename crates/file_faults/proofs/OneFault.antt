@@ -3,16 +3,16 @@ use Prim.Native.Nat.{ℕ, _≤_}
 use native.Mathlib.Omega.{arith}
 use mathlib.Core.Path.{_≡_, refl, sym, ap, _∙_}
 use mathlib.Core.Bool.{Bool, true, false, cond, _&&_}
-use mathlib.Core.List.{List, [], _∷_, List·Memᴰ·head, List·Memᴰ·tail}
+use mathlib.Core.List.{List, [], _∷_, _++_, List·Memᴰ·head, List·Memᴰ·tail}
 use lib.Dec.{T, leb, eqb}
-use lib.ListN.{length}
+use lib.ListN.{length, getD}
 use borrow.Author.Tests.{eq-eqb, ne-eqb, eqb-true, eqb-false, leb-true}
 use Rattle.meaning.specs.declared.Refusal.{Refusal}
 use Rattle.meaning.specs.declared.Verdict.{Verdict}
 use Rattle.meaning.specs.declared.Verdict.the-variants.{Readable, Unreadable}
 use Rattle.meaning.specs.Bytes.{fields, values}
 use Rattle.meaning.specs.Columns.{places}
-use Rattle.meaning.specs.Refusals.{Test, onLine, speaks, textTests, headTests, valueTests, lineTests}
+use Rattle.meaning.specs.Refusals.{Test, test, onLine, speaks, textTests, headTests, valueTests, lineTests}
 use Rattle.meaning.specs.Promises.{Each}
 use Rattle.meaning.proofs.Computed.{all, and-left, and-right, mem-all}
 use Rattle.meaning.proofs.ListLaws.{and-both}
@@ -24,9 +24,13 @@ use Rattle.reading.specs.Tests.{fault, first}
 use Rattle.reading.proofs.First.{positive}
 use Rattle.reading.proofs.Values.{line-same}
 use Rattle.reading.proofs.Speaks.{refused, line-stop, line-on}
+use Rattle.meaning.specs.declared.Place.{Place}
+use Rattle.listing.specs.Handing.{State, adding}
+use Rattle.listing.proofs.Laws.{adding-append}
+use Rattle.faults.specs.Told.{quad}
 use Rattle.faults.specs.List.{faultAt, headSaid, testsUnder}
 use Rattle.faults.proofs.Numbers.{Few, ofLine, text-few, line-few, head-few, good-few, head-numbers, line-numbers, text-numbers}
-use Rattle.file_faults.specs.Walk.{faultOf, isGood, Heads}
+use Rattle.file_faults.specs.Walk.{faultOf, isGood, Heads, markedFaults}
 
 module _ (f n : ℕ) (ts : List Test) (p : T (all positive ts)) (t : Fault) (e : t ≡ first ts) where
   -- what a first broken rule tells is the fault of its place
@@ -71,6 +75,47 @@ first-zero : (ts : List Test) → T (all positive ts) → first ts .rule ≡ 0 �
 first-zero ts p =
     first-each (λ t. t .rule ≡ 0 → t .column ≡ 0) (λ z. refl) ts
     (λ u m z. absurd (omega (arith, leb-true 1 (u .number) (mem-all positive ts p u m), z)))
+
+-- ---- a whole file
+
+module _ (rule : ℕ) (b : Bool) (t : Fault) (e : t ≡ first (test rule b ∷ [])) where
+  pub whole-rule : t .rule ≤ rule
+  unfolding first
+  whole-rule = rw e (go b)
+    where
+      go : (b : Bool) → cond b (fault rule 0) (fault 0 0) .rule ≤ rule
+      go true = omega arith
+      go false = omega arith
+
+  pub whole-column : t .column ≤ 0
+  unfolding first
+  whole-column = rw e (go b)
+    where
+      go : (b : Bool) → cond b (fault rule 0) (fault 0 0) .column ≤ 0
+      go true = omega arith
+      go false = omega arith
+
+-- rules 1, 2 and 4, one after the other
+pub whole-three :
+    (f : ℕ) (p : Place) (w : List Bool) (t1 t2 t3 : Fault) (s0 s1 s2 s3 : State)
+    → t1 ≡ first (test 1 (getD w 0 false) ∷ [])
+    → t2 ≡ first (test 2 (getD w 1 false) ∷ [])
+    → t3 ≡ first (test 4 (getD w 3 false) ∷ [])
+    → s1 ≡ adding quad p (faultOf f 0 t1) s0
+    → s2 ≡ adding quad p (faultOf f 0 t2) s1
+    → s3 ≡ adding quad p (faultOf f 0 t3) s2
+    → s3 ≡ adding quad p (markedFaults f w) s0
+unfolding markedFaults
+whole-three f p w t1 t2 t3 s0 s1 s2 s3 e1 e2 e3 h1 h2 h3 =
+    let one = faultAt f 0 (test 1 (getD w 0 false) ∷ []) in
+    let two = faultAt f 0 (test 2 (getD w 1 false) ∷ []) in
+    let four = faultAt f 0 (test 4 (getD w 3 false) ∷ []) in
+    let g1 : s1 ≡ adding quad p one s0 = rw (← fault-is f 0 _ tt t1 e1) h1 in
+    let g2 : s2 ≡ adding quad p two s1 = rw (← fault-is f 0 _ tt t2 e2) h2 in
+    let g3 : s3 ≡ adding quad p four s2 = rw (← fault-is f 0 _ tt t3 e3) h3 in
+    g3
+    ∙ ap (adding quad p four) (g2 ∙ ap (adding quad p two) g1)
+    ∙ sym (adding-append quad p one (two ++ four) s0 ∙ adding-append quad p two four (adding quad p one s0))
 
 -- ---- a header
 

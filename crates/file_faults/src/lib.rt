@@ -47,7 +47,12 @@ fn note_fault(out: &mut [i32], k: Sink, p: Place, file: usize, line: usize, t: F
     if t.rule == 0 {
         return k;
     }
-    let d = [file as i32, line as i32, t.rule as i32, t.column as i32];
+    let d = [
+        file as i32,
+        line as i32,
+        t.rule as i32,
+        t.column as i32,
+    ];
     listing::hand_out(out, k, p, &d)
 }
 
@@ -102,3 +107,37 @@ fn list_line(
 {
     note_fault(out, k, p, f, n, later_fault(f, good, c, l))
 }
+
+// The faults of the lines after the header, from byte `from` on, counted from 2.
+fn list_later(
+    f: usize,
+    good: bool,
+    c: Columns,
+    s: &[u8],
+    from: usize,
+    out: &mut [i32],
+    k: Sink,
+    p: Place,
+) -> Sink
+    requires { ⌜ (f < 7) × ((length (now s) ≤ maxBytes) × (k .total < 2 ^ 60)) ⌝ }
+    requires { ⌜ Header f good (c .at) (c .count) ⌝ }
+    ensures { λ r. ⌜ ((h : List ℕ) → Heads f h good (c .at) (c .count) → state (now (out .exit)) r ≡ adding quad p (laterFaults f h 2 (textsFrom (now (s .entry)) from)) (state (now (out .entry)) k)) ⌝ }
+    ensures { λ r. ⌜ r .total ≤ k .total + length (now (s .entry)) ⌝ }
+{
+    let mut at = from;
+    let mut n: usize = 2;
+    let mut sink = k;
+    loop {
+        match any_line(s, at) {
+            LineStep::Line { start, end, next } => {
+                sink = list_line(f, good, c, &s[start..end], n, out, sink, p);
+                n += 1;
+                at = next;
+            }
+            LineStep::Done => {
+                return sink;
+            }
+        }
+    }
+}
+
