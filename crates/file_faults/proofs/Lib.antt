@@ -1,3 +1,4 @@
--- Laws of the walk: a step along all the lines, and the fault of a line.
+-- Laws of the walk: a step along all the lines, the fault of a line, and what is left of the faults.
 pub mod Steps
 pub mod OneFault
+pub mod Walk
