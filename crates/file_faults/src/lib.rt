@@ -47,12 +47,7 @@ fn note_fault(out: &mut [i32], k: Sink, p: Place, file: usize, line: usize, t: F
     if t.rule == 0 {
         return k;
     }
-    let d = [
-        file as i32,
-        line as i32,
-        t.rule as i32,
-        t.column as i32,
-    ];
+    let d = [file as i32, line as i32, t.rule as i32, t.column as i32];
     listing::hand_out(out, k, p, &d)
 }
 
@@ -141,3 +136,36 @@ fn list_later(
     }
 }
 
+// The faults of a file's lines: of its header, then of the others.
+fn list_lines(f: usize, s: &[u8], out: &mut [i32], k: Sink, p: Place) -> Sink
+    requires { ⌜ (f < 7) × ((length (now s) ≤ maxBytes) × (k .total < 2 ^ 59)) ⌝ }
+    ensures { λ r. ⌜ state (now (out .exit)) r ≡ adding quad p (lineFaults f (textsOf (now (s .entry)))) (state (now (out .entry)) k) ⌝ }
+    ensures { λ r. ⌜ r .total ≤ k .total + length (now (s .entry)) + 1 ⌝ }
+{
+    match any_line(s, text::body_start(s)) {
+        LineStep::Line { start, end, next } => {
+            let c = columns::columns_of(f, &s[start..end]);
+            let t = reading::header_fault(f, c, &s[start..end]);
+            let sink = note_fault(out, k, p, f, 1, t);
+            list_later(f, t.rule == 0, c, s, next, out, sink, p)
+        }
+        LineStep::Done => k,
+    }
+}
+
+// The faults of file f: as a whole, then of its lines, where it breaks neither 1 nor 2. `dated`: file 6 is supplied.
+pub fn list_faults(f: usize, s: &[u8], dated: bool, out: &mut [i32], k: Sink, p: Place) -> Sink
+    requires { ⌜ (0 < f) × ((f < 7) × (k .total < 2 ^ 58)) ⌝ }
+    ensures { λ r. ⌜ ((files : List (List ℕ)) → dated ≡ not (empty (fileOf files 6)) → state (now (out .exit)) r ≡ adding quad p (fileFaults files f (now (s .entry))) (state (now (out .entry)) k)) ⌝ }
+    ensures { λ r. ⌜ r .total ≤ k .total + maxBytes + 4 ⌝ }
+{
+    let whole = reading::whole_of(f, s, 0, dated);
+    let sink = list_whole(f, whole, out, k, p);
+    if whole[0] {
+        return sink;
+    }
+    if whole[1] {
+        return sink;
+    }
+    list_lines(f, s, out, sink, p)
+}
