@@ -1,11 +1,14 @@
-// The whole check.
+// The whole check, and every refusal at once.
 ghost use mathlib.Core.Path.{_≡_};
 ghost use mathlib.Core.List.{_∷_, []};
 ghost use mathlib.Core.Bool.{cond};
 ghost use lib.Dec.{eqb};
 ghost use lib.ListN.{length};
-ghost use Rattle.meaning.specs.Refusals.{verdictOf};
+ghost use Rattle.meaning.specs.Refusals.{maxBytes, verdictOf};
 ghost use Rattle.meaning.specs.Outcome.{readOutcome, outcome};
+ghost use Prim.Native.Nat.{_+_, _*_, _≤_};
+ghost use Rattle.listing.specs.Handing.{state};
+ghost use Rattle.faults.specs.Told.{told};
 ghost use Rattle.tusuchiy.specs.Small.{Small};
 use listing::Sink;
 use meaning::Answer;
@@ -146,4 +149,34 @@ pub fn check(
         ),
         Verdict::Unreadable(r) => Answer::Refused(r),
     }
+}
+
+// Every refusal of six files at once: those after the starting place are written into a lent list, as many as fit; and how many there are.
+pub fn faults(
+    stops: &[u8],
+    routes: &[u8],
+    calendar: &[u8],
+    trips: &[u8],
+    stop_times: &[u8],
+    calendar_dates: &[u8],
+    list: &mut [i32],
+    from: Place,
+) -> Sink
+    ensures { λ r. ⌜ state (now (list .exit)) r ≡ told
+        (now (stops .entry) ∷ now (routes .entry) ∷ now (calendar .entry) ∷ now (trips .entry) ∷ now («stop_times» .entry) ∷ now («calendar_dates» .entry) ∷ [])
+        from (now (list .entry)) ⌝ }
+    ensures { λ r. ⌜ (r .written ≤ r .total) × (r .total ≤ 6 * (maxBytes + 4)) ⌝ }
+{
+    let dated = calendar_dates.len() != 0;
+    let k = Sink {
+        written: 0,
+        total: 0,
+    };
+    // A call for each file: slices of several lifetimes can't stand in one array.
+    let k = file_faults::list_faults(1, stops, dated, list, k, from);
+    let k = file_faults::list_faults(2, routes, dated, list, k, from);
+    let k = file_faults::list_faults(3, calendar, dated, list, k, from);
+    let k = file_faults::list_faults(4, trips, dated, list, k, from);
+    let k = file_faults::list_faults(5, stop_times, dated, list, k, from);
+    file_faults::list_faults(6, calendar_dates, dated, list, k, from)
 }
