@@ -1,12 +1,17 @@
--- Laws: the outcome from a starting place, part by part; answers about an index.
+-- Laws: the outcome from a starting place, part by part; calls for faults; answers about an index.
 use Prim.Native.Nat.{ℕ}
 use mathlib.Core.Path.{_≡_, ap, sym, _∙_}
 use mathlib.Core.List.{List}
-use lib.IntN.{ℤ}
+use lib.IntN.{ℤ, pos}
 use Rattle.meaning.specs.declared.Place.{Place}
 use Rattle.meaning.specs.Outcome.{Outcome, outcome}
 use Rattle.tusuchiy_c.specs.declared.TusuchiyAnswer.{TusuchiyAnswer}
 use Rattle.tusuchiy_c.specs.Told.{Told}
+use Rattle.listing.specs.declared.Sink.{Sink}
+use Rattle.listing.specs.Handing.{State, state}
+use Rattle.faults.specs.Told.{told as faultsTold}
+use Rattle.tusuchiy_c.specs.declared.TusuchiyFaultsAnswer.{TusuchiyFaultsAnswer}
+use Rattle.tusuchiy_c.specs.ToldFaults.{ToldFaults}
 use Rattle.indexes.specs.declared.IndexAnswer.{IndexAnswer}
 use Rattle.indexes.specs.Index.{checked, wrote, written}
 use Rattle.tusuchiy_c.specs.declared.TusuchiyIndexAnswer.{TusuchiyIndexAnswer}
@@ -24,6 +29,24 @@ module _ (files : List (List ℕ)) (tables : List (List ℤ)) (list : List ℤ) 
 
   pub told-list : outcome files tables list p .list ≡ o .list
   told-list = ap (λ (x : Outcome). x .list) from-p
+
+-- a call for faults from one starting place is told of another that is the same
+pub told-faults :
+    (files : List (List ℕ)) (lent : List ℤ) (p q : Place)
+    → q ≡ p
+    → (out : List ℤ) (k : Sink)
+    → state out k ≡ faultsTold files q lent
+    → (r : TusuchiyFaultsAnswer)
+    → r .written ≡ pos (k .written)
+    → r .total ≡ pos (k .total)
+    → ToldFaults (faultsTold files p lent) r out
+told-faults files lent p q is out k e r w n =
+    let s : state out k ≡ faultsTold files p lent = e ∙ ap (λ (x : Place). faultsTold files x lent) is in
+    record {
+      written = w ∙ ap (λ (x : State). pos (x .written)) s;
+      total = n ∙ ap (λ (x : State). pos (x .total)) s;
+      holds = ap (λ (x : State). x .out) s;
+    }
 
 -- an answer to one file number is told of another that is the same
 module _ (f g : ℕ) (s : List ℕ) (is : f ≡ g) where

@@ -1,18 +1,21 @@
-// The check for C and Rust, and the index beside a feed: the exported functions.
+// The check for C and Rust, every refusal at once, and the index beside a feed: the exported functions.
 ghost use mathlib.Core.Path.{_≡_};
 ghost use mathlib.Core.List.{_∷_, []};
 ghost use Prim.Native.Nat.{_+_, _*_, _≤_};
 ghost use lib.IntN.{pos};
 ghost use Rattle.meaning.specs.Outcome.{outcome};
-ghost use Rattle.meaning.specs.Refusals.{maxLines};
+ghost use Rattle.meaning.specs.Refusals.{maxBytes, maxLines};
 ghost use Rattle.tusuchiy.specs.Small.{Small};
 ghost use lib.ListN.{length};
 ghost use Rattle.num.specs.Signs.{natOf};
+ghost use Rattle.faults.specs.Told.{told as faultsTold};
 ghost use Rattle.indexes.specs.Index.{checked, wrote, written};
 ghost use Rattle.indexes.specs.Small.{Small as SmallIndex};
 ghost use Rattle.tusuchiy_c.specs.Told.{Told};
+ghost use Rattle.tusuchiy_c.specs.ToldFaults.{ToldFaults};
 ghost use Rattle.tusuchiy_c.specs.ToldIndex.{ToldIndex};
 use indexes::IndexAnswer;
+use listing::Sink;
 use meaning::Answer;
 use meaning::Place;
 use meaning::Refusal;
@@ -138,6 +141,55 @@ pub extern "C" fn tusuchiy_check(
         stop_times_table,
         calendar_dates_table,
         findings,
+        from,
+    ))
+}
+
+// The answer of a call for faults: how many were written, and how many there are.
+#[repr(C)]
+pub struct TusuchiyFaultsAnswer {
+    pub written: i32,
+    pub total: i32,
+}
+
+// How far a list of faults has come, for C.
+fn told_faults(k: Sink) -> TusuchiyFaultsAnswer
+    requires { ⌜ (k .written ≤ k .total) × (k .total ≤ 6 * (maxBytes + 4)) ⌝ }
+    ensures { λ r. ⌜ (r .written ≡ pos (k .written)) × (r .total ≡ pos (k .total)) ⌝ }
+{
+    TusuchiyFaultsAnswer {
+        written: k.written as i32,
+        total: k.total as i32,
+    }
+}
+
+// Every refusal of six files at once, four numbers each into a lent list: file, line, number, column; those after a starting place.
+#[no_mangle]
+pub extern "C" fn tusuchiy_faults(
+    stops: &[u8],
+    routes: &[u8],
+    calendar: &[u8],
+    trips: &[u8],
+    stop_times: &[u8],
+    calendar_dates: &[u8],
+    faults: &mut [i32],
+    after_file: i32,
+    after_line: i32,
+    after_number: i32,
+) -> TusuchiyFaultsAnswer
+    ensures { λ r. ⌜ ToldFaults (faultsTold
+        (now (stops .entry) ∷ now (routes .entry) ∷ now (calendar .entry) ∷ now (trips .entry) ∷ now («stop_times» .entry) ∷ now («calendar_dates» .entry) ∷ [])
+        (record { file = «after_file»; line = «after_line»; rule = «after_number» }) (now (faults .entry))) r (now (faults .exit)) ⌝ }
+{
+    let from = place_of(after_file, after_line, after_number);
+    told_faults(tusuchiy::faults(
+        stops,
+        routes,
+        calendar,
+        trips,
+        stop_times,
+        calendar_dates,
+        faults,
         from,
     ))
 }
