@@ -28,7 +28,8 @@ pub fn write(out: &mut dyn Write, feed: &Feed, first: &Refusal, faults: &Faults,
     if faults.total > 1 {
         write_numbers(out, feed, &reasons, faults, layout)?;
     }
-    write_advice(out, &hidden::sentences(feed, faults.list), faults.total)?;
+    writeln!(out, "{}, then check again for findings", advice(faults.list))?;
+    hidden::sentences(feed, faults.list).iter().try_for_each(|sentence| writeln!(out, "{sentence}"))?;
     text::write_hint(out, first.number)
 }
 
@@ -80,13 +81,11 @@ fn write_fault(out: &mut dyn Write, feed: &Feed, fault: &Refusal, words: &str, s
     text::write_marked(out, feed, fault, style)
 }
 
-/// What to do now, and what may come of it.
-fn write_advice(out: &mut dyn Write, hidden: &[String], total: usize) -> io::Result<()> {
-    let words = match total {
-        1 if hidden.is_empty() => "the only fault: mend it",
-        1 => "mend it",
+/// What to do now.
+fn advice(faults: &[Refusal]) -> &'static str {
+    match faults {
+        [fault] if fault.line == 0 => "nothing else is refused: mend this",
+        [_] => "nothing else is refused: mend the whole of this line",
         _ => "mend all of these",
-    };
-    writeln!(out, "{words}, then check again for findings")?;
-    hidden.iter().try_for_each(|sentence| writeln!(out, "{sentence}"))
+    }
 }

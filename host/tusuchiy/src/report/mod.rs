@@ -124,7 +124,7 @@ impl<'a> Subject<'a> {
         }
     }
 
-    /// What wasn't judged, since something else is to be mended first.
+    /// What the list leaves open, since something else is to be mended first.
     fn hidden(&self) -> Vec<String> {
         match &self.report.outcome {
             Outcome::Refused { faults, .. } => hidden::sentences(self.feed, faults),
