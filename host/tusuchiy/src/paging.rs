@@ -100,7 +100,7 @@ fn check_by(feed: &Feed, page: Option<Page>, room: usize, progress: &Progress) -
     }
     let outcome = match verdict {
         Verdict::Accepted => Outcome::Accepted,
-        Verdict::Refused(fault) => refused(&lent, fault, page, room)?,
+        Verdict::Refused(fault) => refused(&lent, fault, page, most_faults(feed))?,
         Verdict::Findings { total, .. } if page.is_none() && total != list.len() => {
             return Err(format!("the check handed out {} findings and counts {total}", list.len()));
         }
@@ -109,17 +109,17 @@ fn check_by(feed: &Feed, page: Option<Page>, room: usize, progress: &Progress) -
     Ok(Report { outcome, page, tables: lent.into_tables() })
 }
 
-/// A refused feed with its faults: one page of them, or all.
-fn refused(lent: &Check, fault: Fault, page: Option<Page>, room: usize) -> Result<Outcome, String> {
-    let asked = page.and_then(|page| page.room);
-    let call = |after, room| lent.faults_page(after, room).map_err(|error| error.to_string());
-    let mut told = call(Place(page.map_or([0, 0, 0], |page| page.after)), asked.unwrap_or(room))?;
-    let last = told.faults.last().copied().map(Place::from);
-    if let (None, Some(last), Some(more)) = (asked, last, more(told.total, told.faults.len(), room)) {
-        let rest = call(last, more)?.faults;
-        told.faults.try_reserve_exact(rest.len()).map_err(|error| error.to_string())?;
-        told.faults.extend(rest);
-    }
+/// As many faults as the files of a feed have room for: one on each line, on one more without an ending, and one of the whole.
+/// So one call hands out all of them.
+fn most_faults(feed: &Feed) -> usize {
+    (1..=FILES).map(|file| feed.line_count(file).min(MOST_LINES) + 2).sum()
+}
+
+/// A refused feed with its faults: one page of them, or all, of which there are so many at most.
+fn refused(lent: &Check, fault: Fault, page: Option<Page>, most: usize) -> Result<Outcome, String> {
+    let after = Place(page.map_or([0, 0, 0], |page| page.after));
+    let room = page.and_then(|page| page.room).unwrap_or(most);
+    let told = lent.faults_page(after, room).map_err(|error| error.to_string())?;
     // The proved list has what the verdict names, and is as long as its total.
     if page.is_none() && (told.total != told.faults.len() || !told.faults.contains(&fault)) {
         return Err(format!("{fault} was refused, and of {} faults {} told", told.total, told.faults.len()));
@@ -186,21 +186,30 @@ mod tests {
     }
 
     #[test]
-    fn pages_of_any_room_give_all_faults() {
+    fn one_call_gives_all_faults() {
         let fault = |(file, line, number, column)| Refusal { number, file, line, column };
         let list = [(1, 2, 12, Some(2)), (2, 0, 4, None), (2, 2, 12, Some(2))].map(fault);
-        let told = |page, room| check_by(&faulty(), page, room, &progress::silent()).map(|report| report.outcome);
+        let told = |page| check(&faulty(), page, &progress::silent()).map(|report| report.outcome);
         let refused = |faults: &[Refusal]| Ok(Outcome::Refused { first: list[1], faults: faults.to_vec(), total: 3 });
-        for room in [1, 2, 3, 4, PAGE_ROOM] {
-            assert_eq!(told(None, room), refused(&list), "room {room}");
-            assert_eq!(told(Some(Page { after: [1, 2, 12], room: None }), room), refused(&list[1..]), "room {room}");
+        let page = |after, room| Some(Page { after, room });
+        assert_eq!(told(None), refused(&list));
+        assert_eq!(told(page([1, 2, 12], None)), refused(&list[1..]));
+        assert_eq!(told(page([0, 0, 0], Some(2))), refused(&list[..2]));
+        assert_eq!(told(page([2, 0, 3], Some(1))), refused(&list[1..2]));
+        assert_eq!(told(page([2, 2, 12], Some(9))), refused(&[]));
+        assert_eq!(told(Some(VERDICT_ONLY)), refused(&[]));
+    }
+
+    /// A line that is refused in each place where one can stand, in files of all kinds: there is room for all.
+    #[test]
+    fn there_is_room_for_all_faults() {
+        for file in [&b""[..], b"\t", b"\t\n", b"\t\n\t", b"\n\n\n\t"] {
+            let feed = Feed::new(Place::default(), std::array::from_fn(|_| Some(file.to_vec())), Unread::default());
+            let report = check(&feed, None, &progress::silent()).expect("an answer");
+            let Outcome::Refused { faults, total, .. } = report.outcome else { panic!("not refused") };
+            assert_eq!(faults.len(), total);
+            assert!(total <= most_faults(&feed), "{file:?}");
         }
-        let page = |after, room| Some(Page { after, room: Some(room) });
-        assert_eq!(told(page([0, 0, 0], 2), 1), refused(&list[..2]));
-        assert_eq!(told(page([2, 0, 3], 1), 1), refused(&list[1..2]));
-        assert_eq!(told(page([2, 2, 12], 9), 1), refused(&[]));
-        assert_eq!(told(Some(VERDICT_ONLY), 1), refused(&[]));
-        assert!(told(None, 0).is_err(), "a list shorter than the total");
     }
 
     #[test]
