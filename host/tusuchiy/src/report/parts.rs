@@ -102,7 +102,11 @@ fn refusal(subject: &Subject) -> String {
     let lead = |kind: &str, words: &str| format!("\n<p class=\"lead {kind}\">{}</p>", escaped(words));
     let advice = format!("{}: mend {these}, then check again for findings.", several(total, "fault"));
     let named = format!("The verdict names refusal {} in {}.", first.number, place(subject, &first));
-    let hidden = subject.hidden().iter().map(|sentence| lead("hidden", &format!("{sentence}."))).collect::<String>();
+    // A sentence begins with a capital letter, unless it begins with the name of a file.
+    let begins = |sentence: &str| NAMES.iter().any(|name| sentence.starts_with(name));
+    let written = |sentence: &String| if begins(sentence) { sentence.clone() } else { capital(sentence) };
+    let hidden =
+        subject.hidden().iter().map(|sentence| lead("hidden-faults", &(written(sentence) + "."))).collect::<String>();
     lead("advice", &advice) + &lead("named", &named) + &hidden
 }
 
