@@ -84,7 +84,7 @@ pub fn verdict(subject: &Subject) -> String {
             "refused",
             "✕",
             "Refused".to_string(),
-            "The files can't be read as they stand, so nobody knows yet what they say.",
+            "The files can't be read as they stand.",
         ),
     };
     format!(
