@@ -30,7 +30,7 @@ def holds(what, condition):
 class Case:
     def __init__(self, folder, name, feed, plain=False):
         self.name, self.page = name, os.path.join(folder, name + ".html")
-        self.feed = feed
+        self.feed, self.path = feed, os.path.join(folder, feed)
         words = {"report": ["report", feed, "-o", self.page], "json": ["check", "--json", feed]}
         # Where all text is plain, the document shows it as the command does.
         if not plain:
@@ -42,7 +42,8 @@ class Case:
         said = {key: run.communicate()[0].decode() for key, run in self.runs.items()}
         same(f"{self.name}: statuses", len({run.returncode for run in self.runs.values()}), 1)
         self.json = json.loads(said["json"])
-        self.findings = self.json["findings"] or [self.json["refusal"]] * (self.json["refusal"] is not None)
+        # What the page lists: findings, or the faults of a refused feed.
+        self.findings = self.json["findings"] or self.json["faults"]
         # The lines as the command shows them: each stands directly below its place, which may end in a column.
         self.texts, place = {f"{found['name']}:{found['line']}": found["text"] for found in self.findings}, None
         for line in said.get("text", "").splitlines():
@@ -111,7 +112,7 @@ def compare_marks(case, card, found):
 
 # Waits until so many are chosen, and the first page of them is shown.
 def chosen(browser, case, count):
-    word = "refusal" if case.json["refusal"] else "finding"
+    word = "fault" if case.json["refusal"] else "finding"
     total = f", of {len(case.findings):,} in all" if count < len(case.findings) else ""
     wanted = f"{f'1 to {PAGE} of ' if count > PAGE else ''}{count:,} {word}{'s' * (count != 1)}{total}"
     if count == 0:
@@ -153,12 +154,27 @@ def compare_head(browser, case):
     if document["totals"]:
         same(f"{case.name}: totals of the document", [[one["rule"], one["count"]] for one in document["totals"]], sorted(map(list, counts.items())))
     records = browser.value("[...document.querySelectorAll('#read tbody tr')].map((row) => row.cells[1].textContent)")
-    # The feeds that are refused here have no calendar_dates.txt.
+    # Of a refused feed nobody says what its records are.
     shown = ["not supplied" if count is None else f"{count:,}" for count in document["records"] or []]
-    same(f"{case.name}: records", records, shown or [""] * 5 + ["not supplied"])
+    dates = "" if os.path.exists(os.path.join(case.path, "calendar_dates.txt")) else "not supplied"
+    same(f"{case.name}: records", records, shown or [""] * 5 + [dates])
+    compare_advice(browser, case)
     line = browser.value("document.getElementById('records')?.textContent ?? ''")
     wanted = ", ".join(f"{name} {count}" for name, count in zip(feeds.NAMES, shown))
     same(f"{case.name}: records in a line", line, f"Records read: {wanted}. More" if wanted else "")
+
+
+# Of a refused feed: how many faults there are and what to do, what the verdict names, and what the headers hide.
+def compare_advice(browser, case):
+    total, first = len(case.findings), case.json["refusal"]
+    leads = browser.value("[...document.querySelectorAll('.lead.advice, .lead.named, .lead.hidden-faults')].map((lead) => lead.textContent)")
+    if not first:
+        return same(f"{case.name}: advice", leads, [])
+    these = "1 fault: mend it" if total == 1 else f"{total:,} faults: mend all of these"
+    same(f"{case.name}: advice", leads[0], these + ", then check again for findings.")
+    holds(f"{case.name}: {leads[1]}", leads[1].startswith(f"The verdict names refusal {first['number']} in {first['name']}"))
+    # The header of routes.txt, with lines below it; the others stand alone.
+    same(f"{case.name}: what isn't judged", sum("weren't judged" in lead for lead in leads[2:]), int(case.name == "faults"))
 
 
 def set_filter(browser, **values):
@@ -380,7 +396,7 @@ def main():
             getattr(feeds, name)(os.path.join(folder, name))
         feeds.hostile(os.path.join(folder, feeds.HOSTILE_NAME))
         large_case = Case(folder, "many", "many", plain=True)
-        cases = {name: Case(folder, name, os.path.join(TOP, "examples", name)) for name in ["feed", "findings", "refused", "by-date"]}
+        cases = {name: Case(folder, name, os.path.join(TOP, "examples", name)) for name in ["feed", "findings", "refused", "by-date", "faults"]}
         cases.update({name: Case(folder, name, name) for name in ["town", "hostile_refused", "hostile_bytes", "shuffled"]})
         cases["hostile"] = Case(folder, "hostile", feeds.HOSTILE_NAME)
         browser = Browser()
@@ -398,6 +414,9 @@ def main():
             seen = names(browser, cases["town"])
             holds(f"roles: {seen}", {"button", "combobox", "searchbox", "image"} <= seen)
             keyboard(browser, cases["town"])
+            browser.open(cases["faults"].page)
+            filters(browser, cases["faults"], "wanted")
+            without_script(browser, cases["faults"])
             browser.open(cases["shuffled"].page)
             time_diagram(browser, cases["shuffled"])
             browser.open(cases["hostile"].page)
@@ -413,7 +432,7 @@ def main():
             picture(browser, cases["town"])
         finally:
             browser.close()
-    print("report: four examples, a town, hostile feeds and 65,000 findings show in a browser what the JSON document says", flush=True)
+    print("report: five examples, a town, hostile feeds and 65,000 findings show in a browser what the JSON document says", flush=True)
 
 
 main()

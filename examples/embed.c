@@ -1,4 +1,5 @@
-/* embed.c: the check called from C. It reads the six files of a feed and prints the verdict and all findings. */
+/* embed.c: the check called from C. It reads the six files of a feed and prints the verdict and all findings, or all faults
+ * of a feed that is refused. */
 #define _POSIX_C_SOURCE 200809L
 #include <errno.h>
 #include <fcntl.h>
@@ -95,11 +96,32 @@ static tusuchiy_answer check(const struct lent *f, int32_t *list, size_t length,
                           list, length, after[0], after[1], after[2]);
 }
 
-/* Prints a page of findings and gives the place of the last. */
-static void print(const int32_t *list, int32_t written, int32_t *after) {
-    for (const int32_t *found = list; found < list + 3 * written; found += 3) {
-        printf("%s %d %d\n", KNOWN[found[0] - 1].name, found[1], found[2]);
+/* The same for faults. */
+static tusuchiy_faults_answer faults(const struct lent *f, int32_t *list, size_t length, const int32_t *after) {
+    return tusuchiy_faults(f[0].bytes, f[0].length, f[1].bytes, f[1].length, f[2].bytes, f[2].length,
+                           f[3].bytes, f[3].length, f[4].bytes, f[4].length, f[5].bytes, f[5].length,
+                           list, length, after[0], after[1], after[2]);
+}
+
+/* Prints a page of findings, or of faults, which have a column too, and gives the place of the last. */
+static void print(const int32_t *list, int32_t written, int width, int32_t *after) {
+    for (const int32_t *found = list; found < list + width * written; found += width) {
+        printf("%s %d %d", KNOWN[found[0] - 1].name, found[1], found[2]);
+        if (width == TUSUCHIY_FAULT_WIDTH)
+            printf(" %d", found[3]);
+        putchar('\n');
         memcpy(after, found, 3 * sizeof *after);
+    }
+}
+
+/* Prints all faults, in pages of three, each from the last fault handed out. */
+static void list_faults(const struct lent *files) {
+    int32_t list[3 * TUSUCHIY_FAULT_WIDTH], after[3] = {0, 0, 0};
+    tusuchiy_faults_answer answer = faults(files, list, 3 * TUSUCHIY_FAULT_WIDTH, after);
+    printf("faults %d\n", answer.total);
+    while (answer.written > 0) {
+        print(list, answer.written, TUSUCHIY_FAULT_WIDTH, after);
+        answer = faults(files, list, 3 * TUSUCHIY_FAULT_WIDTH, after);
     }
 }
 
@@ -109,14 +131,15 @@ static int report(const struct lent *files) {
     tusuchiy_answer answer = check(files, list, 12, after);
     if (answer.verdict == TUSUCHIY_REFUSED) {
         printf("refused %d %s %d %d\n", answer.number, KNOWN[answer.file - 1].name, answer.line, answer.column);
+        list_faults(files);
         return answer.verdict;
     }
     printf("%s %d\n", answer.verdict == TUSUCHIY_ACCEPTED ? "accepted" : "findings", answer.total);
     int32_t had = answer.written;
-    print(list, answer.written, after);
+    print(list, answer.written, 3, after);
     while (had < answer.total) {
         answer = check(files, list, 12, after);
-        print(list, answer.written, after);
+        print(list, answer.written, 3, after);
         had += answer.written;
     }
     /* The tables are filled now: where the second line of stops.txt lies, if there is one. */

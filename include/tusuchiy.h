@@ -1,4 +1,5 @@
-/* tusuchiy.h: the proved check of GTFS feeds and its index, for C and C++. Link with libtusuchiy_c.a (x86-64 Linux). */
+/* tusuchiy.h: the proved check of GTFS feeds, its list of faults and its index, for C and C++.
+ * Link with libtusuchiy_c.a (x86-64 Linux). */
 #ifndef TUSUCHIY_H
 #define TUSUCHIY_H
 
@@ -10,10 +11,10 @@ extern "C" {
 #endif
 
 /* The version of the check, as a text and as a number: 10000 for each major, 100 for each minor step. */
-#define TUSUCHIY_VERSION "0.6.0"
-#define TUSUCHIY_VERSION_NUMBER 600
+#define TUSUCHIY_VERSION "0.7.0"
+#define TUSUCHIY_VERSION_NUMBER 700
 
-/* The six files have numbers: in `file` of an answer and of a finding. */
+/* The six files have numbers: in `file` of an answer, of a finding and of a fault. */
 enum {
     TUSUCHIY_STOPS = 1,         /* stops.txt */
     TUSUCHIY_ROUTES = 2,        /* routes.txt */
@@ -137,6 +138,43 @@ tusuchiy_answer tusuchiy_check(
     int32_t *calendar_dates_table, size_t calendar_dates_table_len,
     int32_t *findings, size_t findings_len,
     int32_t after_file, int32_t after_line, int32_t after_rule);
+
+/* The list of faults: every place of a feed that can't be read, where the verdict names one. Each is four numbers: the
+ * file, the line (0 for a whole file), the number (1, 2, 4 to 14) and the column, as tusuchiy_answer has them. */
+enum {
+    TUSUCHIY_FAULT_WIDTH = 4 /* file, line, number, column */
+};
+
+typedef struct {
+    int32_t written, total; /* how many faults this call wrote, how many the feed has */
+} tusuchiy_faults_answer;
+
+/* Lists the faults of a feed.
+ *
+ * Files: as for tusuchiy_check, and the same of them may be left out. Tables aren't lent, so number 3, which is about
+ *   them, is never in the list.
+ * What is in it: of each file 1, 2 and 4 where it breaks them. Of a file that breaks neither 1 nor 2 also each line
+ *   that is refused, once, with the first number that it breaks; bytes behind the last LF are a last line here. Where
+ *   the header is refused nobody knows the columns, so the lines below it are tested for 5, 14, 6 and 7 alone: once it
+ *   is mended, there may be more. An empty file has 4 and nothing else.
+ * faults: room for faults_len / 4 faults. Those after the place (after_file, after_line, after_number) are written, in
+ *   rising order of file, line and number, as many as fit; the rest of the list stays as it was. Start with 0, 0, 0.
+ *   For the next page give the last fault written; once a call writes none, you have had them all. The total doesn't
+ *   depend on the place or on the room; it is 393,228 at most, 65,538 for each file.
+ *
+ * With long enough tables tusuchiy_check refuses a feed exactly when this list isn't empty, and what it names is in it.
+ * No call is refused: a feed that can be read has a total of 0, and nothing is written.
+ *
+ * Pointers, memory, stack and threads are as for tusuchiy_check; the list doesn't overlap a file. */
+tusuchiy_faults_answer tusuchiy_faults(
+    const uint8_t *stops, size_t stops_len,
+    const uint8_t *routes, size_t routes_len,
+    const uint8_t *calendar, size_t calendar_len,
+    const uint8_t *trips, size_t trips_len,
+    const uint8_t *stop_times, size_t stop_times_len,
+    const uint8_t *calendar_dates, size_t calendar_dates_len,
+    int32_t *faults, size_t faults_len,
+    int32_t after_file, int32_t after_line, int32_t after_number);
 
 /* An index lists the records of one of the files 1 to 4 in the order of their ids, so that an id can be sought by
  * halving. Its bytes, all numbers low byte first:

@@ -1,5 +1,6 @@
 //! A feed's files with the memory lent for them, and what the check hands out, page by page.
 
+use crate::faults::{self, Faults, FaultsAnswer};
 use crate::index::IndexAnswer;
 use crate::kinds::{Fault, File, Finding, Refusal, Rule, FILES};
 use crate::{try_check, Answer, Verdict, MOST_LINES, WIDTHS};
@@ -33,6 +34,8 @@ pub enum Error {
     Unknown(Answer),
     /// The same about an index.
     UnknownIndex(IndexAnswer),
+    /// The same about the list of faults.
+    UnknownFaults(FaultsAnswer),
 }
 
 impl Display for Error {
@@ -42,6 +45,7 @@ impl Display for Error {
             Error::Thread(error) => write!(out, "can't run the check: {error}"),
             Error::Unknown(answer) => write!(out, "the check gave an answer that nobody knows: {answer:?}"),
             Error::UnknownIndex(answer) => write!(out, "the index gave an answer that nobody knows: {answer:?}"),
+            Error::UnknownFaults(answer) => write!(out, "the list of faults is one that nobody knows: {answer:?}"),
         }
     }
 }
@@ -54,12 +58,12 @@ impl From<TryReserveError> for Error {
     }
 }
 
-/// A place in the order of findings; findings are handed out after one.
+/// A place in the order of findings or of faults: file, line, rule or number. They are handed out after one.
 #[derive(Clone, Copy, Debug, Default, PartialEq, Eq)]
 pub struct Place(pub [i32; 3]);
 
 impl Place {
-    /// Before all findings.
+    /// Before all of them.
     pub const START: Place = Place([0, 0, 0]);
 }
 
@@ -67,6 +71,13 @@ impl From<Finding> for Place {
     fn from(finding: Finding) -> Self {
         // Lines are at most 65,536.
         Place([finding.file.number() as i32, finding.line as i32, finding.rule.number() as i32])
+    }
+}
+
+impl From<Fault> for Place {
+    fn from(fault: Fault) -> Self {
+        // Lines are at most 65,537.
+        Place([fault.file.number() as i32, fault.line as i32, fault.refusal.number() as i32])
     }
 }
 
@@ -137,6 +148,26 @@ impl<'a> Check<'a> {
     /// The same with so many findings a page, at least one: less memory, but each page is a check of the whole feed.
     pub fn findings_by(&mut self, room: usize) -> Findings<'_, 'a> {
         Findings { check: self, room: room.max(1), after: Place::START, ready: Vec::new().into_iter(), over: false }
+    }
+
+    /// All faults in order, of which the verdict names one; there are none where the feed can be read. Pages are asked for
+    /// as they are needed.
+    pub fn faults(&self) -> Faults<'a> {
+        Faults::of(self.files)
+    }
+
+    /// The same with so many faults a page, at least one.
+    pub fn faults_by(&self, room: usize) -> Faults<'a> {
+        Faults::new(self.files, room)
+    }
+
+    /// One call: how many faults the feed has, and those after a place, as many as there is room for.
+    ///
+    /// # Errors
+    ///
+    /// As [`Check::page`].
+    pub fn faults_page(&self, after: Place, room: usize) -> Result<faults::Page, Error> {
+        faults::page(self.files, after, room)
     }
 
     /// The tables, filled by the last call unless the feed was refused; include/tusuchiy.h says what stands in them.

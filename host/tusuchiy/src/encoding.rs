@@ -40,12 +40,17 @@ pub fn guess_by_mark(file: &[u8]) -> Option<Guess> {
     [b"\xFF\xFE", b"\xFE\xFF"].iter().any(|mark| file.starts_with(*mark)).then_some(Guess::Utf16)
 }
 
-/// The encoding of a file with a byte that begins no character: by its mark, else Windows-1252 if all bytes fit and neither
-/// this one nor two in a row are as in UTF-8, where C2 to F4 begin characters, C2 and C3 most, and 80 to BF go on with them.
-pub fn guess(file: &[u8], found: u8) -> Option<Guess> {
+/// The encoding of a file with a byte that begins no character: by its mark, else Windows-1252 if all bytes fit and this one
+/// isn't C2 or C3, which begin most characters of UTF-8.
+pub fn guess(file: &[u8], found: u8, all_fit: impl FnOnce() -> bool) -> Option<Guess> {
+    guess_by_mark(file).or_else(|| (!matches!(found, 0xC2 | 0xC3) && all_fit()).then_some(Guess::Windows1252))
+}
+
+/// Are all bytes of a file characters of Windows-1252, and no two in a row as in UTF-8, where C2 to F4 begin characters and 80
+/// to BF go on with them?
+pub fn all_fit(file: &[u8]) -> bool {
     let as_in_utf_8 = |pair: &[u8]| matches!(pair, [0xC2..=0xF4, 0x80..=0xBF]);
-    let fits = || file.iter().all(|&byte| windows_1252(byte).is_some()) && !file.windows(2).any(as_in_utf_8);
-    guess_by_mark(file).or_else(|| (!matches!(found, 0xC2 | 0xC3) && fits()).then_some(Guess::Windows1252))
+    file.iter().all(|&byte| windows_1252(byte).is_some()) && !file.windows(2).any(as_in_utf_8)
 }
 
 #[cfg(test)]
@@ -87,7 +92,7 @@ mod tests {
         ];
         for (file, wanted) in cases {
             let found = file[ill_formed(file).expect("a byte that begins no character")];
-            assert_eq!(guess(file, found), wanted, "{file:02X?}");
+            assert_eq!(guess(file, found, || all_fit(file)), wanted, "{file:02X?}");
         }
         assert_eq!(guess_by_mark(b"\xFF"), None);
         assert_eq!(guess_by_mark(b"\xEF\xBB\xBFa"), None);

@@ -127,15 +127,22 @@ impl Feed {
         self.slices().iter().map(|file| file.len()).sum()
     }
 
-    /// The text of a line without its ending; none where there is no such line, line 0 among them.
+    /// The text of a line without its ending; none where there is no such line, line 0 among them. Bytes behind the last LF
+    /// are a line as they stand, as the list of faults has it.
     pub fn line(&self, file: usize, line: usize) -> Option<&[u8]> {
         let (bytes, ends) = (*self.slices().get(file.checked_sub(1)?)?, &self.ends[file - 1]);
-        let end = *ends.get(line.checked_sub(1)?)? as usize;
-        let start = if line == 1 { 0 } else { ends[line - 2] as usize + 1 };
-        let text = &bytes[start..end];
+        let start = match line.checked_sub(2) {
+            Some(before) => *ends.get(before)? as usize + 1,
+            None => 0,
+        };
+        let end = ends.get(line.checked_sub(1)?).map(|end| *end as usize);
+        let text = &bytes[start..end.unwrap_or(bytes.len())];
         let marked = line == 1 && text.starts_with(b"\xEF\xBB\xBF");
         let text = if marked { &text[3..] } else { text };
-        Some(text.strip_suffix(b"\r").unwrap_or(text))
+        match end {
+            Some(_) => Some(text.strip_suffix(b"\r").unwrap_or(text)),
+            None => Some(text).filter(|text| !text.is_empty()),
+        }
     }
 }
 
@@ -173,14 +180,20 @@ mod tests {
     #[test]
     fn lines_are_cut_as_the_check_cuts_them() {
         let mut files: [Option<Vec<u8>>; FILES] = Default::default();
-        files[1] = Some(b"\xEF\xBB\xBFa,b\r\n\nlast\nrest".to_vec());
+        files[1] = Some(b"\xEF\xBB\xBFa,b\r\n\nlast\nrest\r".to_vec());
+        files[2] = Some(b"\xEF\xBB\xBF".to_vec());
+        files[3] = Some(b"\xEF\xBB\xBFrest".to_vec());
+        files[4] = Some(b"\n\n".to_vec());
         let feed = Feed::new(Place::default(), files, Unread::default());
         assert_eq!(feed.line_count(2), 3);
         assert_eq!(feed.line(2, 1), Some(&b"a,b"[..]));
         assert_eq!(feed.line(2, 2), Some(&b""[..]));
         assert_eq!(feed.line(2, 3), Some(&b"last"[..]));
-        for (file, line) in [(2, 0), (2, 4), (1, 1), (0, 1), (7, 1)] {
-            assert_eq!(feed.line(file, line), None);
+        assert_eq!(feed.line(2, 4), Some(&b"rest\r"[..]), "no CR belongs to an ending that isn't there");
+        assert_eq!(feed.line(4, 1), Some(&b"rest"[..]));
+        assert_eq!([1, 2].map(|line| feed.line(5, line)), [Some(&b""[..]); 2]);
+        for (file, line) in [(2, 0), (2, 5), (2, 6), (3, 1), (4, 2), (5, 0), (5, 3), (1, 1), (0, 1), (7, 1)] {
+            assert_eq!(feed.line(file, line), None, "{file}:{line}");
         }
     }
 }

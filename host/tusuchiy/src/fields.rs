@@ -22,13 +22,26 @@ enum State {
 /// Where the fields of a line stand, or what is wrong at which place; places count from 0.
 pub fn split(line: &[u8]) -> Result<Vec<Range<usize>>, (Wrong, usize)> {
     let mut fields = Vec::new();
+    each(line, |field| fields.push(field))?;
+    Ok(fields)
+}
+
+/// How many fields a line has, or what is wrong with it: without a list, since there may be millions.
+pub fn count(line: &[u8]) -> Result<usize, (Wrong, usize)> {
+    let mut count = 0;
+    each(line, |_| count += 1)?;
+    Ok(count)
+}
+
+/// Walks over the fields of a line.
+fn each(line: &[u8], mut take: impl FnMut(Range<usize>)) -> Result<(), (Wrong, usize)> {
     let (mut state, mut from) = (State::Start, 0);
     for (place, &byte) in line.iter().enumerate() {
         state = match (state, byte) {
             (State::Quoted, b'"') => State::Closed,
             (State::Quoted, _) => State::Quoted,
             (_, b',') => {
-                fields.push(from..place);
+                take(from..place);
                 from = place + 1;
                 State::Start
             }
@@ -41,13 +54,20 @@ pub fn split(line: &[u8]) -> Result<Vec<Range<usize>>, (Wrong, usize)> {
     if state == State::Quoted {
         return Err((Wrong::NotClosed, from));
     }
-    fields.push(from..line.len());
-    Ok(fields)
+    take(from..line.len());
+    Ok(())
 }
 
 /// Where the field under a column stands in a line, if there is one; columns count from 1.
 pub fn field(line: &[u8], column: usize) -> Option<Range<usize>> {
-    split(line).ok()?.into_iter().nth(column.checked_sub(1)?)
+    let (mut place, mut found) = (0, None);
+    let walked = each(line, |field| {
+        place += 1;
+        if place == column {
+            found = Some(field);
+        }
+    });
+    walked.ok().and(found)
 }
 
 /// The value of a field: outer marks taken off, a doubled mark inside means one.
@@ -92,5 +112,7 @@ mod tests {
         let line = b"a,\"b,c\",,d";
         assert_eq!([1, 2, 3, 4].map(|column| field(line, column)), [Some(0..1), Some(2..7), Some(8..8), Some(9..10)]);
         assert_eq!([field(line, 0), field(line, 5), field(b"a,b\"", 1)], [None, None, None]);
+        assert_eq!([&line[..], b"", b"a,"].map(count), [Ok(4), Ok(1), Ok(2)]);
+        assert_eq!(count(b"a,b\""), Err((Wrong::MarkInBareField, 3)));
     }
 }

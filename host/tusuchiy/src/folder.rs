@@ -71,11 +71,15 @@ pub fn open(path: &Path, follow_links: bool) -> io::Result<(File, u64)> {
 }
 
 /// Reads to the end, but at most one byte past what rule 1 allows: the check refuses such a file whatever follows.
-pub fn limited(from: impl Read, expected: u64) -> io::Result<Vec<u8>> {
+pub fn limited(mut from: impl Read, expected: u64) -> io::Result<Vec<u8>> {
     let most = MOST_BYTES + 1;
     let mut bytes = Vec::new();
     bytes.try_reserve_exact(usize::try_from(expected).map_or(most, |size| size.min(most)))?;
-    from.take(most as u64).read_to_end(&mut bytes)?;
+    from.by_ref().take(most as u64).read_to_end(&mut bytes)?;
+    // Whatever hinders reading on, there is more. Nobody has seen the last line, so nobody may say that its ending is missing.
+    if bytes.len() == most && !matches!(from.take(1).read_to_end(&mut Vec::new()), Ok(0)) {
+        bytes[MOST_BYTES] = b'\n';
+    }
     Ok(bytes)
 }
 

@@ -4,7 +4,7 @@ use crate::explain::meaning;
 use crate::facts::{About, Facts};
 use crate::feed::{Feed, NAMES};
 use crate::paging::{Finding, Outcome, Page, Refusal, Report};
-use crate::refusals;
+use crate::refusals::Reasons;
 use crate::safe;
 use crate::text::totals;
 use crate::value::{Members, Value};
@@ -22,27 +22,46 @@ pub fn write(out: &mut dyn Write, feed: &Feed, report: &Report) -> io::Result<()
         Outcome::Findings { list, total } => ("findings", &list[..], *total),
         Outcome::Refused { .. } => ("refused", none, 0),
     };
-    let refusal = match &report.outcome {
-        Outcome::Refused(refusal) => refused(feed, refusal, refusals::about(feed, refusal)),
-        _ => Value::Null,
-    };
-    write!(out, "{{\"version\": {VERSION}, \"verdict\": \"{verdict}\", \"refusal\": {refusal}, ")?;
+    write!(out, "{{\"version\": {VERSION}, \"verdict\": \"{verdict}\", ")?;
+    write_faults(out, feed, &report.outcome)?;
     write!(out, "\"total\": {total}, \"written\": {}, ", list.len())?;
-    write!(out, "\"page\": {}, \"findings\": [", report.page.as_ref().map_or(Value::Null, page))?;
+    write!(out, "\"page\": {}, \"findings\": ", report.page.as_ref().map_or(Value::Null, page))?;
     let facts = Facts::new(feed, &report.tables);
-    for (place, finding) in list.iter().enumerate() {
-        let comma = if place == 0 { "" } else { ", " };
-        write!(out, "{comma}{}", found(feed, &facts, finding))?;
-    }
+    write_list(out, list, |finding| found(feed, &facts, finding))?;
     let counts = if report.page.is_some() { Value::Null } else { counts(list) };
-    write!(out, "], \"totals\": {counts}, \"feed\": {}, ", Value::text(feed.place.path.as_os_str().as_bytes()))?;
+    write!(out, ", \"totals\": {counts}, \"feed\": {}, ", Value::text(feed.place.path.as_os_str().as_bytes()))?;
     let folder = folder(feed);
     writeln!(out, "\"folder\": {folder}, \"records\": {}, \"unread\": {}}}", records(feed, report), unread(feed))
 }
 
+/// A list, element by element: all of them at once would take memory for each.
+fn write_list<Element>(out: &mut dyn Write, list: &[Element], value: impl Fn(&Element) -> Value) -> io::Result<()> {
+    out.write_all(b"[")?;
+    for (place, element) in list.iter().enumerate() {
+        let comma = if place == 0 { "" } else { ", " };
+        write!(out, "{comma}{}", value(element))?;
+    }
+    out.write_all(b"]")
+}
+
+/// What the verdict names, how many faults there are, and the list of them; null, 0 and none for a feed that can be read.
+fn write_faults(out: &mut dyn Write, feed: &Feed, outcome: &Outcome) -> io::Result<()> {
+    let reasons = Reasons::new(feed);
+    let none: &[Refusal] = &[];
+    let (refusal, list, total) = match outcome {
+        Outcome::Refused { first, faults, total } => {
+            (refused(feed, &reasons, first, reasons.about(first)), &faults[..], *total)
+        }
+        _ => (Value::Null, none, 0),
+    };
+    write!(out, "\"refusal\": {refusal}, \"faults_total\": {total}, \"faults\": ")?;
+    write_list(out, list, |fault| refused(feed, &reasons, fault, reasons.listed(fault)))?;
+    out.write_all(b", ")
+}
+
 /// The place of a refusal.
-pub fn refused(feed: &Feed, refusal: &Refusal, about: About) -> Value {
-    let name = refusals::column_name(feed, refusal).map_or(Value::Null, Value::text);
+pub fn refused(feed: &Feed, reasons: &Reasons, refusal: &Refusal, about: About) -> Value {
+    let name = reasons.column_name(refusal).map_or(Value::Null, Value::text);
     let column = vec![("column", Value::size(refusal.column.unwrap_or(0))), ("column_name", name)];
     place(feed, (refusal.file, refusal.line), column, ("number", refusal.number), about)
 }

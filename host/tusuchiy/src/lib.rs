@@ -31,15 +31,17 @@
 //! ```
 //!
 //! [`try_check`] is the function below all this: it takes tables and a list as they are lent, and allocates nothing.
-//! [`index`] makes and judges the sorted index of a file.
+//! [`faults`] names every place of a refused feed that can't be read. [`index`] makes and judges the sorted index of a file.
 #![deny(unsafe_code)]
 
 mod check;
 pub mod explain;
+pub mod faults;
 pub mod index;
 mod kinds;
 
 pub use check::{table_sizes, Check, Error, Findings, Page, Place};
+pub use faults::{try_faults, Faults, FaultsAnswer};
 pub use index::IndexAnswer;
 pub use kinds::{Fault, File, Finding, IndexRefusal, Refusal, Rule, FILES};
 

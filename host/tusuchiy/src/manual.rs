@@ -48,10 +48,10 @@ pub const VERBS: &[Verb] = &[
         help: "checks feeds; FEED is a folder or a zip file with stops.txt, routes.txt, trips.txt, stop_times.txt and calendar.txt, calendar_dates.txt or both",
         flags: &[
             JSON,
-            flag("all", Some('a'), "every finding, not just the first five of each rule"),
+            flag("all", Some('a'), "every finding or fault, not just the first five of each number"),
             QUIET,
-            valued("after", "FILE,LINE,RULE", "the findings after this place only (0,0,0 is the beginning)"),
-            valued("room", "N", "one page: at most N findings, 0 to 1048576"),
+            valued("after", "FILE,LINE,RULE", "the findings or faults after this place only (0,0,0 is the beginning)"),
+            valued("room", "N", "one page: at most N findings or faults, 0 to 1048576"),
             FOLLOW_LINKS,
             JOBS,
             COLOR,
@@ -60,7 +60,7 @@ pub const VERBS: &[Verb] = &[
     Verb {
         name: "report",
         operand: "FEED",
-        help: "checks a feed and writes one page about it, for a browser: all findings with filters, a map, time diagrams",
+        help: "checks a feed and writes one page about it, for a browser: all findings or faults with filters, a map, time diagrams",
         flags: &[
             Flag { short: Some('o'), ..valued("output", "FILE", "the file to write, as report.html; standard output if not given") },
             FOLLOW_LINKS,
@@ -115,7 +115,7 @@ pub const STATUSES: [(u8, &str); 4] = [
 
 /// What people type most.
 const EXAMPLES: [(&str, &str); 7] = [
-    ("tusuchiy check feed.zip", "the verdict and the first findings of each rule"),
+    ("tusuchiy check feed.zip", "the verdict and the first findings of each rule, or faults of each number"),
     ("tusuchiy check --quiet feed && publish feed", "go on only with an accepted feed"),
     ("tusuchiy check --json *.zip | jq .verdict", "many feeds, for a program"),
     ("tusuchiy report feed.zip --output report.html", "a page to forward or to file"),
@@ -127,6 +127,7 @@ const EXAMPLES: [(&str, &str); 7] = [
 const TITLE: &str = "checks the six files of GTFS feeds, and writes indexes beside them";
 const MANY: &str = "With several feeds there is one verdict a line, and the exit status is the highest of theirs.";
 const PLACE: &str = "A place is FILE:LINE, or FILE:LINE:COLUMN where one field is refused; columns count from 1.";
+const REFUSED: &str = "Of a refused feed every fault is named: mend all of them, then check again for findings.";
 
 impl Flag {
     /// The option as it is typed: `-q, --quiet` or `--room N`.
@@ -153,7 +154,7 @@ pub fn help() -> String {
     FLAGS.iter().for_each(|flag| page += &entry(&format!("  tusuchiy {}", flag.typed()), flag.help));
     page += "\nExit status:\n";
     STATUSES.iter().for_each(|(status, words)| page += &format!("  {status}  {words}\n"));
-    page += &format!("{MANY}\n{PLACE}\n\nExamples:\n");
+    page += &format!("{REFUSED}\n{MANY}\n{PLACE}\n\nExamples:\n");
     EXAMPLES.iter().for_each(|(line, words)| page += &format!("  {line}\n      {words}\n"));
     page
 }
@@ -197,7 +198,7 @@ pub fn man() -> String {
     );
     page += ".SH DESCRIPTION\nThe check is proved: a feed is accepted exactly when no rule is broken.\n";
     page += "So is the index: it is accepted exactly when it lists every record once, its ids rising.\n";
-    page += &format!("{}\n{}\n", roff(MANY), roff(PLACE));
+    page += &format!("{}\n{}\n{}\n", roff(REFUSED), roff(MANY), roff(PLACE));
     let item = |flag: &Flag| format!(".TP\n.B {}\n{}\n", roff(&flag.typed()), roff(flag.help));
     page.extend(VERBS.iter().map(|verb| {
         let heading = format!("\"{} {}\"", verb.name.to_uppercase(), roff(verb.operand));

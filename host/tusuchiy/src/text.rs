@@ -5,7 +5,8 @@ use crate::explain::meaning;
 use crate::facts::{About, Facts};
 use crate::feed::{Feed, NAMES};
 use crate::paging::{Finding, Outcome, Page, Refusal, Report};
-use crate::refusals;
+use crate::refusals::Reasons;
+use crate::refused::{self, Faults};
 use crate::safe;
 use crate::style::Style;
 use std::collections::BTreeMap;
@@ -13,8 +14,8 @@ use std::io::{self, Write};
 use std::os::unix::ffi::OsStrExt;
 use std::time::Duration;
 
-/// How many findings of a rule are shown unless all are asked for.
-const FEW: usize = 5;
+/// How many findings of a rule, or faults of a number, are shown unless all are asked for.
+pub const FEW: usize = 5;
 
 /// How a report is printed.
 pub struct Layout {
@@ -31,10 +32,9 @@ pub fn write(out: &mut dyn Write, feed: &Feed, report: &Report, layout: &Layout)
     write_folder(out, feed)?;
     match &report.outcome {
         Outcome::Accepted => write_read(out, feed, layout),
-        Outcome::Refused(refusal) => {
-            let path = feed.place.of(NAMES[refusal.file - 1]);
-            write_refusal(out, feed, &path, (refusal, &refusals::about(feed, refusal)), style)?;
-            write_hint(out, refusal.number)
+        Outcome::Refused { first, faults, total } => {
+            let faults = Faults { list: faults, total: *total, page: report.page.as_ref() };
+            refused::write(out, feed, first, &faults, layout)
         }
         Outcome::Findings { list, total } => {
             let facts = Facts::new(feed, &report.tables);
@@ -63,12 +63,13 @@ pub fn verdict(report: &Report, style: Style) -> String {
     }
 }
 
-/// The verdict of one of many feeds: one line, with the place and the words of a refusal.
+/// The verdict of one of many feeds: one line, with the place and the words of a refusal and how many other faults there are.
 pub fn verdict_line(feed: &Feed, report: &Report, style: Style) -> String {
     let path = safe::text(feed.place.path.as_os_str().as_bytes());
     let more = match &report.outcome {
-        Outcome::Refused(refusal) => {
-            format!(": {}", in_short(NAMES[refusal.file - 1], refusal, &refusals::about(feed, refusal)))
+        Outcome::Refused { first, total, .. } => {
+            let words = in_short(NAMES[first.file - 1], first, &Reasons::new(feed).about(first));
+            format!(": {words}{}", and_more(total.saturating_sub(1)))
         }
         _ => String::new(),
     };
@@ -80,6 +81,11 @@ pub fn in_short(name: &str, refusal: &Refusal, about: &About) -> String {
     let Refusal { number, line, column, .. } = *refusal;
     let words = if about.words.is_empty() { meaning(number) } else { &about.words };
     format!("{name}{}: refusal {number}: {words}", numbers(line, column))
+}
+
+/// How many others are refused, where there are any.
+pub fn and_more(count: usize) -> String {
+    Some(count).filter(|count| *count > 0).map_or(String::new(), |count| format!(" (and {count} more)"))
 }
 
 /// What was read of an accepted feed, what wasn't, and the time that it took.
@@ -116,7 +122,7 @@ pub fn write_refusal(
 }
 
 /// A line, unless it is the whole file, and a column where there is one, as editors take them.
-fn numbers(line: usize, column: Option<usize>) -> String {
+pub fn numbers(line: usize, column: Option<usize>) -> String {
     let line = Some(line).filter(|line| *line > 0);
     line.into_iter().chain(column).map(|number| format!(":{number}")).collect()
 }
@@ -130,7 +136,7 @@ fn write_line(out: &mut dyn Write, feed: &Feed, file: usize, line: usize) -> io:
 }
 
 /// The line of a refusal, with carets under the column that is refused.
-fn write_marked(out: &mut dyn Write, feed: &Feed, refusal: &Refusal, style: Style) -> io::Result<()> {
+pub fn write_marked(out: &mut dyn Write, feed: &Feed, refusal: &Refusal, style: Style) -> io::Result<()> {
     let Refusal { file, line, column, .. } = *refusal;
     let Some(marked) = column.and_then(|column| carets::under(feed.line(file, line)?, column)) else {
         return write_line(out, feed, file, line);
@@ -169,12 +175,18 @@ fn write_rules(out: &mut dyn Write, feed: &Feed, facts: &Facts, list: &[Finding]
         let shown = if layout.all { count } else { count.min(FEW) };
         let findings = list.iter().filter(|finding| finding.rule == rule).take(shown);
         write_findings(out, feed, findings, layout.style, |finding| facts.about(finding).words)?;
-        if shown < count {
-            writeln!(out, "and {} more, which --all shows", count - shown)?;
-        }
+        write_left_out(out, count - shown)?;
     }
     writeln!(out)?;
     write_hint(out, totals.keys().next().copied().unwrap_or_default())
+}
+
+/// How many aren't shown, where there are any.
+pub fn write_left_out(out: &mut dyn Write, count: usize) -> io::Result<()> {
+    if count == 0 {
+        return Ok(());
+    }
+    writeln!(out, "and {count} more, which --all shows")
 }
 
 /// The place of each finding with words about it, and its line.

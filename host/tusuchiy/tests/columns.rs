@@ -22,7 +22,7 @@ fn printed(bytes: impl AsRef<[u8]>) -> (String, Vec<String>) {
     let mut lines = out(&output).lines().skip(1).map(str::to_string);
     let first = lines.next().expect("a place");
     let place = first.strip_prefix(&folder.at("stops.txt")).and_then(|rest| rest.split(": ").next());
-    let shown: Vec<String> = lines.take_while(|line| !line.starts_with('`')).collect();
+    let shown: Vec<String> = lines.take_while(|line| line.starts_with("    ")).collect();
     (place.expect("the file").to_string(), shown)
 }
 
@@ -155,10 +155,9 @@ fn the_report_marks_the_field() {
         let plain = plain.expect("a part for readers without a script");
         assert!(plain.contains(&format!("<li><b>{place}</b>, refusal ")), "{plain}");
         assert!(plain.contains(&format!("{marked}</code></li>")), "{plain}");
-        let data = between(out(&output), "id=\"data\">", "</script>");
         let (_, column) = place.rsplit_once(", ").expect("a column");
-        assert_eq!(data.get("column").text(), column);
         let rows = between(out(&output), "id=\"block-0\">", "</script>");
+        assert_eq!(rows.list()[0].list()[3].text(), column);
         let pieces = rows.list()[0].list()[1].list()[0].list()[2].list();
         let marks: Vec<&Json> = pieces.iter().filter(|piece| matches!(piece, Json::List(_))).collect();
         let [mark] = marks[..] else { panic!("{marks:?}") };

@@ -109,6 +109,7 @@ FEED/stop_times.txt:4:3: refusal 13: a value doesn't have the form that its colu
 wanted: a time as 8:05:00 or 08:05:00, hours 0 to 99, minutes and seconds 00 to 59
     B7-out-1,8:25:00,8:5:00,HILL,3,1
                      ^^^^^^
+nothing else is refused: mend the whole of this line, then check again for findings
 `tusuchiy explain 13` says more
 ";
     assert_eq!(out(&output), wanted.replace("FEED", &feed));
@@ -139,7 +140,19 @@ fn json_of_findings() {
     assert_eq!(out(&output).matches('\n').count(), 1, "one document, one line");
     let report = json::read(out(&output));
     let members = [
-        "version", "verdict", "refusal", "total", "written", "page", "findings", "totals", "feed", "folder", "records",
+        "version",
+        "verdict",
+        "refusal",
+        "faults_total",
+        "faults",
+        "total",
+        "written",
+        "page",
+        "findings",
+        "totals",
+        "feed",
+        "folder",
+        "records",
         "unread",
     ];
     assert_eq!(report.names(), members);
@@ -180,6 +193,7 @@ fn json_of_an_accepted_and_of_a_refused_feed() {
     assert_eq!(refusal.get("column_name").text(), "departure_time");
     assert_eq!(refusal.get("text").text(), "B7-out-1,8:25:00,8:5:00,HILL,3,1");
     assert_eq!(report.get("records"), &Json::Null);
+    assert_eq!((report.get("faults_total").number(), report.get("faults").list()), (1, std::slice::from_ref(refusal)));
 }
 
 #[test]
@@ -230,22 +244,30 @@ fn the_documented_examples_are_true() {
     report.stdout = out(&report).replace(&example("findings"), "examples/findings").into();
     assert_eq!(json::read(out(&report)), json::read(examples[0]));
     assert_eq!(document(&[&example("refused")]).get("refusal"), &json::read(examples[1]));
+    let (faults, shown) = (document(&["--room", "2", &example("faults")]), json::read(examples[2]));
+    assert_eq!(
+        ["faults_total", "faults"].map(|name| faults.get(name)),
+        ["faults_total", "faults"].map(|name| shown.get(name))
+    );
     let mut index = run(&["index", "--check", "--json", &example("by-date")]);
     index.stdout = out(&index).replace(&example("by-date"), "examples/by-date").into();
-    assert_eq!(json::read(out(&index)), json::read(examples[2]));
-    assert_eq!(examples.len(), 3);
+    assert_eq!(json::read(out(&index)), json::read(examples[3]));
+    assert_eq!(examples.len(), 4);
 }
 
-/// The example in the README is what the command prints.
+/// The examples in the README are what the command prints.
 #[test]
-fn the_readmes_example_is_true() {
+fn the_readmes_examples_are_true() {
     let page = include_str!("../../../README.md");
-    let shown = page.split("    $ ./tusuchiy check examples/refused\n").nth(1).expect("an example");
-    let shown: Vec<&str> = shown.lines().take_while(|line| !line.is_empty()).collect();
-    let output = run(&["check", &example("refused")]);
-    let said = out(&output).replace(&example("refused"), "examples/refused");
-    let wanted: Vec<String> = said.lines().map(|line| format!("    {line}")).collect();
-    assert_eq!(shown, wanted);
+    for name in ["refused", "faults"] {
+        let shown = page.split(&format!("    $ ./tusuchiy check examples/{name}\n")).nth(1).expect("an example");
+        // An example ends where the page goes on without four blanks.
+        let shown = shown.lines().take_while(|line| line.is_empty() || line.starts_with("    "));
+        let shown: Vec<&str> = shown.map(|line| line.strip_prefix("    ").unwrap_or(line)).collect();
+        let output = run(&["check", &example(name)]);
+        let said = out(&output).replace(&example(name), &format!("examples/{name}"));
+        assert_eq!(shown.join("\n").trim_end(), said.trim_end());
+    }
 }
 
 #[test]
@@ -256,7 +278,7 @@ fn whole_files_are_refused_without_a_line() {
     assert_eq!(status(&output), 2);
     let wanted = format!("refused\n{}: refusal 4: ", folder.at("trips.txt"));
     assert!(out(&output).starts_with(&wanted), "{}", out(&output));
-    assert_eq!(out(&output).lines().count(), 3);
+    assert_eq!(out(&output).lines().count(), 4);
     let report = document(&[folder.path()]);
     assert_eq!(report.get("refusal").get("line").number(), 0);
     assert_eq!(report.get("refusal").get("text"), &Json::Null);
@@ -420,7 +442,7 @@ fn help_and_version_are_there() {
     }
     for words in [&["--version"][..], &["-V"], &["check", "--version"]] {
         let output = run(words);
-        assert_eq!((status(&output), out(&output)), (0, "tusuchiy 0.6.0\n"), "{words:?}");
+        assert_eq!((status(&output), out(&output)), (0, "tusuchiy 0.7.0\n"), "{words:?}");
     }
 }
 

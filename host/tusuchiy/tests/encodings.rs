@@ -21,6 +21,7 @@ fn a_latin_1_file() {
     let output = run(&["check", folder.path()]);
     let wanted = format!(
         "refused\n{}:2: refusal 14: the line isn't well-formed UTF-8: {words}\n    B7,Caf\\xE9,3,\n\
+         nothing else is refused: mend the whole of this line, then check again for findings\n\
          `tusuchiy explain 14` says more\n",
         folder.at("routes.txt")
     );

@@ -160,7 +160,8 @@ fn a_file_that_is_refused() {
     assert_eq!(bytes(&folder, "trips.ttx").as_deref(), Some(TRIPS));
     assert_said(&folder, &["--check"], 2, &format!("refused\n{own}{}{hint}", others("accepted")));
     let check = run(&["check", folder.path()]);
-    assert_eq!(out(&check), format!("refused\n{own}{hint}").replace("FEED", folder.path()), "the same words");
+    let advice = "nothing else is refused: mend the whole of this line, then check again for findings\n";
+    assert_eq!(out(&check), format!("refused\n{own}{advice}{hint}").replace("FEED", folder.path()), "the same words");
     let told = document(&[folder.path()]);
     let refusal = told.get("indexes").list()[0].get("refusal");
     assert_eq!(refusal, json::read(out(&run(&["check", "--json", folder.path()]))).get("refusal"), "the same document");

@@ -5,7 +5,8 @@ mod common;
 use common::example_files;
 use std::num::NonZeroU32;
 use tusuchiy::index::{self, Refused};
-use tusuchiy::{table_sizes, Check, Fault, File, Finding, IndexAnswer, IndexRefusal, Place, Refusal, Rule, Verdict};
+use tusuchiy::{faults, table_sizes, Check, Fault, FaultsAnswer, File, Finding};
+use tusuchiy::{IndexAnswer, IndexRefusal, Place, Refusal, Rule, Verdict};
 
 fn slices(files: &[Vec<u8>; 6]) -> [&[u8]; 6] {
     files.each_ref().map(|file| &file[..])
@@ -56,6 +57,61 @@ fn a_feed_that_is_refused_has_a_fault_and_no_findings() {
     assert_eq!(fault.to_string(), format!("stop_times.txt:4:3: refusal 13: {}", refusal.meaning()));
     assert!(check.findings().next().is_none());
     assert!(check.tables().iter().flatten().all(|&number| number == 0), "a refusal writes nothing");
+}
+
+/// The faults of `examples/faults`, by hand: file, line, number, column.
+const FAULTS: [[i32; 4]; 7] =
+    [[1, 3, 10, 0], [1, 4, 12, 2], [2, 1, 9, 0], [3, 3, 13, 10], [4, 0, 4, 0], [5, 3, 13, 3], [6, 2, 13, 3]];
+
+/// The numbers of a fault.
+fn numbers(fault: &Fault) -> [i32; 4] {
+    let column = fault.column.map_or(0, |column| column.get() as i32);
+    [fault.file.number() as i32, fault.line as i32, fault.refusal.number() as i32, column]
+}
+
+#[test]
+fn pages_of_faults_join() {
+    let files = example_files("faults");
+    let check = Check::new(slices(&files)).expect("memory");
+    for room in [0, 1, 2, 3, 6, 7, 8, usize::MAX] {
+        let told: Result<Vec<Fault>, _> = check.faults_by(room).collect();
+        assert_eq!(told.expect("faults").iter().map(numbers).collect::<Vec<_>>(), FAULTS, "room {room}");
+    }
+    let told: Vec<Fault> = check.faults().map(|fault| fault.expect("a fault")).collect();
+    assert_eq!(told.iter().map(numbers).collect::<Vec<_>>(), FAULTS);
+    let page = check.faults_page(Place::from(told[1]), 2).expect("a page");
+    assert_eq!((page.total, &page.faults[..]), (7, &told[2..4]));
+    assert_eq!(check.faults_page(Place::START, 0).expect("a page").faults, []);
+    let mut check = check;
+    let Verdict::Refused(first) = check.verdict().expect("an answer") else { panic!("not refused") };
+    assert_eq!(first, told[4]);
+}
+
+/// The function as the archive has it: any starting place, room of length / 4, and the rest of the list stays.
+#[test]
+fn faults_in_a_lent_list() {
+    let files = example_files("faults");
+    let starts = [[0, 0, 0], [1, 4, 12], [2, 1, 8], [4, 0, 3], [6, 2, 12], [6, 2, 13], [i32::MIN; 3], [i32::MAX; 3]];
+    for (start, length) in starts.iter().flat_map(|start| (0..32).map(move |length| (*start, length))) {
+        let mut list = vec![77; length];
+        let answer = faults::faults(slices(&files), &mut list, start);
+        let after = FAULTS.iter().filter(|fault| fault[..3] > start[..]).take(length / 4);
+        let mut wanted: Vec<i32> = after.flatten().copied().collect();
+        assert_eq!(answer, FaultsAnswer { written: wanted.len() as i32 / 4, total: 7 }, "{start:?}, {length}");
+        wanted.resize(length, 77);
+        assert_eq!(list, wanted, "{start:?}, {length}");
+    }
+}
+
+/// A feed that can be read has no faults, and the list stays as it was.
+#[test]
+fn a_feed_that_can_be_read_has_no_faults() {
+    for name in ["feed", "findings", "by-date"] {
+        let (files, mut list) = (example_files(name), [77; 8]);
+        let answer = faults::try_faults(slices(&files), &mut list, [0, 0, 0]).expect("a thread");
+        assert_eq!((answer, list), (FaultsAnswer { written: 0, total: 0 }, [77; 8]), "{name}");
+        assert!(Check::new(slices(&files)).expect("memory").faults().next().is_none());
+    }
 }
 
 #[test]

@@ -301,6 +301,23 @@ fn memory_has_a_bound_with_many_findings() {
     assert!(out(&output).starts_with("findings: 131069\n"));
 }
 
+/// Six files as long as rule 1 allows, with as many faults as there can be: one on each line, on one more without an ending,
+/// and that it has none.
+#[test]
+fn memory_has_a_bound_with_many_faults() {
+    let own = own();
+    let folder = Folder::empty("many-faults");
+    let line = format!("\t{}\n", "x".repeat(252));
+    let file = format!("{}\t", line.repeat(65_536));
+    assert!((16_500_000..16_777_216).contains(&file.len()));
+    NAMES.iter().for_each(|name| folder.put(name, file.as_bytes()));
+    let output = within(own + FEED, &["check", folder.path()]);
+    assert_eq!(status(&output), 2, "{}", said(&output));
+    assert!(out(&output).contains("\nfaults: 393228, this one among them\n"), "{}", out(&output));
+    let output = within(own + FEED, &["report", "-o", "/dev/null", folder.path()]);
+    assert_eq!(status(&output), 2, "{}", said(&output));
+}
+
 /// A zip file in a folder of its own.
 fn zipped(name: &str, members: &[Member]) -> (Folder, String) {
     let folder = Folder::empty(name);
@@ -312,7 +329,7 @@ fn zipped(name: &str, members: &[Member]) -> (Folder, String) {
 /// What the documents of the two feeds say, but for where they are.
 fn assert_same(zip: &str, folder: &str) {
     let [of_zip, of_folder] = [zip, folder].map(|feed| document(&[feed]));
-    for member in ["verdict", "refusal", "total", "findings", "totals", "records"] {
+    for member in ["verdict", "refusal", "faults_total", "faults", "total", "findings", "totals", "records"] {
         assert_eq!(of_zip.get(member), of_folder.get(member), "{member}");
     }
 }

@@ -13,6 +13,7 @@ fn the_status_is_the_verdict_and_the_page_is_the_file() {
         ("feed", 0, "accepted"),
         ("findings", 1, "findings: 5"),
         ("refused", 2, "refused"),
+        ("faults", 2, "refused"),
         ("by-date", 0, "accepted"),
     ];
     for (name, wanted, verdict) in examples {

@@ -77,6 +77,7 @@ fn compare(name: &str, files: &model::Files, report: &Json) -> Vec<(i64, Names)>
             }
             assert_eq!(refusal.get("about"), &members(&facts), "{name}, refusal {number}");
             assert!(!refusal.get("words").text().is_empty(), "{name}");
+            compare_faults(name, files, report);
             vec![(number as i64, names(refusal.get("about")))]
         }
         Answer::Findings { written, .. } => {
@@ -92,6 +93,24 @@ fn compare(name: &str, files: &model::Files, report: &Json) -> Vec<(i64, Names)>
             }
             found.iter().map(|found| (found.get("rule").number(), names(found.get("about")))).collect()
         }
+    }
+}
+
+/// Fails where what a fault of the list is about differs from the model's facts. The model knows lines with an ending.
+fn compare_faults(name: &str, files: &model::Files, report: &Json) {
+    for fault in report.get("faults").list() {
+        let [number, file, line] = ["number", "file", "line"].map(|member| fault.get(member).number() as usize);
+        if line > model::fields::line_ends(&files[file - 1]) {
+            continue;
+        }
+        let mut facts = of_refusal(files, number, file, line);
+        if number == 13 {
+            let column = fault.get("column_name").text();
+            let known = COLUMNS[file - 1].iter().find(|known| known.name == column).expect("a known column");
+            facts.push(("wanted", Fact::Text(wanted(known.form).into())));
+        }
+        assert_eq!(fault.get("about"), &members(&facts), "{name}, {file}:{line}, fault {number}");
+        assert!(!fault.get("words").text().is_empty(), "{name}");
     }
 }
 

@@ -2,6 +2,7 @@
 
 use super::{name, records, Done, Outcome};
 use crate::json;
+use crate::refusals::Reasons;
 use crate::value::Value;
 use std::io::{self, Write};
 use std::os::unix::ffi::OsStrExt;
@@ -30,7 +31,9 @@ fn of_file(done: &Done, file: File, outcome: &Outcome) -> Value {
     let (verdict, length, refusal) = match outcome {
         Outcome::Good(length) => (done.good(), Some(*length), Value::Null),
         Outcome::NotSupplied => ("not_supplied", None, Value::Null),
-        Outcome::Refused(refusal, about) => ("refused", None, json::refused(&done.feed, refusal, about.clone())),
+        Outcome::Refused(refusal, about) => {
+            ("refused", None, json::refused(&done.feed, &Reasons::new(&done.feed), refusal, about.clone()))
+        }
     };
     Value::Members(vec![
         ("file", Value::size(file.number())),

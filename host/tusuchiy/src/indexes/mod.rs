@@ -10,8 +10,9 @@ use crate::facts::About;
 use crate::feed::Feed;
 use crate::folder::{self, Files};
 use crate::paging::Refusal;
+use crate::refusals::Reasons;
 use crate::style::{self, Style, When};
-use crate::{many, refusals, safe, source, zip, REFUSED};
+use crate::{many, safe, source, zip, REFUSED};
 use std::fs;
 use std::os::unix::ffi::OsStrExt;
 use std::path::{Path, PathBuf};
@@ -160,7 +161,7 @@ fn refusal(feed: &Feed, file: File, index: Option<&[u8]>, refused: Refused) -> O
         Refused::File(fault) if feed.left_out(file) => Outcome::Refused(fault.into(), about::of_nothing(file)),
         Refused::File(fault) => {
             let refusal = Refusal::from(fault);
-            let about = refusals::about(feed, &refusal);
+            let about = Reasons::new(feed).about(&refusal);
             Outcome::Refused(refusal, about)
         }
         Refused::Index(refusal) => {

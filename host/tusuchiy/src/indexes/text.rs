@@ -44,8 +44,7 @@ pub fn verdict_line(done: &Done, style: Style) -> String {
     let path = safe::text(done.feed.place.path.as_os_str().as_bytes());
     let mut refused = done.refused();
     let first = refused.next().map(|(refusal, about)| format!(": {}", text::in_short(named(refusal), refusal, about)));
-    let more = Some(refused.count()).filter(|more| *more > 0).map(|more| format!(" (and {more} more)"));
-    let words = [first, more].map(Option::unwrap_or_default).concat();
+    let words = first.unwrap_or_default() + &text::and_more(refused.count());
     format!("{}: {}{words}", style.path(&path), verdict(done, style))
 }
 

@@ -86,8 +86,7 @@ fn head(subject: &Subject, blocks: usize) -> Value {
     Value::Members(vec![
         ("files", Value::texts(NAMES)),
         ("meanings", Value::List(meanings.collect())),
-        ("word", Value::text(if subject.refused() { "refusal" } else { "finding" })),
-        ("column", subject.column().map_or(Value::Null, Value::text)),
+        ("word", Value::text(subject.word())),
         ("total", Value::size(subject.faults.len())),
         ("block", Value::size(BLOCK)),
         ("blocks", Value::size(blocks)),
@@ -114,12 +113,14 @@ fn line_of(record: i32) -> usize {
     usize::try_from(record).ok().filter(|record| *record > 0).map_or(0, |record| record + 1)
 }
 
-/// What is said of a fault, the lines that go with it, and its trip among those that are drawn (-1 is none).
+/// What is said of a fault, the lines that go with it, its trip among those that are drawn (-1 is none), and its column, if any.
 fn row(subject: &Subject, headers: &Headers, trips: &Trips, fault: &Fault) -> Value {
     let about = subject.about(fault);
     let lines = headers.lines(fault, &about);
     let trip = trips.place(subject, headers, fault).map_or(-1, |place| place as i64);
-    Value::List(vec![Value::text(about.words), Value::List(lines.iter().map(shown).collect()), Value::Number(trip)])
+    let mut row = vec![Value::text(about.words), Value::List(lines.iter().map(shown).collect()), Value::Number(trip)];
+    row.extend(subject.column(fault).map(Value::text));
+    Value::List(row)
 }
 
 fn shown(line: &Shown) -> Value {

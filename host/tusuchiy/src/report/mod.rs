@@ -8,10 +8,12 @@ mod parts;
 use crate::facts::{About, Facts};
 use crate::feed::Feed;
 use crate::many;
+use crate::memory;
 use crate::paging::{self, Finding, Outcome, Refusal, Report};
 use crate::progress;
+use crate::refusals::Reasons;
 use crate::style::{self, When};
-use crate::{refusals, safe, source, text};
+use crate::{hidden, safe, source, text};
 use std::fs::File;
 use std::io::{self, BufWriter, IsTerminal, Write};
 use std::os::unix::ffi::OsStrExt;
@@ -73,44 +75,78 @@ struct Subject<'a> {
     feed: &'a Feed,
     report: &'a Report,
     facts: Facts<'a>,
+    reasons: Reasons<'a>,
     faults: Vec<Fault>,
+}
+
+impl From<&Refusal> for Fault {
+    fn from(refusal: &Refusal) -> Self {
+        let Refusal { number, file, line, column } = *refusal;
+        Fault { file, line, column, number }
+    }
+}
+
+impl From<&Finding> for Fault {
+    fn from(finding: &Finding) -> Self {
+        let Finding { file, line, rule } = *finding;
+        Fault { file, line, column: None, number: rule }
+    }
 }
 
 impl<'a> Subject<'a> {
     fn new(feed: &'a Feed, report: &'a Report) -> Self {
         let faults = match &report.outcome {
             Outcome::Accepted => Vec::new(),
-            Outcome::Refused(Refusal { number, file, line, column }) => {
-                vec![Fault { file: *file, line: *line, column: *column, number: *number }]
-            }
-            Outcome::Findings { list, .. } => {
-                let fault = |found: &Finding| {
-                    let Finding { file, line, rule } = *found;
-                    Fault { file, line, column: None, number: rule }
-                };
-                list.iter().map(fault).collect()
-            }
+            Outcome::Refused { faults, .. } => memory::list(faults.iter().map(Fault::from), faults.len()),
+            Outcome::Findings { list, .. } => memory::list(list.iter().map(Fault::from), list.len()),
         };
-        Subject { feed, report, facts: Facts::new(feed, &report.tables), faults }
+        Subject { feed, report, facts: Facts::new(feed, &report.tables), reasons: Reasons::new(feed), faults }
+    }
+
+    /// What the verdict names, if the feed is refused.
+    fn first(&self) -> Option<Fault> {
+        match &self.report.outcome {
+            Outcome::Refused { first, .. } => Some(Fault::from(first)),
+            _ => None,
+        }
     }
 
     fn refused(&self) -> bool {
-        matches!(self.report.outcome, Outcome::Refused(_))
+        self.first().is_some()
+    }
+
+    /// What stands in the list: findings, or the faults of a refused feed.
+    fn word(&self) -> &'static str {
+        if self.refused() {
+            "fault"
+        } else {
+            "finding"
+        }
+    }
+
+    /// What the list leaves open, since something else is to be mended first.
+    fn hidden(&self) -> Vec<String> {
+        match &self.report.outcome {
+            Outcome::Refused { faults, .. } => hidden::sentences(self.feed, faults),
+            _ => Vec::new(),
+        }
     }
 
     /// What a fault is about.
     fn about(&self, fault: &Fault) -> About {
-        match &self.report.outcome {
-            Outcome::Refused(refusal) => refusals::about(self.feed, refusal),
-            _ => self.facts.about(&Finding { file: fault.file, line: fault.line, rule: fault.number }),
+        let Fault { file, line, column, number } = *fault;
+        if self.refused() {
+            self.reasons.listed(&Refusal { number, file, line, column })
+        } else {
+            self.facts.about(&Finding { file, line, rule: number })
         }
     }
 
     /// The column that is refused, with its name in the header, if one is.
-    fn column(&self) -> Option<String> {
-        let Outcome::Refused(refusal) = &self.report.outcome else { return None };
-        let name = refusals::column_name(self.feed, refusal)?;
-        Some(format!("column {} ({})", refusal.column?, safe::text(&name)))
+    fn column(&self, fault: &Fault) -> Option<String> {
+        let Fault { file, line, column, number } = *fault;
+        let name = self.reasons.column_name(&Refusal { number, file, line, column })?;
+        Some(format!("column {} ({})", column?, safe::text(&name)))
     }
 }
 
@@ -144,6 +180,7 @@ fn part(out: &mut dyn Write, name: &str, subject: &Subject) -> io::Result<()> {
         // Where there is no fault, nothing is said about faults.
         "none" => if subject.faults.is_empty() { " hidden" } else { "" }.to_string(),
         "heading" => if subject.refused() { "What is refused" } else { "Findings" }.to_string(),
+        "word" => subject.word().to_string(),
         "version" => env!("CARGO_PKG_VERSION").to_string(),
         _ => unreachable!("the frame names no part {name}"),
     };

@@ -19,15 +19,15 @@ const trips = once(() => read("trips"));
 const stopName = (line) => { const stop = stops()[line - 2]; return stop ? stop[3] || stop[2] : ""; };
 
 const blocks = new Map();
-// What is said of a finding: words, lines, trip. Blocks are parsed when they are needed.
+// What is said of a finding or a fault: words, lines, trip, column. Blocks are parsed when they are needed.
 function row(place) {
   const number = Math.floor(place / data.block);
   if (!blocks.has(number)) {
     if (blocks.size >= KEPT_BLOCKS) blocks.clear();
     blocks.set(number, read("block-" + number));
   }
-  const [words, lines, trip] = blocks.get(number)[place % data.block];
-  return { words, lines, trip };
+  const [words, lines, trip, column] = blocks.get(number)[place % data.block];
+  return { words, lines, trip, column };
 }
 
 // An element: attributes, handlers (functions), and children, which are elements or text.
@@ -125,9 +125,8 @@ function showPages(nav) {
 }
 
 function card(place, drawn) {
-  const { file, line, number, stop } = fault(place), { words, lines, trip } = row(place);
-  // Only a refusal has a column, and it is the only one on the page.
-  const where = [data.files[file - 1], line ? `line ${grouped(line)}` : null, data.column].filter(Boolean).join(", ");
+  const { file, line, number, stop } = fault(place), { words, lines, trip, column } = row(place);
+  const where = [data.files[file - 1], line ? `line ${grouped(line)}` : null, column].filter(Boolean).join(", ");
   const rule = `${capital(kind(number))} ${number}: ${meanings.get(number)}`;
   const open = trip >= 0 && !drawn.has(trip) && drawn.size < PICTURES;
   if (open) drawn.add(trip);
@@ -499,7 +498,7 @@ function startFilters() {
 function startTotals() {
   document.querySelectorAll("#totals tbody tr").forEach((line) => {
     const number = Number(line.dataset.number), cell = line.querySelector(".count");
-    const label = `${cell.textContent}, show the findings of ${kind(number)} ${number}`;
+    const label = `${cell.textContent}, show the ${data.word}s of ${kind(number)} ${number}`;
     cell.replaceChildren(el("button", { type: "button", class: "link", "aria-label": label, click: () => {
       Object.assign(chosen, { file: 0, number, stop: 0, text: "" });
       byId("filter-file").value = "0"; byId("filter-text").value = ""; byId("filter-number").value = String(number);

@@ -9,7 +9,7 @@ use crate::paging::Outcome;
 use crate::safe;
 use std::collections::BTreeMap;
 use std::os::unix::ffi::OsStrExt;
-use tusuchiy::File;
+use tusuchiy::{File, MOST_BYTES};
 
 /// How many faults stand in the page for readers without a script.
 const PLAIN: usize = 100;
@@ -57,8 +57,8 @@ fn path(subject: &Subject) -> String {
 pub fn title(subject: &Subject) -> String {
     let verdict = match subject.report.outcome {
         Outcome::Accepted => "accepted".to_string(),
-        Outcome::Findings { total, .. } => format!("{} findings", grouped(total)),
-        Outcome::Refused { .. } => "refused".to_string(),
+        Outcome::Findings { total, .. } => several(total, "finding"),
+        Outcome::Refused { total, .. } => format!("refused, {}", several(total, "fault")),
     };
     format!("{}: {verdict}", path(subject))
 }
@@ -77,20 +77,49 @@ pub fn verdict(subject: &Subject) -> String {
         Outcome::Findings { total, .. } => (
             "findings",
             "!",
-            format!("{} {}", grouped(total), if total == 1 { "finding" } else { "findings" }),
+            several(total, "finding"),
             "All files can be read, but something in them doesn't fit together. Not accepted until each finding is mended.",
         ),
         Outcome::Refused { .. } => (
             "refused",
             "✕",
             "Refused".to_string(),
-            "A file can't be read as it stands, so nothing else was looked at. Mend it and check again.",
+            "The files can't be read as they stand.",
         ),
     };
     format!(
         "<p class=\"verdict {kind}\" id=\"verdict\"><span class=\"sign\" aria-hidden=\"true\">{sign}</span>{head}</p>\n\
-         <p class=\"lead\">{words}</p>"
+         <p class=\"lead\">{words}</p>{}",
+        refusal(subject)
     )
+}
+
+/// Of a refused feed: how many faults there are and what to do, what the verdict names, and what wasn't judged.
+fn refusal(subject: &Subject) -> String {
+    let Some(first) = subject.first() else { return String::new() };
+    let total = subject.faults.len();
+    let these = if total == 1 { "it" } else { "all of these" };
+    let lead = |kind: &str, words: &str| format!("\n<p class=\"lead {kind}\">{}</p>", escaped(words));
+    let advice = format!("{}: mend {these}, then check again for findings.", several(total, "fault"));
+    let named = format!("The verdict names refusal {} in {}.", first.number, place(subject, &first));
+    // A sentence begins with a capital letter, unless it begins with the name of a file.
+    let begins = |sentence: &str| NAMES.iter().any(|name| sentence.starts_with(name));
+    let written = |sentence: &String| if begins(sentence) { sentence.clone() } else { capital(sentence) };
+    let hidden =
+        subject.hidden().iter().map(|sentence| lead("hidden-faults", &(written(sentence) + "."))).collect::<String>();
+    lead("advice", &advice) + &lead("named", &named) + &hidden
+}
+
+/// A number of something, of which there may be one.
+fn several(count: usize, word: &str) -> String {
+    format!("{} {word}{}", grouped(count), if count == 1 { "" } else { "s" })
+}
+
+/// Where a fault stands: file, line and column, as far as it has them.
+fn place(subject: &Subject, fault: &Fault) -> String {
+    let line = (fault.line > 0).then(|| format!("line {}", fault.line));
+    let parts = [Some(NAMES[fault.file - 1].to_string()), line, subject.column(fault)];
+    parts.into_iter().flatten().collect::<Vec<_>>().join(", ")
 }
 
 /// How many records were read, in a line; of a feed that was refused nobody says what its records are.
@@ -121,11 +150,16 @@ pub fn read(subject: &Subject) -> String {
         }
         let records = count.filter(|_| !subject.refused()).map_or(String::new(), grouped);
         let bytes = feed.bytes(file);
+        // Of a longer file the beginning was read, and its digest would be that of no file.
+        let (length, digest) = match bytes.len() {
+            length if length > MOST_BYTES => {
+                (format!("over {}", grouped(MOST_BYTES)), "not read to its end".to_string())
+            }
+            length => (grouped(length), format!("<code>{}</code>", hex(&sha256(bytes)))),
+        };
         format!(
-            "<tr><th scope=\"row\">{file}</th><td class=\"number\">{records}</td><td class=\"number\">{}</td>\
-             <td class=\"digest\"><code>{}</code></td></tr>\n",
-            grouped(bytes.len()),
-            hex(&sha256(bytes))
+            "<tr><th scope=\"row\">{file}</th><td class=\"number\">{records}</td><td class=\"number\">{length}</td>\
+             <td class=\"digest\">{digest}</td></tr>\n"
         )
     };
     let rows: String = feed.records().map(row).concat();
@@ -202,14 +236,11 @@ pub fn plain(subject: &Subject) -> String {
     let headers = Headers::new(subject.feed);
     let item = |fault: &Fault| {
         let about = subject.about(fault);
-        let line = (fault.line > 0).then(|| format!("line {}", fault.line));
-        let place: Vec<String> =
-            [Some(NAMES[fault.file - 1].to_string()), line, subject.column()].into_iter().flatten().collect();
         let lines = headers.lines(fault, &about);
         let own = lines.iter().find(|shown| (shown.file, shown.line) == (fault.file, fault.line));
         format!(
             "<li><b>{}</b>, {} {}: {}{}</li>\n",
-            escaped(&place.join(", ")),
+            escaped(&place(subject, fault)),
             word(fault.number),
             fault.number,
             escaped(&about.words),
