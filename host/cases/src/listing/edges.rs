@@ -3,6 +3,7 @@
 use super::{Case, NUMBERS};
 use crate::edges::{base, odd_files, BASE, MARK};
 use model::faults::{faults, Fault};
+use model::fields::line_ends;
 use model::{Files, FILES};
 
 /// What a line below the header can break alone, and what a header can.
@@ -194,12 +195,12 @@ fn pages() -> Vec<Case> {
     cases
 }
 
-/// Files at the limits of rules 1 and 2 and over them, with faults on their lines, ended or not.
+/// Files at the limits of rules 1 and 2 and over them, with faults on their lines, ended or not, beside one with a fault of its own.
 pub fn at_the_limits(file: usize) -> Vec<Case> {
     let lines = ended(&all_lines(file, header(file, &[])), b"\n");
-    let feeds = lines.iter().filter(|&&byte| byte == b'\n').count();
+    let ends = line_ends(&lines);
     let long = |length: usize, end: &[u8]| [&lines[..], &vec![b'x'; length - lines.len() - end.len()], end].concat();
-    let many = |count: usize, end: &[u8]| [&lines[..], &vec![b'\n'; count - feeds], end].concat();
+    let many = |count: usize, end: &[u8]| [&lines[..], &vec![b'\n'; count - ends], end].concat();
     let both = |end: &[u8]| [&lines[..], &vec![b'\n'; 16_777_217], end].concat();
     let files = [
         long(16_777_216, b"\n"),
@@ -214,6 +215,8 @@ pub fn at_the_limits(file: usize) -> Vec<Case> {
         both(b"\t"),
     ];
     let mut cases: Vec<Case> = files.into_iter().map(|bytes| with_file(file, bytes)).collect();
+    let beside = (file + 1) % FILES;
+    cases.iter_mut().for_each(|case| case.files[beside].extend(b"\t\n"));
     // The last lines of a file with as many as there may be.
     let last = Case { start: [file as i32 + 1, 65_530, 14], ..cases[5].clone() };
     // Of several faults of the whole file those behind the first.
