@@ -6,6 +6,7 @@ pub mod mend;
 
 use crate::agree::Lists;
 use model::faults::{self, Answer, Fault};
+use model::page::hand_out;
 use model::Files;
 
 /// How many numbers of the list a fault takes.
@@ -42,6 +43,13 @@ pub fn by_model(case: &Case) -> Outcome {
     let mut list = case.list.clone();
     let answer = faults::hand_out(&case.files, &mut list, case.start);
     Outcome { answer, list }
+}
+
+/// The same, where all faults of its feed are known.
+pub fn of_faults(case: &Case, all: &[Fault]) -> Outcome {
+    let mut list = case.list.clone();
+    let written = hand_out(all, &mut list, case.start);
+    Outcome { answer: Answer { written, total: all.len() }, list }
 }
 
 /// Says in a line where two outcomes of a call differ; none if they agree.

@@ -10,8 +10,7 @@ use cases::listing::{by_model, whole};
 use cases::{agree, vectors};
 use model::columns::COLUMNS;
 use model::faults::{faults, Fault};
-use model::fields::fields;
-use model::fields::lines;
+use model::fields::{fields, lines};
 use model::reading::{read, value_breaks};
 use model::{Answer, Files, FILES};
 use std::collections::{BTreeMap, BTreeSet};
@@ -200,6 +199,17 @@ fn a_third_round_where_a_file_is_too_large() {
     let too_many = |file: &[u8]| [file, &many].concat();
     assert_eq!(lengths(&[good.clone(), feed(&[(5, &too_many(&bad[5]))])]), [1, 8]);
     assert_eq!(lengths(&[good.clone(), feed(&[(5, &too_many(&good[5]))])]), [1]);
+}
+
+/// calendar_dates excuses an empty calendar; whoever takes it away, in place of mending it, is told of calendar then.
+#[test]
+fn calendar_is_excused_by_calendar_dates() {
+    let files = feed(&[(2, b""), (5, b"service_id\n")]);
+    assert_eq!(faults(&files), [[6, 1, 9, 0]]);
+    assert_eq!(faults(&feed(&[(2, b""), (5, b"")])), [[3, 0, 4, 0]]);
+    assert_eq!(lengths(&[feed(&[(2, b"")]), files]), [1]);
+    assert_eq!(lengths(&[feed(&[(2, b"")]), feed(&[(2, b""), (5, b"")])]), [1]);
+    assert_eq!(lengths(&[feed(&[(5, b"")]), feed(&[(2, b""), (5, b"")])]), [1]);
 }
 
 /// The one place where an ending put behind the last line breaks another rule: the file is at its limit, and that line is one too many.

@@ -201,9 +201,8 @@ pub fn at_the_limits(file: usize) -> Vec<Case> {
     let ends = line_ends(&lines);
     let long = |length: usize, end: &[u8]| [&lines[..], &vec![b'x'; length - lines.len() - end.len()], end].concat();
     let many = |count: usize, end: &[u8]| [&lines[..], &vec![b'\n'; count - ends], end].concat();
-    let both = |end: &[u8]| [&lines[..], &vec![b'\n'; 16_777_217], end].concat();
+    let both = [&lines[..], &vec![b'\n'; 16_777_217], b"\t"].concat();
     let files = [
-        long(16_777_216, b"\n"),
         long(16_777_216, b"\t"),
         long(16_777_217, b"\n"),
         long(16_777_217, b"\t"),
@@ -211,16 +210,15 @@ pub fn at_the_limits(file: usize) -> Vec<Case> {
         many(65_536, b"\t"),
         many(65_537, b""),
         many(65_537, b"\t"),
-        both(b""),
-        both(b"\t"),
+        both,
     ];
     let mut cases: Vec<Case> = files.into_iter().map(|bytes| with_file(file, bytes)).collect();
     let beside = (file + 1) % FILES;
     cases.iter_mut().for_each(|case| case.files[beside].extend(b"\t\n"));
     // The last lines of a file with as many as there may be.
-    let last = Case { start: [file as i32 + 1, 65_530, 14], ..cases[5].clone() };
+    let last = Case { start: [file as i32 + 1, 65_530, 14], ..cases[4].clone() };
     // Of several faults of the whole file those behind the first.
-    let behind = [1, 2].map(|number| Case { start: [file as i32 + 1, 0, number], ..cases[9].clone() });
+    let behind = [1, 2].map(|number| Case { start: [file as i32 + 1, 0, number], ..cases[7].clone() });
     cases.push(last);
     cases.extend(behind);
     cases
