@@ -230,7 +230,7 @@ fn files_that_are_too_large() {
 /// At the limits nothing is hidden: 65,536 LF bytes, and a line behind them.
 #[test]
 fn files_that_are_as_large_as_they_may_be() {
-    let good = [&DATES[..], b"\n", &b"W,20240704,2\n".repeat(65_535)].concat();
+    let good = [DATES, b"\n", &b"W,20240704,2\n".repeat(65_535)].concat();
     listed(&[(6, &good)], &[]);
     listed(&[(6, &[&good[..], b"W,2024070,2"].concat())], &[[6, 0, 4, 0], [6, 65_537, 13, 2]]);
     listed(&[(6, &[&good[..], b"\r"].concat())], &[[6, 0, 4, 0], [6, 65_537, 5, 0]]);

@@ -225,8 +225,8 @@ fn unmarked(file: &[u8]) -> &[u8] {
     file.strip_prefix(MARK).unwrap_or(file)
 }
 
-/// The lines of a file, the mark taken off so, its ended lines and the last bytes trimmed so.
-fn of<'a>(file: &'a [u8], to_the_end: bool, trim: fn(&[u8]) -> &[u8], unmark: fn(&[u8]) -> &[u8]) -> Vec<&'a [u8]> {
+/// The lines of a file, the mark taken off so, and those that have their ending trimmed so.
+fn of(file: &[u8], to_the_end: bool, trim: fn(&[u8]) -> &[u8], unmark: fn(&[u8]) -> &[u8]) -> Vec<&[u8]> {
     let mut lines: Vec<&[u8]> = unmark(file).split(|&byte| byte == b'\n').collect();
     let rest = lines.pop().unwrap_or_default();
     lines = lines.into_iter().map(trim).collect();

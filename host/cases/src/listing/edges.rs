@@ -143,7 +143,7 @@ fn of_services() -> Vec<Case> {
     feeds.into_iter().map(|files| whole("files 3 and 6".to_string(), files)).collect()
 }
 
-/// A feed with several faults in every file: no file hides anything, files 2 and 6 have refused headers, files 4 and 6 no end.
+/// A feed with several faults in every file: none is too large, files 2 and 6 have refused headers, files 4 and 6 no end.
 pub fn several() -> Files {
     let lines = |file: usize, head: &[usize], numbers: &[usize]| {
         let broken = numbers.iter().flat_map(|number| [line(file, &[*number]), line(file, &[])]);
@@ -182,7 +182,7 @@ fn around(fault: &Fault) -> Vec<[i32; 3]> {
     places
 }
 
-/// Lists of every length from the beginning, and short ones from every place around a fault; a file with three faults of its own is among them.
+/// Lists of every length from the beginning, and short ones from every place around a fault.
 fn pages() -> Vec<Case> {
     let files = several();
     let all = faults(&files);
