@@ -13,7 +13,7 @@ use model::reading::{leftmost, twice};
 use model::{Files, FILES};
 
 /// How many seeds are looked at: as many as the archive is compared with the model on.
-const SEEDS: u64 = 2400;
+const SEEDS: u64 = 2000;
 
 /// How a call is read. Rules are named in the order in which they are tested.
 #[derive(Clone, Copy)]

@@ -74,12 +74,12 @@ fn list(random: &mut Random) -> Vec<i32> {
 
 /// The list's beginning, a fault, a place beside one, or any three numbers.
 fn start(files: &Files, random: &mut Random) -> [i32; 3] {
-    let faults = faults(files);
-    if faults.is_empty() || random.once_in(2) {
+    if random.once_in(2) {
         let any: [i32; 3] = from_fn(|_| random.any_i32());
         return *random.pick(&[[0; 3], [0; 3], any, [3, any[1], any[2]]]);
     }
-    let fault = random.pick(&faults);
+    let faults = faults(files);
+    let fault = if faults.is_empty() { [0; 4] } else { *random.pick(&faults) };
     let mut start = [fault[0], fault[1], fault[2]];
     if random.once_in(2) {
         start[random.below(3)] += *random.pick(&[-1, 1]);
