@@ -1,7 +1,10 @@
-//! A check, and writer and reader of an index, held to the customer's cases and to the model, on as many threads as there are processors.
+//! A check, writer and reader of an index, and the list of all faults, held to the customer's cases and to the model, on as many threads as
+//! there are processors.
 
 use crate::large::{self, families::FAMILIES};
-use crate::{by_model, difference, edges, generate, index, vectors, Case, Outcome};
+use crate::{by_model, difference, edges, generate, index, listing, vectors, Case, Outcome};
+use model::Files;
+use std::sync::Mutex;
 use std::thread;
 
 /// What a check makes of a case.
@@ -83,6 +86,51 @@ pub fn on_generated_calls_about_an_index(indexes: Indexes, seeds: usize) {
         let case = index::generate::case(seed as u64);
         with_index_outcome(indexes, &case, &index::by_model(&case));
     });
+}
+
+/// What a list of faults makes of a call.
+pub type Lists = fn(&listing::Case) -> listing::Outcome;
+
+/// Fails where the outcome of a call for the list of faults is not the one wanted.
+pub fn with_list_outcome(lists: Lists, case: &listing::Case, wanted: &listing::Outcome) {
+    if let Some(difference) = listing::difference(wanted, &lists(case)) {
+        panic!("{difference}: {}", case.words());
+    }
+}
+
+/// Fails where the outcome of a call for the list of faults is not the model's.
+pub fn with_model_list(lists: Lists, case: &listing::Case) {
+    with_list_outcome(lists, case, &listing::by_model(case));
+}
+
+pub fn on_every_edge_case_about_faults(lists: Lists) {
+    let cases = listing::edges::cases();
+    share(cases.len(), |place| with_model_list(lists, &cases[place]));
+}
+
+/// Each seed's call, and the whole list of its feed.
+pub fn on_generated_calls_about_faults(lists: Lists, seeds: usize) {
+    share(seeds, |seed| {
+        let case = listing::generate::case(seed as u64);
+        let all = model::faults::faults(&case.files);
+        with_list_outcome(lists, &case, &listing::of_faults(&case, &all));
+        let whole = listing::Case { list: vec![-9; 400], start: [0, 0, 0], ..case };
+        with_list_outcome(lists, &whole, &listing::of_faults(&whole, &all));
+    });
+}
+
+/// Feeds with damage in several files, mended by what is listed until nothing is; they have to be readable then. How many took no round,
+/// one, two and three.
+pub fn on_mended_feeds(lists: Lists, readable: impl Fn(&Files) -> bool + Sync, seeds: usize) -> [usize; 4] {
+    let counts = Mutex::new([0; 4]);
+    share(seeds, |seed| {
+        let feeds = listing::mend::mendable(listing::generate::pair(seed as u64));
+        let (named, mended) = listing::mend::rounds(&feeds, |files| listing::whole(lists, files));
+        listing::mend::only_what_was_hidden(&named);
+        assert!(readable(&mended), "seed {seed} can't be read after {} rounds", named.len());
+        counts.lock().expect("no thread failed")[named.len()] += 1;
+    });
+    counts.into_inner().expect("no thread failed")
 }
 
 #[cfg(test)]
@@ -175,5 +223,38 @@ mod tests {
     #[should_panic(expected = "number: 44")]
     fn another_refusal_fails_on_vectors() {
         on_every_vector_about_an_index(one_refusal);
+    }
+
+    /// The model's outcome, but no fault has a column.
+    fn list_without_columns(case: &listing::Case) -> listing::Outcome {
+        let mut outcome = listing::by_model(case);
+        let faults = outcome.list.chunks_exact_mut(listing::NUMBERS).take(outcome.answer.written);
+        faults.for_each(|fault| fault[3] = 0);
+        outcome
+    }
+
+    #[test]
+    #[should_panic(expected = "thread panicked")]
+    fn a_list_without_columns_fails_on_edge_cases() {
+        on_every_edge_case_about_faults(list_without_columns);
+    }
+
+    #[test]
+    #[should_panic(expected = "thread panicked")]
+    fn a_list_without_columns_fails_on_generated_calls() {
+        on_generated_calls_about_faults(list_without_columns, 100);
+    }
+
+    /// Names nothing below the header, so that what is mended can't be read.
+    fn headers_only(case: &listing::Case) -> listing::Outcome {
+        let mut all = model::faults::faults(&case.files);
+        all.retain(|fault| fault[1] < 2);
+        listing::of_faults(case, &all)
+    }
+
+    #[test]
+    #[should_panic(expected = "thread panicked")]
+    fn a_list_that_leaves_lines_out_is_not_enough_to_mend() {
+        on_mended_feeds(headers_only, |files| model::faults::faults(files).is_empty(), 100);
     }
 }

@@ -178,7 +178,8 @@ fn long_raw() -> Vec<Vec<u8>> {
     raw
 }
 
-const MARK: &[u8] = b"\xEF\xBB\xBF";
+/// The three bytes that may stand at the start of a file.
+pub const MARK: &[u8] = b"\xEF\xBB\xBF";
 
 /// Files that are odd as a whole.
 const ODD: [&[u8]; 13] = [
@@ -198,7 +199,7 @@ const ODD: [&[u8]; 13] = [
 ];
 
 /// Odd files, and files made odd from a good one.
-fn odd_files(good: &[u8]) -> Vec<Vec<u8>> {
+pub fn odd_files(good: &[u8]) -> Vec<Vec<u8>> {
     let body = &good[..good.len() - 1];
     let header = good.iter().position(|&byte| byte == b'\n').map_or(0, |place| place + 1);
     let mut files: Vec<Vec<u8>> = ODD.map(<[u8]>::to_vec).to_vec();

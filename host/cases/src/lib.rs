@@ -12,6 +12,7 @@ pub mod generate;
 pub mod index;
 pub mod large;
 pub mod lines;
+pub mod listing;
 pub mod orders;
 pub mod random;
 pub mod readings;

@@ -20,9 +20,18 @@ pub fn line_ends(file: &[u8]) -> usize {
     file.iter().filter(|&&byte| byte == b'\n').count()
 }
 
-/// The lines of a file whose last byte is LF. Three bytes EF BB BF at the start are dropped.
+/// Where line 1 starts: three bytes EF BB BF at the start of a file are dropped.
+fn first_line(file: &[u8]) -> usize {
+    if file.starts_with(b"\xEF\xBB\xBF") {
+        3
+    } else {
+        0
+    }
+}
+
+/// The lines of a file that have their ending. Three bytes EF BB BF at the start are dropped.
 pub fn lines(file: &[u8]) -> Vec<Line<'_>> {
-    let mut start = if file.starts_with(b"\xEF\xBB\xBF") { 3 } else { 0 };
+    let mut start = first_line(file);
     let mut lines = Vec::new();
     for (place, &byte) in file.iter().enumerate() {
         if byte == b'\n' {
@@ -34,6 +43,14 @@ pub fn lines(file: &[u8]) -> Vec<Line<'_>> {
         }
     }
     lines
+}
+
+/// The bytes behind the last LF, if there are any, as they stand: no ending follows, so a CR among them belongs to none.
+pub fn unended_line(file: &[u8]) -> Option<Line<'_>> {
+    let last = file.iter().rposition(|&byte| byte == b'\n');
+    let start = last.map_or(first_line(file), |place| place + 1);
+    let text = &file[start..];
+    (!text.is_empty()).then_some(Line { start, text })
 }
 
 #[derive(Clone, Copy, PartialEq)]

@@ -1,10 +1,11 @@
 //! The whole check of document 01 with requests E2, E1, E6 and E7, written naively from the documents: files in, tables, list and answer out;
-//! and request E4's index.
+//! request E4's index, and issue 19's list of all faults.
 #![forbid(unsafe_code)]
 
 pub mod characters;
 pub mod columns;
 pub mod facts;
+pub mod faults;
 pub mod fields;
 pub mod forms;
 pub mod index;

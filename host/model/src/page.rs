@@ -1,13 +1,11 @@
-//! The list: the findings after a starting place, as many as fit.
+//! The list: the findings or faults after a starting place, as many as fit.
 
-use crate::rules::Finding;
-
-/// Writes the findings strictly greater than the start, the earliest first, and tells how many.
-pub fn hand_out(findings: &[Finding], list: &mut [i32], start: Finding) -> usize {
-    let room = list.len() / 3;
+/// Writes what stands strictly behind the start by its first three numbers, the earliest first, and tells how many of them.
+pub fn hand_out<const NUMBERS: usize>(all: &[[i32; NUMBERS]], list: &mut [i32], start: [i32; 3]) -> usize {
+    let room = list.len() / NUMBERS;
     let mut written = 0;
-    for finding in findings.iter().filter(|&&finding| finding > start).take(room) {
-        list[written * 3..written * 3 + 3].copy_from_slice(finding);
+    for one in all.iter().filter(|one| one[..3] > start[..]).take(room) {
+        list[written * NUMBERS..written * NUMBERS + NUMBERS].copy_from_slice(one);
         written += 1;
     }
     written

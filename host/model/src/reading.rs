@@ -60,8 +60,7 @@ pub type Feed = [Sheet; FILES];
 pub fn read(files: &Files, room: [usize; FILES]) -> Result<Feed, Answer> {
     for number in 1..=4 {
         for file in 1..=FILES {
-            let excused = number == 4 && may_be_absent(files, file);
-            if !excused && whole_file_broken(number, file, &files[file - 1], room[file - 1]) {
+            if whole_file_breaks(number, file, files, room[file - 1]) {
                 return Err(Answer::Refused { number, file, line: 0, column: 0 });
             }
         }
@@ -76,6 +75,12 @@ pub fn read_alone(bytes: &[u8], file: usize) -> Result<Sheet, Answer> {
         Some(number) => Err(Answer::Refused { number, file, line: 0, column: 0 }),
         None => sheet_of(bytes, file),
     }
+}
+
+/// Rules 1 to 4 within a feed, where a file may be not supplied, which doesn't break rule 4.
+pub fn whole_file_breaks(number: usize, file: usize, files: &Files, room: usize) -> bool {
+    let excused = number == 4 && may_be_absent(files, file);
+    !excused && whole_file_broken(number, file, &files[file - 1], room)
 }
 
 /// Rules 1 to 4: is this one broken by the file of this number, with room for so many numbers in its table?
@@ -99,9 +104,9 @@ fn may_be_absent(files: &Files, file: usize) -> bool {
 }
 
 /// The rule that a line breaks, and the column, counted from 1; rules that name no column have 0.
-struct Broken {
-    number: usize,
-    column: usize,
+pub struct Broken {
+    pub number: usize,
+    pub column: usize,
 }
 
 /// A rule that names no column.
@@ -130,7 +135,7 @@ fn sheet(file: &[u8], columns: &'static [Column]) -> Result<Sheet, (usize, Broke
 }
 
 /// Rules 5, 14, 6 and 7, which every line has to hold, tested in this order: its fields.
-fn fields_of(line: Line) -> Result<Vec<Field>, Broken> {
+pub fn fields_of(line: Line) -> Result<Vec<Field>, Broken> {
     if line.text.contains(&b'\t') || line.text.contains(&b'\r') {
         return Err(whole_line(5));
     }
@@ -145,7 +150,7 @@ fn fields_of(line: Line) -> Result<Vec<Field>, Broken> {
 }
 
 /// Rules 5 to 9 and 14: the names of the header line.
-fn header(line: Line, columns: &[Column]) -> Result<Vec<Vec<u8>>, Broken> {
+pub fn header(line: Line, columns: &[Column]) -> Result<Vec<Vec<u8>>, Broken> {
     let names: Vec<Vec<u8>> = fields_of(line)?.into_iter().map(|field| field.value).collect();
     if let Some(column) = twice(&names, columns) {
         return Err(Broken { number: 8, column });
@@ -167,7 +172,7 @@ pub fn twice(names: &[Vec<u8>], columns: &[Column]) -> Option<usize> {
 }
 
 /// Rules 5 to 7 and 10 to 14: the fields of a record line under the known columns.
-fn row(line: Line, columns: &[Column], header: &[Vec<u8>]) -> Result<Vec<Field>, Broken> {
+pub fn row(line: Line, columns: &[Column], header: &[Vec<u8>]) -> Result<Vec<Field>, Broken> {
     let fields = fields_of(line)?;
     if fields.len() != header.len() {
         return Err(whole_line(10));
