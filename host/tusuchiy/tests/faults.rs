@@ -138,32 +138,48 @@ fn mended(file: &[u8], line: i64, by: &str) -> Vec<u8> {
     lines.map(|line| format!("{line}\n")).collect::<String>().into_bytes()
 }
 
-/// Mending what is listed makes the feed readable; the line that the refused header hid comes after it, as announced.
-#[test]
-fn what_is_listed_is_mended_and_the_feed_is_good() {
-    let mut files = example_files("faults");
-    let by: BTreeMap<[i64; 2], &str> = [
-        ([1, 3], "PARK,Park Gate,52.5198,13.3880"),
-        ([1, 4], "HILL,Hill Road,52.5120,13.3899"),
-        ([2, 1], "route_id,route_short_name,route_type"),
-        ([2, 3], "B8,8,3"),
-        ([3, 3], "HOLIDAYS,0,0,0,0,0,1,1,20240101,20240229"),
-        ([4, 0], ""),
-        ([5, 3], "B7-1,8:10:00,8:10:00,PARK,2"),
-        ([6, 2], "HOLIDAYS,20241225,1"),
-    ]
-    .into();
-    let folder = Folder::empty("mended");
-    for (round, wanted) in [(1, &FAULTS[..]), (2, &[[2, 3, 13, 3]])] {
+/// What stands in the place of each faulty line of `examples/faults`; line 0: the last line gets its ending.
+const GOOD: [([i64; 2], &str); 8] = [
+    ([1, 3], "PARK,Park Gate,52.5198,13.3880"),
+    ([1, 4], "HILL,Hill Road,52.5120,13.3899"),
+    ([2, 1], "route_id,route_short_name,route_type"),
+    ([2, 3], "B8,8,3"),
+    ([3, 3], "HOLIDAYS,0,0,0,0,0,1,1,20240101,20240229"),
+    ([4, 0], ""),
+    ([5, 3], "B7-1,8:10:00,8:10:00,PARK,2"),
+    ([6, 2], "HOLIDAYS,20241225,1"),
+];
+
+/// Fails unless the command lists these faults round by round, where what it lists is mended and nothing else, and then accepts.
+fn mended_in(name: &str, mut files: [Vec<u8>; 6], rounds: &[&[Fault]]) {
+    let good: BTreeMap<[i64; 2], &str> = GOOD.into();
+    let folder = Folder::empty(name);
+    for (round, wanted) in rounds.iter().enumerate() {
         let told = agreed(&folder.put_feed("feed", &files));
-        assert_eq!(told, wanted, "round {round}");
+        assert_eq!(told, *wanted, "round {}", round + 1);
         for [file, line, ..] in told {
             let bytes = &mut files[file as usize - 1];
-            *bytes = mended(bytes, line, by[&[file, line]]);
+            *bytes = mended(bytes, line, good[&[file, line]]);
         }
     }
     let output = run(&["check", &folder.put_feed("feed", &files)]);
     assert!(out(&output).starts_with("accepted\n"), "{}", out(&output));
+}
+
+/// Faults in every file, and no header among them: one run names all, and mending just these makes the feed good.
+#[test]
+fn what_is_listed_is_mended_and_the_feed_is_good() {
+    let mut files = example_files("faults");
+    files[1] = mended(&files[1], 1, "route_id,route_short_name,route_type");
+    let mut faults = FAULTS;
+    faults[2] = [2, 3, 13, 3];
+    mended_in("mended", files, &[&faults]);
+}
+
+/// The line that a refused header hid comes once the header is mended, as announced.
+#[test]
+fn what_a_header_hid_comes_in_a_second_round() {
+    mended_in("hidden", example_files("faults"), &[&FAULTS, &[[2, 3, 13, 3]]]);
 }
 
 /// The accepted example with these bytes in some files.
