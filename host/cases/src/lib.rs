@@ -14,6 +14,7 @@ pub mod large;
 pub mod lines;
 pub mod listing;
 pub mod orders;
+pub mod processes;
 pub mod random;
 pub mod readings;
 pub mod render;

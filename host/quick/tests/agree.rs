@@ -17,23 +17,23 @@ fn by_quick(case: &Case) -> Outcome {
 
 #[test]
 fn on_every_vector() {
-    agree::on_every_vector(by_quick);
+    agree::on_every_vector(by_quick).on_threads();
 }
 
 #[test]
 fn on_every_edge_case() {
-    agree::on_every_edge_case(by_quick);
+    agree::on_every_edge_case(by_quick).on_threads();
 }
 
 #[test]
 fn on_generated_feeds() {
-    agree::on_generated_feeds(by_quick, SEEDS);
+    agree::on_generated_feeds(by_quick, SEEDS).on_threads();
 }
 
 /// The benchmark's feeds, with a list for all findings and with one that ends before them.
 #[test]
 fn on_the_benchmarks_feeds() {
-    agree::on_the_benchmarks_feeds(by_quick, &[(64, 1000), (64, 10), (4096, 100_000)]);
+    agree::on_the_benchmarks_feeds(by_quick, &[(64, 1000), (64, 10), (4096, 100_000)]).on_threads();
 }
 
 /// The model would take a minute here, so this only shows that none is refused.

@@ -89,6 +89,11 @@ pub fn faults(files: [&[u8]; FILES], list: &mut [i32], after: [i32; 3]) -> Fault
     try_faults(files, list, after).expect("a thread for the faults")
 }
 
+/// The same on the stack that the caller has, as [`check_here`](crate::check_here).
+pub fn faults_here(files: [&[u8]; FILES], list: &mut [i32], after: [i32; 3]) -> FaultsAnswer {
+    archive::faults(files, list, after)
+}
+
 /// The faults after a place, as many as there was room for, and how many the feed has, which depends on neither.
 #[derive(Clone, Debug, PartialEq, Eq)]
 pub struct Page {

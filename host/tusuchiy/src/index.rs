@@ -123,6 +123,16 @@ pub fn check(file_number: i32, file: &[u8], index: &[u8]) -> IndexAnswer {
     try_check(file_number, file, index).expect("a thread for the index")
 }
 
+/// [`try_write`] on the stack that the caller has, as [`check_here`](crate::check_here).
+pub fn write_here(file_number: i32, file: &[u8], buffer: &mut [u8]) -> IndexAnswer {
+    archive::write(file_number, file, buffer)
+}
+
+/// [`try_check`] on the stack that the caller has, as [`check_here`](crate::check_here).
+pub fn check_here(file_number: i32, file: &[u8], index: &[u8]) -> IndexAnswer {
+    archive::check(file_number, file, index)
+}
+
 /// How many bytes the index of a file has that can be read: 8, and 2 for each line but the header.
 #[must_use]
 pub fn length(file: &[u8]) -> usize {

@@ -155,6 +155,12 @@ pub fn try_check(
     on_stack(THREAD_STACK, move || archive::check(files, tables, list, after))
 }
 
+/// The same on the stack that the caller has, in no other thread. [`STACK`] bytes of it must be left: where there are fewer the system may end
+/// the process, and that is all that can happen, since the archive's code touches each page of a stack before those below it.
+pub fn check_here(files: [&[u8]; FILES], tables: [&mut [i32]; FILES], list: &mut [i32], after: [i32; 3]) -> Answer {
+    archive::check(files, tables, list, after)
+}
+
 /// Makes a call in a thread with so much stack.
 fn on_stack<Told: Send>(size: usize, call: impl FnOnce() -> Told + Send) -> io::Result<Told> {
     thread::scope(|scope| {

@@ -1,8 +1,24 @@
-//! The archive against the model and the customer's cases: the answer, all tables and the list, whole.
+//! The archive against the model and the customer's cases: the answer, all tables and the list, whole. By processes of one thread each, so
+//! every call is made on the stack of the main thread.
 
-use cases::{agree, by_model, generate, Case, Outcome};
+use cases::agree::{self, Comparison};
+use cases::{by_model, generate, processes, Case, Outcome};
 use model::Files;
+use std::process::ExitCode;
 use tusuchiy::{Answer, Verdict};
+
+fn main() -> ExitCode {
+    processes::main(&[
+        ("on_every_vector", || agree::on_every_vector(by_archive)),
+        ("on_every_edge_case", || agree::on_every_edge_case(by_archive)),
+        ("on_generated_feeds", || agree::on_generated_feeds(by_archive, SEEDS)),
+        ("on_the_benchmarks_feeds", || agree::on_the_benchmarks_feeds(by_archive, &[(64, 12_000), (1024, 12_000)])),
+        ("pages_join", pages_join),
+        ("rule_2_at_its_edge_and_over_it", rule_2_at_its_edge_and_over_it),
+        ("rule_1_at_its_edge_and_over_it", rule_1_at_its_edge_and_over_it),
+        ("the_limits_speak_in_their_order", || Comparison::once(the_limits_speak_in_their_order)),
+    ])
+}
 
 /// How many seeds the archive and the model are compared on.
 const SEEDS: usize = 8000;
@@ -42,7 +58,7 @@ fn by_archive(case: &Case) -> Outcome {
     let mut tables = case.tables.each_ref().map(guarded);
     let mut list = guarded(&case.list);
     let inside = |length: usize| GUARD..length - GUARD;
-    let answer = tusuchiy::check(
+    let answer = tusuchiy::check_here(
         case.files.each_ref().map(|file| &file[..]),
         tables.each_mut().map(|table| {
             let range = inside(table.len());
@@ -68,47 +84,17 @@ fn compare(case: &Case, wanted: &Outcome) {
     agree::with_outcome(by_archive, case, wanted);
 }
 
-#[test]
-fn on_every_vector() {
-    agree::on_every_vector(by_archive);
-}
-
-/// A caller's thread may be small: the call has a stack of its own.
-#[test]
-fn from_a_thread_with_a_small_stack() {
-    let small = std::thread::Builder::new().stack_size(256 << 10);
-    let call = || by_archive(&case_of_lines(21)).answer;
-    assert_eq!(small.spawn(call).expect("a thread").join().expect("an answer"), model::Answer::Accepted);
-}
-
-#[test]
-fn on_every_edge_case() {
-    agree::on_every_edge_case(by_archive);
-}
-
-#[test]
-fn on_generated_feeds() {
-    agree::on_generated_feeds(by_archive, SEEDS);
-}
-
-/// The benchmark's feeds: every order of a trip's lines.
-#[test]
-fn on_the_benchmarks_feeds() {
-    agree::on_the_benchmarks_feeds(by_archive, &[(64, 12_000), (1024, 12_000)]);
-}
-
 /// Pages of one and of two findings, each from the last one handed out, join to the whole list.
-#[test]
-fn pages_join() {
-    let faulty = |seed: &u64| generate::kind(*seed) == generate::Kind::Faulty;
-    for seed in (0..400).filter(faulty) {
-        let case = Case { list: vec![0; 30_000], start: [0, 0, 0], ..generate::case(seed) };
+fn pages_join() -> Comparison<'static> {
+    let seeds: Vec<u64> = (0..400).filter(|&seed| generate::kind(seed) == generate::Kind::Faulty).collect();
+    Comparison::new(seeds.len(), move |place| {
+        let case = Case { list: vec![0; 30_000], start: [0, 0, 0], ..generate::case(seeds[place]) };
         let whole = by_model(&case);
-        let model::Answer::Findings { total, .. } = whole.answer else { continue };
+        let model::Answer::Findings { total, .. } = whole.answer else { return };
         for room in [1, 2] {
             assert_eq!(joined(&case, room, total), whole.list[..total * 3], "{}", case.name);
         }
-    }
+    })
 }
 
 /// All pages of a feed with this room, one after the other.
@@ -143,21 +129,29 @@ fn case_of(name: String, files: Files) -> Case {
     Case { name, files, tables, list: vec![3; 10], start: [0, 0, 0] }
 }
 
-#[test]
-fn rule_2_at_its_edge_and_over_it() {
-    for (file, of) in [(5, case_of_lines as fn(usize) -> Case), (6, case_of_dates)] {
-        let at = of(65_536);
-        let wanted = by_model(&at);
-        assert_eq!(wanted.answer, model::Answer::Accepted);
-        compare(&at, &wanted);
-        let over = of(65_537);
-        let wanted = Outcome {
-            answer: model::Answer::Refused { number: 2, file, line: 0, column: 0 },
-            tables: over.tables.clone(),
-            list: over.list.clone(),
-        };
-        compare(&over, &wanted);
-    }
+/// The feeds at the limit, then those over it, which this rule refuses.
+fn rule_2_at_its_edge_and_over_it() -> Comparison<'static> {
+    Comparison::new(4, |number| {
+        let (file, of) = [(5, case_of_lines as fn(usize) -> Case), (6, case_of_dates)][number % 2];
+        if number < 2 {
+            accepted(&of(65_536));
+        } else {
+            refused(&of(65_537), 2, file);
+        }
+    })
+}
+
+/// Fails unless the archive accepts a feed, as the model does.
+fn accepted(case: &Case) {
+    let wanted = by_model(case);
+    assert_eq!(wanted.answer, model::Answer::Accepted, "{}", case.name);
+    compare(case, &wanted);
+}
+
+/// Fails unless a rule of whole files refuses a feed, and everything stays as lent.
+fn refused(case: &Case, number: usize, file: usize) {
+    let answer = model::Answer::Refused { number, file, line: 0, column: 0 };
+    compare(case, &Outcome { answer, tables: case.tables.clone(), list: case.list.clone() });
 }
 
 /// A small feed whose file is filled up to this many bytes by an unread column of its last line.
@@ -181,36 +175,26 @@ fn case_of_bytes(file: usize, bytes: usize) -> Case {
     case_of(format!("file {} of {bytes} bytes", file + 1), files)
 }
 
-#[test]
-fn rule_1_at_its_edge_and_over_it() {
-    for file in [0, 4, 5] {
-        let at = case_of_bytes(file, 16_777_216);
-        assert_eq!(at.files[file].len(), 16_777_216);
-        let wanted = by_model(&at);
-        assert_eq!(wanted.answer, model::Answer::Accepted);
-        compare(&at, &wanted);
-        let over = case_of_bytes(file, 16_777_217);
-        assert_eq!(over.files[file].len(), 16_777_217);
-        let wanted = Outcome {
-            answer: model::Answer::Refused { number: 1, file: file + 1, line: 0, column: 0 },
-            tables: over.tables.clone(),
-            list: over.list.clone(),
-        };
-        compare(&over, &wanted);
-    }
+/// The feeds at the limit, then those over it, which this rule refuses.
+fn rule_1_at_its_edge_and_over_it() -> Comparison<'static> {
+    Comparison::new(6, |number| {
+        let file = [0, 4, 5][number % 3];
+        let bytes = if number < 3 { 16_777_216 } else { 16_777_217 };
+        let case = case_of_bytes(file, bytes);
+        assert_eq!(case.files[file].len(), bytes);
+        if number < 3 {
+            accepted(&case);
+        } else {
+            refused(&case, 1, file + 1);
+        }
+    })
 }
 
 /// Rule 1 speaks before rule 2 whatever the files, and rule 2 before 3 and 4.
-#[test]
 fn the_limits_speak_in_their_order() {
     let mut case = Case { list: vec![1; 7], ..Case::default() };
     case.files[0] = vec![b'\n'; 65_537];
     case.files[4] = vec![b'x'; 16_777_217];
-    let refused = |case: &Case, number, file| {
-        let answer = model::Answer::Refused { number, file, line: 0, column: 0 };
-        let wanted = Outcome { answer, tables: case.tables.clone(), list: case.list.clone() };
-        compare(case, &wanted);
-    };
     refused(&case, 1, 5);
     case.files[4].pop();
     refused(&case, 2, 1);

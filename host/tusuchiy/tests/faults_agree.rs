@@ -1,19 +1,34 @@
-//! The list of all faults in the archive against the model: the answer, and the list, whole; and feeds that are mended by what it names.
+//! The list of all faults in the archive against the model: the answer, and the list, whole; and feeds that are mended by what it names. By
+//! processes of one thread each, so every call is made on the stack of the main thread.
 
-use cases::agree::{self, with_model_list};
+use cases::agree::{self, with_model_list, Comparison};
+use cases::large::tables;
 use cases::listing::edges::{at_the_limits, several};
 use cases::listing::generate::pair;
 use cases::listing::mend::{only_what_was_hidden, rounds};
 use cases::listing::{whole, Case, Outcome};
+use cases::processes;
 use model::faults::{faults, Answer, Fault};
 use model::Files;
-use tusuchiy::{Check, Verdict};
+use std::process::ExitCode;
+use tusuchiy::Verdict;
 
 /// How many seeds the archive and the model are compared on, with two calls each.
 const SEEDS: usize = 2000;
 
-/// How many feeds are mended and checked again.
-const MENDED: usize = 500;
+fn main() -> ExitCode {
+    processes::main(&[
+        ("on_every_edge_case", || agree::on_every_edge_case_about_faults(by_archive)),
+        ("on_generated_calls", || agree::on_generated_calls_about_faults(by_archive, SEEDS)),
+        ("at_the_limits_and_over_them", at_the_limits_and_over_them),
+        ("pages_join", || Comparison::new(61, pages_join)),
+        ("as_many_faults_as_there_can_be", || Comparison::once(as_many_faults_as_there_can_be)),
+        ("the_list_beside_the_verdict", || Comparison::new(400, the_list_beside_the_verdict)),
+        ("a_readable_feed_leaves_the_list_as_lent", || Comparison::once(a_readable_feed_leaves_the_list_as_lent)),
+        ("what_is_listed_is_mended", || agree::on_mended_feeds(by_archive, readable)),
+        ("faults_in_every_file_are_mended_at_once", || Comparison::once(faults_in_every_file_are_mended_at_once)),
+    ])
+}
 
 /// What the archive makes of a call, with guards around the list: nothing outside may change.
 fn by_archive(case: &Case) -> Outcome {
@@ -21,7 +36,7 @@ fn by_archive(case: &Case) -> Outcome {
     let mut guarded = [&[77; GUARD][..], &case.list, &[77; GUARD]].concat();
     let inside = GUARD..GUARD + case.list.len();
     let files = case.files.each_ref().map(|file| &file[..]);
-    let answer = tusuchiy::faults::faults(files, &mut guarded[inside.clone()], case.start);
+    let answer = tusuchiy::faults::faults_here(files, &mut guarded[inside.clone()], case.start);
     assert!(guarded[..GUARD].iter().chain(&guarded[inside.end..]).all(|&number| number == 77), "{}", case.name);
     let [written, total] =
         [answer.written, answer.total].map(|number| usize::try_from(number).expect("none is below 0"));
@@ -30,8 +45,10 @@ fn by_archive(case: &Case) -> Outcome {
 
 /// The archive's verdict on a feed, with tables that are long enough: none where it can be read, else its refusal as a fault.
 fn refusal(files: &Files) -> Option<Fault> {
-    let mut check = Check::new(files.each_ref().map(|file| &file[..])).expect("memory for the tables");
-    match check.verdict().expect("a verdict") {
+    let lent = files.each_ref().map(|file| &file[..]);
+    let mut tables = tables(files, 0);
+    let answer = tusuchiy::check_here(lent, tables.each_mut().map(|table| &mut table[..]), &mut [], [0, 0, 0]);
+    match answer.verdict().expect("a verdict") {
         Verdict::Refused(fault) => {
             let column = fault.column.map_or(0, |column| column.get() as i32);
             Some([fault.file.number() as i32, fault.line as i32, fault.refusal.number() as i32, column])
@@ -44,32 +61,20 @@ fn readable(files: &Files) -> bool {
     refusal(files).is_none()
 }
 
-#[test]
-fn on_every_edge_case() {
-    agree::on_every_edge_case_about_faults(by_archive);
-}
-
-#[test]
-fn on_generated_calls() {
-    agree::on_generated_calls_about_faults(by_archive, SEEDS);
-}
-
 /// Rules 1 and 2 at their edges and over them, and the line behind as many as there may be.
-#[test]
-fn at_the_limits_and_over_them() {
-    at_the_limits(5).iter().for_each(|case| with_model_list(by_archive, case));
+fn at_the_limits_and_over_them() -> Comparison<'static> {
+    let cases = at_the_limits(5);
+    Comparison::new(cases.len(), move |place| with_model_list(by_archive, &cases[place]))
 }
 
 /// Pages of one and of two faults, each from the last one handed out, join to the whole list.
-#[test]
-fn pages_join() {
-    assert_eq!(whole(by_archive, &several()), faults(&several()));
-    for seed in 0..60 {
-        let files = &pair(seed)[1];
-        let all = faults(files);
-        for room in [1, 2] {
-            assert_eq!(joined(files, room, all.len()), all.concat(), "seed {seed}");
-        }
+fn pages_join(seed: usize) {
+    // The last one is no seed.
+    let files = &if seed == 60 { several() } else { pair(seed as u64)[1].clone() };
+    let all = faults(files);
+    assert_eq!(whole(by_archive, files), all, "seed {seed}");
+    for room in [1, 2] {
+        assert_eq!(joined(files, room, all.len()), all.concat(), "seed {seed}");
     }
 }
 
@@ -89,7 +94,6 @@ fn joined(files: &Files, room: usize, total: usize) -> Vec<i32> {
 }
 
 /// Every line of a file with as many as there may be has a fault: below a refused header those behind the last LF, below a good one all.
-#[test]
 fn as_many_faults_as_there_can_be() {
     let mut files = several();
     files[4] = vec![b'\n'; 65_536];
@@ -101,35 +105,22 @@ fn as_many_faults_as_there_can_be() {
 }
 
 /// With tables that are long enough the feed is readable just when the list is empty, and else the refusal is in it.
-#[test]
-fn the_list_beside_the_verdict() {
-    for seed in 0..400 {
-        let files = &pair(seed)[1];
-        let list = whole(by_archive, files);
-        match refusal(files) {
-            None => assert_eq!(list, [[0; 4]; 0], "seed {seed}"),
-            Some(refusal) => assert!(list.contains(&refusal), "seed {seed}: {refusal:?} isn't in {list:?}"),
-        }
+fn the_list_beside_the_verdict(seed: usize) {
+    let files = &pair(seed as u64)[1];
+    let list = whole(by_archive, files);
+    match refusal(files) {
+        None => assert_eq!(list, [[0; 4]; 0], "seed {seed}"),
+        Some(refusal) => assert!(list.contains(&refusal), "seed {seed}: {refusal:?} isn't in {list:?}"),
     }
 }
 
 /// A feed that can be read has no fault, and no table is lent that rule 3 could look at: the list stays as lent.
-#[test]
 fn a_readable_feed_leaves_the_list_as_lent() {
     let case = Case { name: "good".to_string(), files: cases::edges::base(), list: vec![7; 9], start: [0, 0, 0] };
     assert_eq!(by_archive(&case), Outcome { answer: Answer { written: 0, total: 0 }, list: vec![7; 9] });
 }
 
-/// Damaged feeds can be read when what is listed is mended; what a second or third list names was hidden before.
-#[test]
-fn what_is_listed_is_mended() {
-    let reached = agree::on_mended_feeds(by_archive, readable, MENDED);
-    println!("feeds by rounds {reached:?}");
-    assert!(reached[1] > 50 && reached[2] > 50, "{reached:?}");
-}
-
 /// A feed with faults in every file: one list, and each line of it mended, makes it readable where no header is refused.
-#[test]
 fn faults_in_every_file_are_mended_at_once() {
     let good = cases::edges::base();
     let bad = good.each_ref().map(|file| {

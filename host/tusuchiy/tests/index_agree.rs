@@ -1,12 +1,25 @@
-//! Writer and reader of an index in the archive against the model and the customer's cases: the answer, and what was lent, whole.
+//! Writer and reader of an index in the archive against the model and the customer's cases: the answer, and what was lent, whole. By processes
+//! of one thread each, so every call is made on the stack of the main thread.
 
-use cases::agree::{self, with_index_outcome};
+use cases::agree::{self, with_index_outcome, Comparison};
 use cases::index::{sorted, Asked, Case, Outcome};
+use cases::processes;
 use model::index::{bytes, Answer};
-use tusuchiy::index::{check, write};
+use std::process::ExitCode;
+use tusuchiy::index::{check_here, write_here};
 
 /// How many seeds the archive and the model are compared on.
 const SEEDS: usize = 1500;
+
+fn main() -> ExitCode {
+    processes::main(&[
+        ("on_every_vector", || agree::on_every_vector_about_an_index(by_archive)),
+        ("on_every_edge_case", || agree::on_every_edge_case_about_an_index(by_archive)),
+        ("on_generated_calls", || agree::on_generated_calls_about_an_index(by_archive, SEEDS)),
+        ("rule_2_at_its_edge_and_over_it", || Comparison::once(rule_2_at_its_edge_and_over_it)),
+        ("rule_1_at_its_edge_and_over_it", || Comparison::once(rule_1_at_its_edge_and_over_it)),
+    ])
+}
 
 /// What the archive makes of a call, with guards around what is lent: nothing outside may change.
 fn by_archive(case: &Case) -> Outcome {
@@ -14,28 +27,13 @@ fn by_archive(case: &Case) -> Outcome {
     let mut guarded = [&[77; GUARD][..], &case.lent, &[77; GUARD]].concat();
     let inside = GUARD..GUARD + case.lent.len();
     let answer = match case.asked {
-        Asked::Write => write(case.number, &case.file, &mut guarded[inside.clone()]),
-        Asked::Check => check(case.number, &case.file, &guarded[inside.clone()]),
+        Asked::Write => write_here(case.number, &case.file, &mut guarded[inside.clone()]),
+        Asked::Check => check_here(case.number, &case.file, &guarded[inside.clone()]),
     };
     assert!(guarded[..GUARD].iter().chain(&guarded[inside.end..]).all(|&byte| byte == 77), "{}", case.name);
     let numbers = [answer.number, answer.file, answer.line, answer.column, answer.length];
     let [number, file, line, column, length] = numbers.map(|number| usize::try_from(number).expect("none is below 0"));
     Outcome { answer: Answer { number, file, line, column, length }, lent: guarded[inside].to_vec() }
-}
-
-#[test]
-fn on_every_vector() {
-    agree::on_every_vector_about_an_index(by_archive);
-}
-
-#[test]
-fn on_every_edge_case() {
-    agree::on_every_edge_case_about_an_index(by_archive);
-}
-
-#[test]
-fn on_generated_calls() {
-    agree::on_generated_calls_about_an_index(by_archive, SEEDS);
 }
 
 /// Fails unless a call about routes.txt answers so, and leaves these bytes of what was lent.
@@ -57,7 +55,6 @@ fn most_routes() -> Vec<u8> {
     format!("route_id,route_type\n{lines}").into_bytes()
 }
 
-#[test]
 fn rule_2_at_its_edge_and_over_it() {
     let mut file = most_routes();
     let mut records = sorted(2, &file);
@@ -79,7 +76,6 @@ fn rule_2_at_its_edge_and_over_it() {
     refused(Asked::Check, &file, 2);
 }
 
-#[test]
 fn rule_1_at_its_edge_and_over_it() {
     let mut file = b"route_id,route_type,note\nR,3,".to_vec();
     file.resize(16_777_215, b'x');

@@ -47,6 +47,19 @@ fn pages_of_any_room_join() {
     assert_eq!(page.verdict, Verdict::Findings { written: 2, total });
 }
 
+/// A caller's thread may be small: the call has a stack of its own.
+#[test]
+fn from_a_thread_with_a_small_stack() {
+    let small = std::thread::Builder::new().stack_size(256 << 10);
+    let call = || {
+        let files = cases::large::feed(20);
+        let mut tables = cases::large::tables(&files, 5);
+        tusuchiy::check(slices(&files), tables.each_mut().map(|table| &mut table[..]), &mut [3; 10], [0, 0, 0])
+    };
+    let answer = small.spawn(call).expect("a thread").join().expect("an answer");
+    assert_eq!(answer.verdict(), Some(Verdict::Accepted));
+}
+
 #[test]
 fn a_feed_that_is_refused_has_a_fault_and_no_findings() {
     let files = example_files("refused");
