@@ -5,7 +5,7 @@ mod common;
 use cases::generate;
 use common::json::Json;
 use common::{document, example_files, json, out, run, status, Folder};
-use model::columns::COLUMNS;
+use model::columns::{Column, COLUMNS};
 use model::facts::{of_finding, of_refusal, Fact, Facts};
 use model::forms::Form;
 use model::Answer;
@@ -114,6 +114,16 @@ fn compare_faults(name: &str, files: &model::Files, report: &Json) {
     }
 }
 
+/// The documents of feeds, all by one run.
+fn documents(feeds: &[String]) -> Vec<Json> {
+    let words: Vec<&str> = ["check", "--json"].into_iter().chain(feeds.iter().map(|feed| &feed[..])).collect();
+    let output = run(&words);
+    assert!(status(&output) < 3);
+    let documents: Vec<Json> = out(&output).lines().map(json::read).collect();
+    assert!(documents.iter().map(|report| report.get("feed").text()).eq(feeds), "a document for each feed");
+    documents
+}
+
 /// Every refusal but 3, which the command's tables never break, and every rule come up among the seeds.
 #[test]
 fn the_facts_are_the_models() {
@@ -123,13 +133,7 @@ fn the_facts_are_the_models() {
         let cases: Vec<_> = (first..first + AT_A_TIME).map(generate::case).collect();
         let feeds: Vec<String> =
             cases.iter().enumerate().map(|(place, case)| folder.put_feed(&place.to_string(), &case.files)).collect();
-        let words: Vec<&str> = ["check", "--json"].into_iter().chain(feeds.iter().map(|feed| &feed[..])).collect();
-        let output = run(&words);
-        assert!(status(&output) < 3);
-        let documents: Vec<Json> = out(&output).lines().map(json::read).collect();
-        assert_eq!(documents.len(), cases.len());
-        for ((case, feed), report) in cases.iter().zip(&feeds).zip(&documents) {
-            assert_eq!(report.get("feed").text(), feed);
+        for (case, report) in cases.iter().zip(&documents(&feeds)) {
             for (number, names) in compare(&case.name, &case.files, report) {
                 seen.entry(number).or_default().extend(names);
             }
@@ -142,27 +146,36 @@ fn the_facts_are_the_models() {
     }
 }
 
-/// Each known column alone, first in its file: a header without it, and a line whose value there is empty or malformed.
+/// A file with this column first: a header without it, and a line whose value there is empty or malformed.
+fn spoilt(file: usize, column: &Column) -> [String; 3] {
+    let others: Vec<&str> = COLUMNS[file].iter().map(|other| other.name).filter(|name| *name != column.name).collect();
+    let with = |value: &str| format!("{},{}\n{value}{}\n", column.name, others.join(","), ",1".repeat(others.len()));
+    [format!("{}\n", others.join(",")), with(""), with("?")]
+}
+
+/// Each known column alone, spoilt in three ways.
 #[test]
 fn every_column_has_its_words() {
-    let known = COLUMNS.iter().enumerate().flat_map(|(file, known)| known.iter().map(move |column| (file, column)));
-    for (file, column) in known {
-        let others: Vec<&str> =
-            COLUMNS[file].iter().map(|other| other.name).filter(|name| *name != column.name).collect();
-        let refused = |lines: String| {
+    let known = || COLUMNS.iter().enumerate().flat_map(|(file, known)| known.iter().map(move |column| (file, column)));
+    let (mut feeds, mut paths, folder) = (Vec::new(), Vec::new(), Folder::empty("columns"));
+    for (file, column) in known() {
+        for lines in spoilt(file, column) {
             let mut files = example_files("feed");
             files[file] = lines.into_bytes();
-            let report = document_of(common::NAMES[file], &files[file]);
-            compare(column.name, &files, &report);
-            let refusal = report.get("refusal");
-            (refusal != &Json::Null).then(|| ["number", "column"].map(|member| refusal.get(member).number()))
+            paths.push(folder.put_feed(&paths.len().to_string(), &files));
+            feeds.push(files);
+        }
+    }
+    let reports = documents(&paths);
+    for ((column, feeds), reports) in known().map(|(_, column)| column).zip(feeds.chunks(3)).zip(reports.chunks(3)) {
+        feeds.iter().zip(reports).for_each(|(files, report)| drop(compare(column.name, files, report)));
+        let refused = |place: usize, number: i64, column: i64| {
+            let refusal = reports[place].get("refusal");
+            refusal != &Json::Null && ["number", "column"].map(|name| refusal.get(name).number()) == [number, column]
         };
-        let with = |value: &str| {
-            refused(format!("{},{}\n{value}{}\n", column.name, others.join(","), ",1".repeat(others.len())))
-        };
-        assert_eq!(refused(format!("{}\n", others.join(","))) == Some([9, 0]), column.present, "{}", column.name);
-        assert_eq!(with("") == Some([12, 1]), column.needed(), "{}", column.name);
-        assert_eq!(with("?") == Some([13, 1]), !wanted(column.form).is_empty(), "{}", column.name);
+        assert_eq!(refused(0, 9, 0), column.present, "{}", column.name);
+        assert_eq!(refused(1, 12, 1), column.needed(), "{}", column.name);
+        assert_eq!(refused(2, 13, 1), !wanted(column.form).is_empty(), "{}", column.name);
     }
 }
 

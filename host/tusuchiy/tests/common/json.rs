@@ -108,6 +108,14 @@ fn members(rest: &mut &str) -> Json {
 
 fn string(rest: &mut &str) -> String {
     assert!(rest.starts_with('"'), "no string");
+    // Up to its end, where it has no escape: documents may have millions of these.
+    let end = 1 + rest[1..].bytes().position(|byte| matches!(byte, b'"' | b'\\')).expect("a string's end");
+    if rest.as_bytes()[end] == b'"' {
+        let text = &rest[1..end];
+        assert!(text.bytes().all(|byte| byte >= b' '), "a control character in a string");
+        *rest = &rest[end + 1..];
+        return text.to_string();
+    }
     let mut units: Vec<u16> = Vec::new();
     let mut chars = rest[1..].char_indices();
     while let Some((place, char)) = chars.next() {
