@@ -2,19 +2,18 @@
 use Prim.Native.Nat.{ℕ, _≤_}
 use native.Mathlib.Omega.{arith}
 use mathlib.Core.Path.{_≡_, refl, sym, ap, _∙_}
-use mathlib.Core.Bool.{Bool, true, false, cond, _&&_}
+use mathlib.Core.Bool.{Bool, true, false, cond}
 use mathlib.Core.List.{List, [], _∷_, _++_, List·Memᴰ·head, List·Memᴰ·tail}
 use lib.Dec.{T, leb, eqb}
 use lib.ListN.{length, getD}
-use borrow.Author.Tests.{eq-eqb, ne-eqb, eqb-true, eqb-false, leb-true}
-use Rattle.meaning.specs.declared.Refusal.{Refusal}
+use borrow.Author.Tests.{eqb-true, eqb-false, leb-true}
 use Rattle.meaning.specs.declared.Verdict.{Verdict}
 use Rattle.meaning.specs.declared.Verdict.the-variants.{Readable, Unreadable}
 use Rattle.meaning.specs.Bytes.{fields, values}
 use Rattle.meaning.specs.Columns.{places}
 use Rattle.meaning.specs.Refusals.{Test, test, onLine, speaks, textTests, headTests, valueTests, lineTests}
 use Rattle.meaning.specs.Promises.{Each}
-use Rattle.meaning.proofs.Computed.{all, and-left, and-right, mem-all}
+use Rattle.meaning.proofs.Computed.{all, mem-all}
 use Rattle.meaning.proofs.ListLaws.{and-both}
 use Rattle.meaning.proofs.FirstBroken.{spoken-first, silent-none}
 use Rattle.columns.specs.Columns.{placesOf}
@@ -23,7 +22,7 @@ use Rattle.reading.specs.declared.Fault.{Fault}
 use Rattle.reading.specs.Tests.{fault, first}
 use Rattle.reading.proofs.First.{positive}
 use Rattle.reading.proofs.Values.{line-same}
-use Rattle.reading.proofs.Speaks.{refused, line-stop, line-on}
+use Rattle.reading.proofs.Speaks.{line-stop, line-on}
 use Rattle.meaning.specs.declared.Place.{Place}
 use Rattle.listing.specs.Handing.{State, adding}
 use Rattle.listing.proofs.Laws.{adding-append}

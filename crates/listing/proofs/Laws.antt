@@ -16,7 +16,6 @@ use Rattle.meaning.specs.Refusals.{Test, Claim, onLine}
 use Rattle.meaning.specs.Rules.{onRecords}
 use Rattle.meaning.specs.Pages.{placeIn, behind, pageOf, roomFor, rowed, handedOf}
 use Rattle.meaning.specs.Findings.{Finding, finding, listed, triple}
-use Rattle.meaning.specs.Promises.{comesBefore}
 use Rattle.meaning.proofs.ListLaws.{keep-append}
 use Rattle.meaning.proofs.Handing.{Kind, rowed-append, rowed-length, handed-long}
 use Rattle.meaning.proofs.Pages.{findings-kind}

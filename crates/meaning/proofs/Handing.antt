@@ -1,5 +1,5 @@
 -- Entries of any kind handed out: what one call gives, where it leaves off, and that calls give the whole list, without a gap or a repeat.
-use Prim.Native.Nat.{ℕ, zero, suc, _+_, _*_, _-_, _/_, _≤_, _<_}
+use Prim.Native.Nat.{ℕ, _+_, _*_, _-_, _/_, _≤_, _<_}
 use native.Mathlib.Omega.{arith}
 use native.Mathlib.Nat.{mul-suc, mul-comm, mul-zero, le-div-iff-mul-le, lt-div-mul-add}
 use mathlib.Core.Path.{_≡_, refl, sym, ap, ap₂, _∙_, fun-ext}

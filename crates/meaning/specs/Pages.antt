@@ -1,6 +1,6 @@
 -- What a call hands out of a list in order. An entry is a row of numbers, of which the first three name its place: file, line, rule.
 use Prim.Native.Nat.{ℕ, _-_, _/_}
-use mathlib.Core.List.{List, [], _∷_, map}
+use mathlib.Core.List.{List, map}
 use mathlib.Core.Bool.{Bool, cond, not, _&&_, _||_}
 use lib.IntN.{ℤ, pos}
 use lib.Signed.{ltZ}

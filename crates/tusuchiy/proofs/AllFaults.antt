@@ -1,14 +1,9 @@
 -- Laws: the faults of six files, one after the other, are those of the feed; and their number is small.
 use Prim.Native.Nat.{ℕ, _≤_}
-use mathlib.Core.Path.{_≡_, refl, sym, ap, _∙_}
-use mathlib.Core.List.{List, [], _∷_, _++_, append-nil}
-use mathlib.Core.Bool.{Bool, true, false, not}
+use mathlib.Core.Path.{_≡_, sym, ap, _∙_}
+use mathlib.Core.List.{List, [], _∷_, append-nil}
 use lib.IntN.{ℤ}
-use lib.ListN.{length}
-use lib.Dec.{eqb}
 use Rattle.meaning.specs.declared.Place.{Place}
-use Rattle.meaning.specs.Lists.{empty}
-use Rattle.meaning.specs.Tables.{fileOf}
 use Rattle.meaning.specs.Pages.{roomFor}
 use Rattle.meaning.proofs.Handing.{page-within}
 use Rattle.listing.specs.Handing.{State, adding, lentOnly}

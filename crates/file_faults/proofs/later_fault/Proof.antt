@@ -1,5 +1,4 @@
 -- `file_faults::later_fault` meets its contract.
-use mathlib.Core.Path.{_∙_}
 use borrow.Author.Needs.{needs}
 use Rattle.file_faults.proofs.later_fault.Statement.{statement}
 use Rattle.file_faults.proofs.later_fault.Tie as tie

@@ -1,5 +1,4 @@
 -- `file_faults::list_line` meets its contract.
-use mathlib.Core.Path.{_∙_}
 use native.Mathlib.Omega.{arith}
 use borrow.Author.Needs.{needs}
 use Rattle.file_faults.proofs.OneFault.{later-fault, later-rule, later-column}

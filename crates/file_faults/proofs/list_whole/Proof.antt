@@ -1,5 +1,4 @@
 -- `file_faults::list_whole` meets its contract.
-use mathlib.Core.Path.{_∙_, ap}
 use native.Mathlib.Omega.{arith}
 use borrow.Author.Needs.{needs}
 use Rattle.file_faults.proofs.OneFault.{whole-rule, whole-column, whole-three}

@@ -1,5 +1,4 @@
 -- `file_faults::note_fault` meets its contract.
-use mathlib.Core.Path.{_∙_, refl}
 use native.Mathlib.Omega.{arith}
 use mir.Syntax.{w32}
 use mir.ValLaws.{toZ-pos}
