@@ -5,6 +5,7 @@ pub mod generate;
 pub mod mend;
 
 use crate::agree::Lists;
+use crate::first_difference;
 use model::faults::{self, Answer, Fault};
 use model::page::hand_out;
 use model::Files;
@@ -57,8 +58,7 @@ pub fn difference(wanted: &Outcome, got: &Outcome) -> Option<String> {
     if wanted.answer != got.answer {
         return Some(format!("wanted {:?}, got {:?}", wanted.answer, got.answer));
     }
-    let place = (0..wanted.list.len()).find(|&place| wanted.list[place] != got.list[place])?;
-    Some(format!("the list differs at {place}: wanted {}, got {}", wanted.list[place], got.list[place]))
+    first_difference(&wanted.list, &got.list).map(|place| format!("the list differs {place}"))
 }
 
 /// What a call wrote to its list.

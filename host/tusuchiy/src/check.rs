@@ -3,14 +3,12 @@
 use crate::faults::{self, Faults, FaultsAnswer};
 use crate::index::IndexAnswer;
 use crate::kinds::{Fault, File, Finding, Refusal, Rule, FILES};
+use crate::pages::{Pages, PAGE};
 use crate::{try_check, Answer, Verdict, MOST_LINES, WIDTHS};
 use std::collections::TryReserveError;
 use std::fmt::{self, Display, Formatter};
 use std::io;
 use std::num::NonZeroU32;
-
-/// How many findings a page of the iterator has: most feeds need one call.
-const PAGE: usize = 65_536;
 
 /// How many numbers the table of each file needs: its width times the file's lines.
 #[must_use]
@@ -147,7 +145,7 @@ impl<'a> Check<'a> {
 
     /// The same with so many findings a page, at least one: less memory, but each page is a check of the whole feed.
     pub fn findings_by(&mut self, room: usize) -> Findings<'_, 'a> {
-        Findings { check: self, room: room.max(1), after: Place::START, ready: Vec::new().into_iter(), over: false }
+        Findings { check: self, pages: Pages::of(room) }
     }
 
     /// All faults in order, of which the verdict names one; there are none where the feed can be read. Pages are asked for
@@ -188,30 +186,14 @@ impl<'a> Check<'a> {
 #[must_use]
 pub struct Findings<'c, 'a> {
     check: &'c mut Check<'a>,
-    room: usize,
-    after: Place,
-    ready: std::vec::IntoIter<Finding>,
-    over: bool,
+    pages: Pages<Finding>,
 }
 
 impl Iterator for Findings<'_, '_> {
     type Item = Result<Finding, Error>;
 
     fn next(&mut self) -> Option<Self::Item> {
-        if self.ready.len() == 0 && !self.over {
-            let page = match self.check.page(self.after, self.room) {
-                Ok(page) => page,
-                Err(error) => {
-                    self.over = true;
-                    return Some(Err(error));
-                }
-            };
-            // A page that isn't full is the last one.
-            self.over = page.findings.len() < self.room;
-            self.after = page.findings.last().map_or(self.after, |last| Place::from(*last));
-            self.ready = page.findings.into_iter();
-        }
-        self.ready.next().map(Ok)
+        self.pages.next_by(|after, room| Ok(self.check.page(after, room)?.findings))
     }
 }
 

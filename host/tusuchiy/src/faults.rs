@@ -23,6 +23,7 @@
 
 use crate::check::{zeros, Place};
 use crate::kinds::{Fault, FILES};
+use crate::pages::{Pages, PAGE};
 use crate::{on_stack, Error, MOST_LINES, THREAD_STACK};
 use std::io;
 
@@ -31,9 +32,6 @@ pub const WIDTH: usize = 4;
 
 /// The most faults that a feed can have: of each file one on every line, on one more without an ending, and 4 of the whole.
 pub const MOST: usize = FILES * (MOST_LINES + 2);
-
-/// How many faults a page of the iterator has: most feeds need one call.
-const PAGE: usize = 65_536;
 
 /// The answer as the archive gives it; include/tusuchiy.h says what each number means.
 #[repr(C)]
@@ -134,16 +132,13 @@ fn read(list: &[i32], answer: FaultsAnswer) -> Option<Result<Page, Error>> {
 #[must_use]
 pub struct Faults<'a> {
     files: [&'a [u8]; FILES],
-    room: usize,
-    after: Place,
-    ready: std::vec::IntoIter<Fault>,
-    over: bool,
+    pages: Pages<Fault>,
 }
 
 impl<'a> Faults<'a> {
     /// All faults of these files in order, so many a page, at least one: less memory, but each page is a walk along all files.
     pub fn new(files: [&'a [u8]; FILES], room: usize) -> Self {
-        Faults { files, room: room.clamp(1, MOST), after: Place::START, ready: Vec::new().into_iter(), over: false }
+        Faults { files, pages: Pages::of(room.min(MOST)) }
     }
 
     /// The same with as many a page as most feeds need.
@@ -156,20 +151,7 @@ impl Iterator for Faults<'_> {
     type Item = Result<Fault, Error>;
 
     fn next(&mut self) -> Option<Self::Item> {
-        if self.ready.len() == 0 && !self.over {
-            let page = match page(self.files, self.after, self.room) {
-                Ok(page) => page,
-                Err(error) => {
-                    self.over = true;
-                    return Some(Err(error));
-                }
-            };
-            // A page that isn't full is the last one.
-            self.over = page.faults.len() < self.room;
-            self.after = page.faults.last().map_or(self.after, |last| Place::from(*last));
-            self.ready = page.faults.into_iter();
-        }
-        self.ready.next().map(Ok)
+        self.pages.next_by(|after, room| Ok(page(self.files, after, room)?.faults))
     }
 }
 

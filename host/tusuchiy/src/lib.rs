@@ -39,6 +39,7 @@ pub mod explain;
 pub mod faults;
 pub mod index;
 mod kinds;
+mod pages;
 
 pub use check::{table_sizes, Check, Error, Findings, Page, Place};
 pub use faults::{try_faults, Faults, FaultsAnswer};
