@@ -5,7 +5,7 @@ use crate::memory;
 use crate::progress::Progress;
 use tusuchiy::{Check, Fault, Place, Verdict};
 
-/// How many findings or faults one call may hand out when all are wanted.
+/// How many findings the first call may hand out when all are wanted; a second one has room for the rest.
 const PAGE_ROOM: usize = 65_536;
 
 /// More findings than any feed can have: on a line of files 1 to 6 at most 3, 2, 2, 3, 5 and 1 rules are broken.
