@@ -9,16 +9,16 @@ use mathlib.Core.List.{List, [], _∷_}
 use lib.Dec.{T, ltb, eqb}
 use lib.ListN.{length, getD, take, List·getD-map}
 use lib.Seq.{take-all}
-use borrow.Author.Tests.{eq-eqb, ne-eqb, ltb-true, ltb-false}
+use borrow.Author.Tests.{eq-eqb, ne-eqb, eqb-true, le-ltb, ltb-true, ltb-false}
 use Rattle.meaning.specs.declared.Bounds.{Bounds}
 use Rattle.meaning.specs.declared.Column.{Column}
 use Rattle.meaning.specs.Lists.{same, empty, place, find, findAgain, lesser, least}
 use Rattle.meaning.specs.Bytes.{bounds, part, fields, marked, content, undouble, value, valuesOf, values}
 use Rattle.meaning.specs.Columns.{Known, unknown, stopsColumns, routesColumns, calendarColumns, tripsColumns, stopTimesColumns, calendarDatesColumns, schemas, schema, knownAt, nameOf, columnOf, countOf, places, fieldAt, cell, rowOf}
-use Rattle.meaning.specs.Refusals.{long, blank, formless, leftmost, rule8, rule9, rule11, rule12, rule13}
+use Rattle.meaning.specs.Refusals.{slack, long, blank, formless, leftmost, rule8, rule9, rule11, rule12, rule13}
 use Rattle.meaning.specs.Promises.{First, absent, found}
 use Rattle.meaning.specs.WhichColumn.{standings, Keeps}
-use Rattle.meaning.proofs.Computed.{all, getD-all}
+use Rattle.meaning.proofs.Computed.{all, getD-all, is-true}
 use Rattle.meaning.proofs.ListLaws.{both}
 use Rattle.meaning.proofs.Laws.{getD-map-in}
 use Rattle.meaning.proofs.Tests.{some-none}
@@ -253,19 +253,18 @@ module _ (f : ℕ) (header : List (List ℕ)) where
 -- ---- where rules 8, 11, 12 and 13 are kept
 
 -- a known column in which a value is needed must be present
-must-have : (f k : ℕ) → columnOf f k .must ≡ false → columnOf f k .need ≡ false
+must-have : (f k : ℕ) → columnOf f k .must ≡ false → columnOf f k .need ≡ 0
 unfolding columnOf knownAt schema schemas stopsColumns routesColumns calendarColumns tripsColumns stopTimesColumns calendarDatesColumns
 must-have f k e =
     go (columnOf f k .must) (columnOf f k .need)
     (getD-all right unknown tt (getD schemas f []) (getD-all (λ (ks : List Known). all right ks) [] tt schemas tt f) k) e
   where
     right : Known → Bool
-    right x = x .column .must || not (x .column .need)
+    right x = x .column .must || eqb (x .column .need) 0
 
-    go : (m n : Bool) → T (m || not n) → m ≡ false → n ≡ false
+    go : (m : Bool) (n : ℕ) → T (m || eqb n 0) → m ≡ false → n ≡ 0
     go true n t e = both true refl e
-    go false true t e = absurd t
-    go false false t e = refl
+    go false n t e = eqb-true n 0 (is-true (eqb n 0) t)
 
 -- an empty value keeps every rule but 12, and that where none is needed
 module _ (c : Column) where
@@ -277,9 +276,9 @@ module _ (c : Column) where
       go true = refl
       go false = refl
 
-  needless : c .need ≡ false → blank c [] ≡ false
+  needless : (free : ℕ) → c .need ≡ 0 → blank free c [] ≡ false
   unfolding blank
-  needless e = rw e
+  needless free e = rw (e, le-ltb free 0 (omega arith))
 
   formed : formless c [] ≡ false
   unfolding formless empty
@@ -321,9 +320,9 @@ module _ (f : ℕ) (header : List (List ℕ)) where
     unfolding rule11
     kept-11 = kept long (λ k h z. short (columnOf f k))
 
-    pub kept-12 : rule12 f (places f header) l ≡ 0 ↔ Keeps blank f header l
+    pub kept-12 : rule12 f (places f header) l ≡ 0 ↔ Keeps (blank (slack f (rowOf (places f header) l))) f header l
     unfolding rule12 rule9
-    kept-12 = kept blank (λ k h z. needless (columnOf f k) (must-have f k (present k (rw (eq-eqb (at k) 0 z) at (some-none _ 0 (countOf f) lacks k (omega arith) (omega arith))))))
+    kept-12 = kept (blank (slack f (rowOf (places f header) l))) (λ k h z. needless (columnOf f k) _ (must-have f k (present k (rw (eq-eqb (at k) 0 z) at (some-none _ 0 (countOf f) lacks k (omega arith) (omega arith))))))
       where
         present : (k : ℕ) → (columnOf f k .must && true) ≡ false → columnOf f k .must ≡ false
         present k e = go (columnOf f k .must) e

@@ -63,11 +63,11 @@ module _ (f : ℕ) (low : 1 ≤ f) (high : f ≤ 6) (w : Feed) (s : List ℕ) (l
       ∙ ap (λ (r : Row). getD (recordBy f w s i r) j (pos 0)) (sym (row-held f low high w s lent i m) ∙ ap (λ (l : List Row). row l i) (sym are))
 
 module _ (w : Feed) (s : List ℕ) (lent : List ℤ) where
-  stops-held : w .stops ≡ rowsOf 1 s → TableHeld 6 (length (linesOf s)) (StopHeld w s) lent (filled 1 w s lent)
+  stops-held : w .stops ≡ rowsOf 1 s → TableHeld 7 (length (linesOf s)) (StopHeld w s) lent (filled 1 w s lent)
   unfolding widthOf widths idPlace idColumn numbersOf stopNumbers
   stops-held e = table-held 1 (omega arith) (omega arith) w s lent (w .stops) e (StopHeld w s) each
     where
-      each : (i : ℕ) → i < length (w .stops) → StopHeld w s i (λ j. getD (filled 1 w s lent) ((i + 1) * 6 + j) (pos 0))
+      each : (i : ℕ) → i < length (w .stops) → StopHeld w s i (λ j. getD (filled 1 w s lent) ((i + 1) * 7 + j) (pos 0))
       each i h =
           let at = cell 1 (omega arith) (omega arith) w s lent (w .stops) e i h in
           record {
@@ -76,6 +76,7 @@ module _ (w : Feed) (s : List ℕ) (lent : List ℤ) where
             longitude = at 3 (omega arith);
             kind = at 4 (omega arith);
             parent = refers _ _ _ (at 5 (omega arith));
+            place = at 6 (omega arith);
           }
 
   routes-held : w .routes ≡ rowsOf 2 s → TableHeld 3 (length (linesOf s)) (RouteHeld w s) lent (filled 2 w s lent)

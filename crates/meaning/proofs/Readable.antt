@@ -12,7 +12,7 @@ use Rattle.meaning.specs.declared.Verdict.the-variants.{Readable}
 use Rattle.meaning.specs.Bytes.{linesOf, values}
 use Rattle.meaning.specs.Columns.{columnOf, countOf, places, rowOf, headerOf, rowsOf}
 use Rattle.meaning.specs.Tables.{fileOf}
-use Rattle.meaning.specs.Refusals.{Test, test, testAt, claimOf, rule1, rule2, rule3, rule4, rule5, rule9, rule11, rule12, rule13, textTests, headTests, valueTests, lineTests, inFile, verdictOf}
+use Rattle.meaning.specs.Refusals.{Test, test, testAt, claimOf, rule1, rule2, rule3, rule4, rule5, rule9, slack, rule11, rule12, rule13, textTests, headTests, valueTests, lineTests, inFile, verdictOf}
 use Rattle.meaning.specs.Promises.{fileTests, fieldCount, testsOn, noLine, NoneBroken, ValueKept}
 pub use Rattle.meaning.specs.Promises.{WholeKept}
 use Rattle.meaning.proofs.Laws.{getD-map-in}
@@ -69,7 +69,7 @@ module _ (f : ℕ) (s : List ℕ) (quiet : NoneBroken (inFile f (linesOf s))) wh
     none-on-row n c m = eqb-true c 0 (not-false (eqb c 0) (none-after (testAt n c) (Memᴰ·append-right (textTests text) (List·Memᴰ·tail m))))
 
     -- every value is there where it is needed, short where it is an id, and of its form
-    pub line-kept : (k : ℕ) → k < countOf f → ValueKept (columnOf f k) (getD (getD (rowsOf f s) i []) k [])
+    pub line-kept : (k : ℕ) → k < countOf f → ValueKept (slack f (getD (rowsOf f s) i [])) (columnOf f k) (getD (getD (rowsOf f s) i []) k [])
     unfolding valueTests
     line-kept k g =
         rw row-is (record {
@@ -101,5 +101,5 @@ module _ (files : List (List ℕ)) (rooms : List ℕ) (read : verdictOf files ro
       (claim-of-line files rooms p (t .from) .1 (record { from = omega arith; to = omega arith; first = t .from; last = rw e (omega (arith, t .to)); rule = rw e (t .rule) }))
 
   -- In a readable feed every value is there where it is needed, short where it is an id, and of its form.
-  pub values-kept : (i : ℕ) → i < length (rowsOf f (fileOf files f)) → (k : ℕ) → k < countOf f → ValueKept (columnOf f k) (getD (getD (rowsOf f (fileOf files f)) i []) k [])
+  pub values-kept : (i : ℕ) → i < length (rowsOf f (fileOf files f)) → (k : ℕ) → k < countOf f → ValueKept (slack f (getD (rowsOf f (fileOf files f)) i [])) (columnOf f k) (getD (getD (rowsOf f (fileOf files f)) i []) k [])
   values-kept = line-kept f (fileOf files f) quiet-file

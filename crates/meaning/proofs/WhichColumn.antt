@@ -14,9 +14,9 @@ use Rattle.meaning.specs.declared.Column.{Column}
 use Rattle.meaning.specs.declared.Refusal.{Refusal}
 use Rattle.meaning.specs.Lists.{same, place, find, findAgain}
 use Rattle.meaning.specs.Bytes.{Line, linesOf, fields, values}
-use Rattle.meaning.specs.Columns.{nameOf, columnOf, countOf, places, cell, headerOf}
+use Rattle.meaning.specs.Columns.{nameOf, columnOf, countOf, places, cell, rowOf, headerOf}
 use Rattle.meaning.specs.Tables.{fileOf}
-use Rattle.meaning.specs.Refusals.{Claim, test, testAt, claims, refusal, leftmost, rule8, rule10, rule11, rule12, rule13, long, blank, formless, textTests, headTests, lineTests}
+use Rattle.meaning.specs.Refusals.{Claim, test, testAt, claims, refusal, leftmost, rule8, rule10, rule11, rule12, rule13, slack, long, blank, formless, textTests, headTests, lineTests}
 use Rattle.meaning.specs.Promises.{First, absent, found, fieldCount, testsOn, noLine, testOf, FileClaim, LineClaim, lineOrder, turn, FirstBroken}
 use Rattle.meaning.specs.WhichColumn.{Leftmost, SecondStanding, Breaks, ColumnSaid, WhichColumn}
 use Rattle.meaning.proofs.ListLaws.{both, same-equal, same-self}
@@ -177,7 +177,7 @@ module _ (files : List (List ℕ)) (rooms : List ℕ) (r : Refusal) (b : FirstBr
     }
     said-line (S.blank c) = record {
       long-value = λ n. absurd (omega (arith, c .0));
-      blank-value = λ n. ofValue blank 12 (omega arith) (omega arith) c;
+      blank-value = λ n. ofValue (blank (slack (p .file) (rowOf (places (p .file) header) text))) 12 (omega arith) (omega arith) c;
       formless-value = λ n. absurd (omega (arith, c .0));
       second-standing = λ n. absurd (omega (arith, c .0));
       none = λ x y z w. absurd (z (c .0));

@@ -97,12 +97,12 @@ starred =
     ∷ line "\"a\"\"b\",c" ("a\"b" ∷ "c" ∷ [])
     ∷ refusedLine "a\"b"
     ∷ refusedLine "\"a\"b"
-    ∷ call example (sevens 19 ∷ sevens 6 ∷ sevens 12 ∷ sevens 24 ∷ sevens 33 ∷ sevens 5 ∷ []) (sevens 20) beginning (record {
+    ∷ call example (sevens 22 ∷ sevens 6 ∷ sevens 12 ∷ sevens 24 ∷ sevens 33 ∷ sevens 5 ∷ []) (sevens 20) beginning (record {
       answer = Findings 5 5;
       tables =
-          (pos 0 ∷ pos 0 ∷ pos 0 ∷ pos 0 ∷ pos 0 ∷ pos 0
-          ∷ pos 36 ∷ pos 37 ∷ pos 15000000 ∷ pos 20000000 ∷ pos 0 ∷ pos 0
-          ∷ pos 50 ∷ pos 51 ∷ pos 16000000 ∷ pos 20000000 ∷ pos 0 ∷ pos 0
+          (pos 0 ∷ pos 0 ∷ pos 0 ∷ pos 0 ∷ pos 0 ∷ pos 0 ∷ pos 0
+          ∷ pos 36 ∷ pos 37 ∷ pos 15000000 ∷ pos 20000000 ∷ pos 0 ∷ pos 0 ∷ pos 1
+          ∷ pos 50 ∷ pos 51 ∷ pos 16000000 ∷ pos 20000000 ∷ pos 0 ∷ pos 0 ∷ pos 1
           ∷ pos 7 ∷ [])
           ∷ (pos 0 ∷ pos 0 ∷ pos 0
           ∷ pos 37 ∷ pos 38 ∷ pos 3 ∷ [])
@@ -178,11 +178,11 @@ twoTimes = "trip_id,arrival_time,departure_time,stop_id,stop_sequence\nT,8:00:00
 abbrev pub acceptedCall : Case
 acceptedCall =
     let times : String = "trip_id,arrival_time,departure_time,stop_id,stop_sequence\nT,08:00:00,08:00:00,A,1\nT,,,A,2\nT,08:05:00,08:05:00,A,3\n" in
-    call (around oneStop oneTrip times) (sevens 12 ∷ sevens 6 ∷ sevens 10 ∷ sevens 17 ∷ sevens 33 ∷ [] ∷ []) (sevens 4) beginning (record {
+    call (around oneStop oneTrip times) (sevens 14 ∷ sevens 6 ∷ sevens 10 ∷ sevens 17 ∷ sevens 33 ∷ [] ∷ []) (sevens 4) beginning (record {
       answer = Accepted;
       tables =
-          (pos 0 ∷ pos 0 ∷ pos 0 ∷ pos 0 ∷ pos 0 ∷ pos 0
-          ∷ pos 36 ∷ pos 37 ∷ pos 15000000 ∷ pos 20000000 ∷ pos 0 ∷ pos 0 ∷ [])
+          (pos 0 ∷ pos 0 ∷ pos 0 ∷ pos 0 ∷ pos 0 ∷ pos 0 ∷ pos 0
+          ∷ pos 36 ∷ pos 37 ∷ pos 15000000 ∷ pos 20000000 ∷ pos 0 ∷ pos 0 ∷ pos 1 ∷ [])
           ∷ (pos 0 ∷ pos 0 ∷ pos 0
           ∷ pos 37 ∷ pos 38 ∷ pos 3 ∷ [])
           ∷ (pos 0 ∷ pos 0 ∷ pos 0 ∷ pos 0 ∷ pos 0
@@ -212,7 +212,7 @@ refusedAs n f l = refusedIn n f l 0
 abbrev pub refusedCall : Case
 refusedCall =
     let times : String = "trip_id,arrival_time,departure_time,stop_id,stop_sequence\nT,8:00:00,8:00:00,A,1\nT,9:60:00,9:60:00,A,2\n" in
-    let tables : List (List ℤ) = sevens 12 ∷ sevens 6 ∷ sevens 10 ∷ sevens 16 ∷ sevens 24 ∷ sevens 3 ∷ [] in
+    let tables : List (List ℤ) = sevens 14 ∷ sevens 6 ∷ sevens 10 ∷ sevens 16 ∷ sevens 24 ∷ sevens 3 ∷ [] in
     call (around oneStop oneTrip times) tables (sevens 4) beginning (record { answer = Refused (refusedIn 13 5 3 2); tables = tables; list = sevens 4 })
 
 -- The feed in full, from its first finding on, with room for two: its second and its third, and the total of five.
@@ -241,8 +241,8 @@ stationServed =
 abbrev pub quotedId : Case
 quotedId =
     records 1 (around "stop_id,stop_name,stop_lat,stop_lon\n\"A\",Alder,1.5,2\n" oneTrip twoTimes)
-    ((pos 0 ∷ pos 0 ∷ pos 0 ∷ pos 0 ∷ pos 0 ∷ pos 0 ∷ [])
-    ∷ (pos 36 ∷ pos 39 ∷ pos 15000000 ∷ pos 20000000 ∷ pos 0 ∷ pos 0 ∷ [])
+    ((pos 0 ∷ pos 0 ∷ pos 0 ∷ pos 0 ∷ pos 0 ∷ pos 0 ∷ pos 0 ∷ [])
+    ∷ (pos 36 ∷ pos 39 ∷ pos 15000000 ∷ pos 20000000 ∷ pos 0 ∷ pos 0 ∷ pos 1 ∷ [])
     ∷ [])
 
 -- 22: a type 2 stop has no parent
@@ -345,11 +345,11 @@ serviced calendar dates =
 abbrev pub datesOnly : Case
 datesOnly =
     call (serviced "" "service_id,date,exception_type\nV,20240101,1\n\"W\",20240301,2\nW,20240201,1\n")
-    (sevens 12 ∷ sevens 6 ∷ sevens 2 ∷ sevens 16 ∷ sevens 24 ∷ sevens 17 ∷ []) (sevens 1) beginning (record {
+    (sevens 14 ∷ sevens 6 ∷ sevens 2 ∷ sevens 16 ∷ sevens 24 ∷ sevens 17 ∷ []) (sevens 1) beginning (record {
       answer = Accepted;
       tables =
-          (pos 0 ∷ pos 0 ∷ pos 0 ∷ pos 0 ∷ pos 0 ∷ pos 0
-          ∷ pos 36 ∷ pos 37 ∷ pos 15000000 ∷ pos 20000000 ∷ pos 0 ∷ pos 0 ∷ [])
+          (pos 0 ∷ pos 0 ∷ pos 0 ∷ pos 0 ∷ pos 0 ∷ pos 0 ∷ pos 0
+          ∷ pos 36 ∷ pos 37 ∷ pos 15000000 ∷ pos 20000000 ∷ pos 0 ∷ pos 0 ∷ pos 1 ∷ [])
           ∷ (pos 0 ∷ pos 0 ∷ pos 0
           ∷ pos 37 ∷ pos 38 ∷ pos 3 ∷ [])
           ∷ sevens 2
@@ -491,6 +491,68 @@ abbrev pub namedRule : Case
 namedRule =
     read (around "stop_lat,stop_id,stop_name,stop_lon\nx,A,,\n" oneTrip twoTimes) (Unreadable (refusedIn 12 1 2 3))
 
+-- ---- nodes and boarding areas, from document 02's words
+
+-- The seventh number: 0 for N, which has no place, 1 for B, whose place is at 0, 0.
+abbrev pub withoutPlace : Case
+withoutPlace =
+    records 1 (around "stop_id,stop_name,stop_lat,stop_lon,location_type,parent_station\nS,Spruce,1.5,2,1,\nA,Alder,1.5,2,0,S\nN,,,,3,S\nB,,0,0,4,A\n" oneTrip twoTimes)
+    ((pos 0 ∷ pos 0 ∷ pos 0 ∷ pos 0 ∷ pos 0 ∷ pos 0 ∷ pos 0 ∷ [])
+    ∷ (pos 65 ∷ pos 66 ∷ pos 15000000 ∷ pos 20000000 ∷ pos 1 ∷ pos 0 ∷ pos 1 ∷ [])
+    ∷ (pos 83 ∷ pos 84 ∷ pos 15000000 ∷ pos 20000000 ∷ pos 0 ∷ pos 1 ∷ pos 1 ∷ [])
+    ∷ (pos 101 ∷ pos 102 ∷ pos 0 ∷ pos 0 ∷ pos 3 ∷ pos 1 ∷ pos 0 ∷ [])
+    ∷ (pos 110 ∷ pos 111 ∷ pos 0 ∷ pos 0 ∷ pos 4 ∷ pos 2 ∷ pos 1 ∷ [])
+    ∷ [])
+
+-- 22: type 3 has no parent, or one of type 0; type 4 has no parent, or a station. Lines 8 and 9, whose parent stands nowhere, break 21 alone.
+-- Line 10: a node is no parent of a stop. Lines 11 and 12 break no rule.
+abbrev pub parentsOfNodes : Case
+parentsOfNodes =
+    found (around "stop_id,stop_name,stop_lat,stop_lon,location_type,parent_station\nS,Spruce,1.5,2,1,\nA,Alder,1.5,2,0,S\nN,,,,3,\nM,,,,3,A\nB,,,,4,S\nC,,,,4,\nD,,,,4,X\nE,,,,3,X\nF,Fir,1.5,2,0,N\nG,,,,4,A\nH,,,,3,S\n" oneTrip twoTimes)
+    (finding 1 4 22 ∷ finding 1 5 22 ∷ finding 1 6 22 ∷ finding 1 7 22 ∷ finding 1 8 21 ∷ finding 1 9 21 ∷ finding 1 10 22 ∷ [])
+
+-- 23: a node isn't type 0
+abbrev pub nodeServed : Case
+nodeServed =
+    found (around "stop_id,stop_name,stop_lat,stop_lon,location_type,parent_station\nS,Spruce,1.5,2,1,\nA,,,,3,S\n" oneTrip twoTimes)
+    (finding 5 2 23 ∷ finding 5 3 23 ∷ [])
+
+-- a feed with these stops
+abbrev pub ofType : String → List String
+ofType stops = around stops oneTrip twoTimes
+
+-- For types 3 and 4 the name may be empty, and the coordinates together.
+abbrev pub openLines : Case
+openLines =
+    read (ofType "stop_id,stop_name,stop_lat,stop_lon,location_type\nA,Alder,1.5,2,\nN,,,,3\nB,,1.5,2,4\nC,,,,\"4\"\n") Readable
+
+-- .. one alone is refusal 12, in the column of the empty one, also where the other isn't of its form
+abbrev pub latitudeAlone : Case
+latitudeAlone =
+    read (ofType "stop_id,stop_name,stop_lat,stop_lon,location_type\nN,,1.5,,3\n") (Unreadable (refusedIn 12 1 2 4))
+
+abbrev pub longitudeAlone : Case
+longitudeAlone =
+    read (ofType "stop_id,stop_name,stop_lat,stop_lon,location_type\nN,,,x,4\n") (Unreadable (refusedIn 12 1 2 3))
+
+-- an id is needed on every line, a name on lines of type 2
+abbrev pub idNeeded : Case
+idNeeded =
+    read (ofType "location_type,stop_name,stop_lat,stop_lon,stop_id\n3,,,,\n") (Unreadable (refusedIn 12 1 2 5))
+
+abbrev pub nameNeeded : Case
+nameNeeded =
+    read (ofType "stop_id,stop_name,stop_lat,stop_lon,location_type\nE,,1.5,2,2\n") (Unreadable (refusedIn 12 1 2 2))
+
+-- A location_type not of its form counts as 0 for rule 12, which then speaks before 13.
+abbrev pub typeUnread : Case
+typeUnread =
+    read (ofType "stop_id,stop_name,stop_lat,stop_lon,location_type\nN,Nut,,,5\n") (Unreadable (refusedIn 12 1 2 3))
+
+abbrev pub typeOnly : Case
+typeOnly =
+    read (ofType "stop_id,stop_name,stop_lat,stop_lon,location_type\nN,Nut,1.5,2,5\n") (Unreadable (refusedIn 13 1 2 5))
+
 abbrev pub worked : List Case
 worked =
     acceptedCall
@@ -534,6 +596,16 @@ worked =
     ∷ thirdStanding
     ∷ headersOrder
     ∷ namedRule
+    ∷ withoutPlace
+    ∷ parentsOfNodes
+    ∷ nodeServed
+    ∷ openLines
+    ∷ latitudeAlone
+    ∷ longitudeAlone
+    ∷ idNeeded
+    ∷ nameNeeded
+    ∷ typeUnread
+    ∷ typeOnly
     ∷ longitude "180" (TenMillionths (pos 1800000000))
     ∷ time "9:60:00" NoTime
     ∷ []

@@ -49,35 +49,55 @@ aRouteType = 9
 abbrev pub anException : ℕ
 anException = 10
 
+abbrev pub upTo4 : ℕ
+upTo4 = 11
+
+-- the lines on which a column needs a value, by number: on none; on all but those of type 3 or 4; on all but those of them without a coordinate; on all
+abbrev pub never : ℕ
+never = 0
+
+abbrev pub unlessInner : ℕ
+unlessInner = 1
+
+abbrev pub unlessPlaceless : ℕ
+unlessPlaceless = 2
+
+abbrev pub always : ℕ
+always = 3
+
+-- must be present, with a non-empty value on these lines
+abbrev pub neededOn : ℕ → String → ℕ → Known
+neededOn n s k = record { name = ascii s; column = record { must = true; need = n; ident = false; form = k } }
+
 -- must be present, with a non-empty value
 abbrev pub needed : String → ℕ → Known
-needed s k = record { name = ascii s; column = record { must = true; need = true; ident = false; form = k } }
+needed s k = neededOn always s k
 
 -- must be present, and its value may be empty
 abbrev pub present : String → ℕ → Known
-present s k = record { name = ascii s; column = record { must = true; need = false; ident = false; form = k } }
+present s k = neededOn never s k
 
 -- known, may be absent
 abbrev pub optional : String → ℕ → Known
-optional s k = record { name = ascii s; column = record { must = false; need = false; ident = false; form = k } }
+optional s k = record { name = ascii s; column = record { must = false; need = never; ident = false; form = k } }
 
 -- the same for columns named `..._id`, and parent_station, whose length rule 11 bounds
 abbrev pub neededId : String → Known
-neededId s = record { name = ascii s; column = record { must = true; need = true; ident = true; form = anyText } }
+neededId s = record { name = ascii s; column = record { must = true; need = always; ident = true; form = anyText } }
 
 abbrev pub optionalId : String → ℕ → Known
-optionalId s k = record { name = ascii s; column = record { must = false; need = false; ident = true; form = k } }
+optionalId s k = record { name = ascii s; column = record { must = false; need = never; ident = true; form = k } }
 
 abbrev pub unknown : Known
-unknown = record { name = []; column = record { must = false; need = false; ident = false; form = anyText } }
+unknown = record { name = []; column = record { must = false; need = never; ident = false; form = anyText } }
 
 unfoldable pub stopsColumns : List Known
 stopsColumns =
     neededId "stop_id"
-    ∷ needed "stop_name" anyText
-    ∷ needed "stop_lat" aLatitude
-    ∷ needed "stop_lon" aLongitude
-    ∷ optional "location_type" upTo2
+    ∷ neededOn unlessInner "stop_name" anyText
+    ∷ neededOn unlessPlaceless "stop_lat" aLatitude
+    ∷ neededOn unlessPlaceless "stop_lon" aLongitude
+    ∷ optional "location_type" upTo4
     ∷ optionalId "parent_station" anyText
     ∷ []
 

@@ -9,7 +9,7 @@ use Rattle.meaning.specs.declared.Refusal.{Refusal}
 use Rattle.meaning.specs.declared.Place.{Place}
 use Rattle.meaning.specs.Columns.{columnOf, countOf, rowsOf}
 use Rattle.meaning.specs.Tables.{feedOf, fileOf}
-use Rattle.meaning.specs.Refusals.{Claim, claims}
+use Rattle.meaning.specs.Refusals.{Claim, claims, slack}
 use Rattle.meaning.specs.Rules.{row}
 use Rattle.meaning.specs.Findings.{finding, findingsOf, answerNumbers}
 use Rattle.meaning.specs.Outcome.{Outcome}
@@ -42,7 +42,7 @@ pub record Demand2 (files : List (List ℕ)) (tables : List (List ℤ)) (o : Out
       → f ≤ 6
       → i < length (rowsOf f (fileOf files f))
       → k < countOf f
-      → ValueKept (columnOf f k) (getD (row (rowsOf f (fileOf files f)) i) k [])
+      → ValueKept (slack f (row (rowsOf f (fileOf files f)) i)) (columnOf f k) (getD (row (rowsOf f (fileOf files f)) i) k [])
   -- and the tables hold exactly those values and the row that each reference names
   pub held : Reads files tables → TablesHeld files tables (o .tables)
   -- every table is as long as it was lent

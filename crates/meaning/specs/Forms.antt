@@ -204,6 +204,7 @@ shapes =
     ∷ (λ v. isChoice (choiceOf 3 v))
     ∷ (λ v. isChoice (routeTypeOf v))
     ∷ (λ v. isChoice (exceptionOf v))
+    ∷ (λ v. isChoice (choiceOf 4 v))
     ∷ []
 
 -- is a value of the form with this number

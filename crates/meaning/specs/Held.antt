@@ -1,7 +1,7 @@
 -- What the tables of a readable feed hold after the check, number by number.
 use Prim.Native.Nat.{ℕ, _+_, _*_, _<_}
 use mathlib.Core.Path.{_≡_}
-use mathlib.Core.Bool.{true, false}
+use mathlib.Core.Bool.{true, false, cond}
 use mathlib.Core.List.{List, []}
 use lib.IntN.{ℤ, pos}
 use lib.ListN.{length, getD, drop}
@@ -9,7 +9,7 @@ use Rattle.meaning.specs.Lists.{empty}
 use Rattle.meaning.specs.Bytes.{Line, linesOf}
 use Rattle.meaning.specs.Columns.{Row, places, headerOf, fieldAt}
 use Rattle.meaning.specs.Forms.{timeOf, dateOf, latitudeOf, longitudeOf, sequenceOf, choiceOf, routeTypeOf, exceptionOf}
-use Rattle.meaning.specs.Tables.{Feed, feedOf, fileOf, stopLat, stopLon, locationType, parentStation, routeType, dayMark, startDate, endDate, tripRoute, tripService, directionId, wheelchairAccessible, bikesAllowed, timeTrip, arrivalTime, departureTime, timeStop, stopSequence, pickupType, dropOffType, timepoint, exceptionDate, exceptionType, stopIds, routeIds, serviceIds, tripIds, datedIds, seconds, day, degrees, number, picked, orZero, orMinus, oneIf}
+use Rattle.meaning.specs.Tables.{Feed, feedOf, fileOf, stopLat, stopLon, locationType, parentStation, routeType, dayMark, startDate, endDate, tripRoute, tripService, directionId, wheelchairAccessible, bikesAllowed, timeTrip, arrivalTime, departureTime, timeStop, stopSequence, pickupType, dropOffType, timepoint, exceptionDate, exceptionType, stopIds, routeIds, serviceIds, tripIds, datedIds, seconds, day, degrees, number, picked, orZero, orMinus, oneIf, placed}
 use Rattle.meaning.specs.Rules.{row}
 use Rattle.meaning.specs.Promises.{First, noLine}
 
@@ -29,13 +29,14 @@ pub record Placed (f k : ℕ) (s : List ℕ) (i : ℕ) (start end : ℤ) : Type 
   pub from : start ≡ pos (lineAt s i .start + fieldAt (lineAt s i .text) (getD (places f (headerOf (linesOf s))) k 0) .start)
   pub to : end ≡ pos (lineAt s i .start + fieldAt (lineAt s i .text) (getD (places f (headerOf (linesOf s))) k 0) .end)
 
--- stops, 6 numbers
+-- stops, 7 numbers: the last is 1 with a place and 0 without
 pub record StopHeld (w : Feed) (s : List ℕ) (i : ℕ) (n : ℕ → ℤ) : Type 0 where
   pub id : Placed 1 0 s i (n 0) (n 1)
   pub latitude : n 2 ≡ degrees (latitudeOf (stopLat (row (w .stops) i)))
   pub longitude : n 3 ≡ degrees (longitudeOf (stopLon (row (w .stops) i)))
-  pub kind : n 4 ≡ orZero 2 (locationType (row (w .stops) i))
+  pub kind : n 4 ≡ orZero 4 (locationType (row (w .stops) i))
   pub parent : Names (parentStation (row (w .stops) i)) (stopIds w) (n 5)
+  pub place : n 6 ≡ pos (cond (placed (row (w .stops) i)) 1 0)
 
 -- routes, 3
 pub record RouteHeld (w : Feed) (s : List ℕ) (i : ℕ) (n : ℕ → ℤ) : Type 0 where
@@ -95,7 +96,7 @@ lineCount files f = length (linesOf (fileOf files f))
 
 -- the six tables
 pub record TablesHeld (files : List (List ℕ)) (lent tables : List (List ℤ)) : Type 0 where
-  pub stops : TableHeld 6 (lineCount files 1) (StopHeld (feedOf files) (fileOf files 1)) (getD lent 0 []) (getD tables 0 [])
+  pub stops : TableHeld 7 (lineCount files 1) (StopHeld (feedOf files) (fileOf files 1)) (getD lent 0 []) (getD tables 0 [])
   pub routes : TableHeld 3 (lineCount files 2) (RouteHeld (feedOf files) (fileOf files 2)) (getD lent 1 []) (getD tables 1 [])
   pub calendar : TableHeld 5 (lineCount files 3) (ServiceHeld (feedOf files) (fileOf files 3)) (getD lent 2 []) (getD tables 2 [])
   pub trips : TableHeld 8 (lineCount files 4) (TripHeld (feedOf files) (fileOf files 4)) (getD lent 3 []) (getD tables 3 [])

@@ -17,4 +17,5 @@ pub mod Demands
 pub mod ByDate
 pub mod BadUtf8
 pub mod WhichColumn
+pub mod Nodes
 pub mod Cases

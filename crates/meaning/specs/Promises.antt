@@ -166,10 +166,10 @@ pub record WholeKept (files : List (List ℕ)) (f : ℕ) (s : List ℕ) (room : 
   pub roomy : widthOf f * countLf s ≤ room
   pub ended : rule4 files f s room ≡ false
 
--- rules 11 to 13 are kept by a value under a known column
-pub record ValueKept (c : Column) (v : List ℕ) : Type 0 where
+-- rules 11 to 13 are kept by a value under a known column, on a line with this slack
+pub record ValueKept (free : ℕ) (c : Column) (v : List ℕ) : Type 0 where
   pub short : long c v ≡ false
-  pub there : blank c v ≡ false
+  pub there : blank free c v ≡ false
   pub formed : formless c v ≡ false
 
 -- what it is to be the first place of a value among values that are counted from n, or 0

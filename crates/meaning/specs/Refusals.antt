@@ -11,9 +11,9 @@ use Rattle.meaning.specs.declared.Verdict.the-variants.{Readable, Unread
 use Rattle.meaning.specs.Lists.{empty, some, findAgain, least}
 use Rattle.meaning.specs.Bytes.{Line, linesOf, countLf, good, fields, values}
 use Rattle.meaning.specs.Characters.{wellFormed}
-use Rattle.meaning.specs.Columns.{nameOf, columnOf, countOf, places, cell}
+use Rattle.meaning.specs.Columns.{Row, never, unlessInner, unlessPlaceless, nameOf, columnOf, countOf, places, cell, rowOf}
 use Rattle.meaning.specs.Forms.{shape}
-use Rattle.meaning.specs.Tables.{fileOf, widthOf}
+use Rattle.meaning.specs.Tables.{fileOf, widthOf, inner, placed}
 
 -- a rule by its number, whether it is broken at the place that is looked at, and in which column of the line: 0 where it names none
 pub record Test : Type 0 where
@@ -110,9 +110,13 @@ rule10 count l = not (eqb (length (fields l)) count)
 unfoldable pub long : Column → List ℕ → Bool
 long c v = c .ident && ltb 64 (length v)
 
--- an empty value where one is needed
-unfoldable pub blank : Column → List ℕ → Bool
-blank c v = c .need && empty v
+-- what a line may leave open: a node or a boarding area its name, and without a coordinate its place; any other line nothing
+unfoldable pub slack : ℕ → Row → ℕ
+slack f r = cond (eqb f 1 && inner r) (cond (placed r) unlessInner unlessPlaceless) never
+
+-- an empty value where a line with this slack needs one
+unfoldable pub blank : ℕ → Column → List ℕ → Bool
+blank free c v = ltb free (c .need) && empty v
 
 -- a value not of its form
 unfoldable pub formless : Column → List ℕ → Bool
@@ -128,7 +132,7 @@ rule11 f ps l = leftmost long f ps l (countOf f)
 
 -- 12: an empty value where one is needed
 unfoldable pub rule12 : ℕ → List ℕ → List ℕ → ℕ
-rule12 f ps l = leftmost blank f ps l (countOf f)
+rule12 f ps l = leftmost (blank (slack f (rowOf ps l))) f ps l (countOf f)
 
 -- 13: a value not of its form
 unfoldable pub rule13 : ℕ → List ℕ → List ℕ → ℕ

@@ -1,7 +1,7 @@
 -- Binding rules, tested only when all six files read. A rule looks at the line with index i of a file's rows, which is line i + 2.
 use Prim.Native.Nat.{ℕ, zero, suc, _+_, _-_}
 use mathlib.Core.List.{List, [], _∷_, _++_, map}
-use mathlib.Core.Bool.{Bool, true, false, not, _&&_, _||_}
+use mathlib.Core.Bool.{Bool, true, false, cond, not, _&&_, _||_}
 use lib.ListN.{length, getD, take}
 use lib.Dec.{ltb, eqb}
 use Rattle.meaning.specs.declared.Number.{Number}
@@ -15,7 +15,7 @@ use Rattle.meaning.specs.declared.Choice.the-variants.{Picked, NoChoice}
 use Rattle.meaning.specs.Lists.{same, empty, some, keep, flat, stands}
 use Rattle.meaning.specs.Columns.{Row}
 use Rattle.meaning.specs.Forms.{timeOf, dateOf, sequenceOf, choiceOf}
-use Rattle.meaning.specs.Tables.{Feed, rowsIn, stopIds, routeIds, serviceIds, tripIds, datedIds, refer, locationType, parentStation, routeShortName, routeLongName, startDate, endDate, tripRoute, tripService, tripId, timeTrip, arrivalTime, departureTime, timeStop, stopSequence, timepoint, exceptionService, exceptionDate, oneIf}
+use Rattle.meaning.specs.Tables.{Feed, rowsIn, stopIds, routeIds, serviceIds, tripIds, datedIds, refer, parentStation, routeShortName, routeLongName, startDate, endDate, tripRoute, tripService, tripId, timeTrip, arrivalTime, departureTime, timeStop, stopSequence, timepoint, exceptionService, exceptionDate, kindOf}
 use Rattle.meaning.specs.Refusals.{Test, test, Claim, onLine}
 
 -- the row with index i
@@ -65,22 +65,23 @@ rule21·times w i =
     dangling (timeTrip (row (w .stopTimes) i)) (tripIds w)
     || dangling (timeStop (row (w .stopTimes) i)) (stopIds w)
 
--- the location_type of a stops row: empty means 0
-unfoldable pub kindOf : Row → ℕ
-kindOf r = oneIf (choiceOf 2 (locationType r))
-
 -- the type of the stop that a reference resolves to isn't m
 unfoldable pub otherKind : Feed → ℕ → List ℕ → Bool
 otherKind w m v =
     let k = refer v (stopIds w) in
     not (eqb k 0) && not (eqb (kindOf (row (w .stops) (k - 1))) m)
 
--- 22 (1): a type 1 stop has a parent; a type 2 stop has none; or a parent that resolves isn't type 1
+-- the type that the parent of a stop of type k must have: 0 for type 4, 1 for all others
+unfoldable pub parentKind : ℕ → ℕ
+parentKind k = cond (eqb k 4) 0 1
+
+-- 22 (1): a type 1 stop has a parent; a stop of type 2, 3 or 4 has none; or a parent that resolves isn't of the type that it must have
 unfoldable pub rule22 : Feed → ℕ → Bool
 rule22 w i =
     let r = row (w .stops) i in
+    let k = kindOf r in
     let none = empty (parentStation r) in
-    eqb (kindOf r) 1 && not none || (eqb (kindOf r) 2 && none || otherKind w 1 (parentStation r))
+    eqb k 1 && not none || (ltb 1 k && none || otherKind w (parentKind k) (parentStation r))
 
 -- 23 (5): the resolved stop isn't type 0
 unfoldable pub rule23 : Feed → ℕ → Bool

@@ -1,10 +1,10 @@
 -- Tables.
 use Prim.Native.Nat.{ℕ, zero, suc, _+_, _*_, _-_}
 use mathlib.Core.List.{List, [], _∷_, _++_, map}
-use mathlib.Core.Bool.{cond}
+use mathlib.Core.Bool.{Bool, cond, not, _&&_}
 use lib.IntN.{ℤ, pos, negsuc}
 use lib.ListN.{getD, drop, replicate}
-use lib.Dec.{eqb}
+use lib.Dec.{ltb, eqb}
 use Rattle.meaning.specs.declared.Number.{Number}
 use Rattle.meaning.specs.declared.Number.the-variants.{Value, NoNumber}
 use Rattle.meaning.specs.declared.Time.{Time}
@@ -56,6 +56,9 @@ under k r = getD r k []
 -- stops.txt
 abbrev pub stopId : Row → List ℕ
 stopId r = under 0 r
+
+abbrev pub stopName : Row → List ℕ
+stopName r = under 1 r
 
 abbrev pub stopLat : Row → List ℕ
 stopLat r = under 2 r
@@ -215,19 +218,32 @@ packFrom d (suc n) r = oneIf (choiceOf 1 (dayMark d r)) + 2 * packFrom (d + 1) n
 unfoldable pub packedDays : Row → ℕ
 packedDays r = packFrom 0 7 r
 
+-- the location_type of a stops row: empty means 0, and so, for rule 12, does a value not of its form
+unfoldable pub kindOf : Row → ℕ
+kindOf r = oneIf (choiceOf 4 (locationType r))
+
+-- a node or a boarding area: of type 3 or 4
+unfoldable pub inner : Row → Bool
+inner r = ltb 2 (kindOf r)
+
+-- a stops row has a place unless both coordinates are empty
+unfoldable pub placed : Row → Bool
+placed r = not (empty (stopLat r) && empty (stopLon r))
+
 -- An id is kept as start and end of its raw field, quotes included, counted from the file's first byte.
 unfoldable pub idPlace : ℕ → Line → List ℤ
 idPlace p l =
     let b = fieldAt (l .text) p in
     pos (l .start + b .start) ∷ pos (l .start + b .end) ∷ []
 
--- 1. stops, 6 numbers: id start, id end, latitude, longitude, location_type, parent record
+-- 1. stops, 7 numbers: id start, id end, latitude, longitude, location_type, parent record, 1 with a place and 0 without
 unfoldable pub stopNumbers : Feed → Row → List ℤ
 stopNumbers w r =
     degrees (latitudeOf (stopLat r))
     ∷ degrees (longitudeOf (stopLon r))
-    ∷ orZero 2 (locationType r)
+    ∷ orZero 4 (locationType r)
     ∷ pos (refer (parentStation r) (stopIds w))
+    ∷ pos (cond (placed r) 1 0)
     ∷ []
 
 -- 2. routes, 3: id start, id end, type
@@ -268,7 +284,7 @@ exceptionNumbers w r = day (dateOf (exceptionDate r)) ∷ picked (exceptionOf (e
 
 -- Each kind of file knows its own width; file 0 is none.
 unfoldable pub widths : List ℕ
-widths = 0 ∷ 6 ∷ 3 ∷ 5 ∷ 8 ∷ 8 ∷ 4 ∷ []
+widths = 0 ∷ 7 ∷ 3 ∷ 5 ∷ 8 ∷ 8 ∷ 4 ∷ []
 
 unfoldable pub widthOf : ℕ → ℕ
 widthOf f = getD widths f 0

@@ -12,7 +12,7 @@ use Rattle.meaning.specs.Lists.{same}
 use Rattle.meaning.specs.Bytes.{linesOf, values}
 use Rattle.meaning.specs.Columns.{nameOf, columnOf, countOf, places, rowOf, headerOf}
 use Rattle.meaning.specs.Tables.{fileOf}
-use Rattle.meaning.specs.Refusals.{claims, rule8, rule9, rule11, rule12, rule13, long, blank, formless}
+use Rattle.meaning.specs.Refusals.{claims, rule8, rule9, rule11, rule12, rule13, slack, long, blank, formless}
 use Rattle.meaning.specs.Promises.{FirstBroken}
 use Rattle.meaning.specs.BadUtf8.{textOf}
 
@@ -56,11 +56,15 @@ valuesAt files r = values (textOf files (r .file) (r .line))
 abbrev pub namesAt : List (List ℕ) → Refusal → List (List ℕ)
 namesAt files r = headerOf (linesOf (fileOf files (r .file)))
 
+-- what a refusal's line may leave open
+abbrev pub slackAt : List (List ℕ) → Refusal → ℕ
+slackAt files r = slack (r .file) (rowOf (places (r .file) (namesAt files r)) (textOf files (r .file) (r .line)))
+
 -- the column of one refusal
 pub record ColumnSaid (files : List (List ℕ)) (r : Refusal) : Type 0 where
   -- for 11, 12 and 13 it is the leftmost column that breaks the named rule
   pub long-value : r .number ≡ 11 → Leftmost (Breaks long (r .file) (namesAt files r) (valuesAt files r)) (r .column)
-  pub blank-value : r .number ≡ 12 → Leftmost (Breaks blank (r .file) (namesAt files r) (valuesAt files r)) (r .column)
+  pub blank-value : r .number ≡ 12 → Leftmost (Breaks (blank (slackAt files r)) (r .file) (namesAt files r) (valuesAt files r)) (r .column)
   pub formless-value : r .number ≡ 13 → Leftmost (Breaks formless (r .file) (namesAt files r) (valuesAt files r)) (r .column)
   -- for 8 the second standing of a known name, leftmost if several
   pub second-standing : r .number ≡ 8 → Leftmost (SecondStanding (r .file) (namesAt files r)) (r .column)
@@ -76,5 +80,5 @@ pub record WhichColumn (files : List (List ℕ)) (tables : List (List ℤ)) : Ty
   pub kept-8 : (f : ℕ) (header : List (List ℕ)) → rule8 f header ≡ 0 ↔ ((k : ℕ) → k < countOf f → standings (nameOf f k) header ≤ 1)
   -- and under a header that lacks nothing a line keeps 11, 12 and 13 exactly where each of its values does
   pub kept-11 : (f : ℕ) (header : List (List ℕ)) (l : List ℕ) → rule9 f header ≡ false → rule11 f (places f header) l ≡ 0 ↔ Keeps long f header l
-  pub kept-12 : (f : ℕ) (header : List (List ℕ)) (l : List ℕ) → rule9 f header ≡ false → rule12 f (places f header) l ≡ 0 ↔ Keeps blank f header l
+  pub kept-12 : (f : ℕ) (header : List (List ℕ)) (l : List ℕ) → rule9 f header ≡ false → rule12 f (places f header) l ≡ 0 ↔ Keeps (blank (slack f (rowOf (places f header) l))) f header l
   pub kept-13 : (f : ℕ) (header : List (List ℕ)) (l : List ℕ) → rule9 f header ≡ false → rule13 f (places f header) l ≡ 0 ↔ Keeps formless f header l

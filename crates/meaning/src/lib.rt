@@ -12,10 +12,10 @@ pub struct Bounds {
     pub end: usize,
 }
 
-// What document 01 asks of a known column.
+// What document 01 asks of a known column: `need` says by number on which lines a value is needed, `form` which form it has.
 pub struct Column {
     pub must: bool,
-    pub need: bool,
+    pub need: u8,
     pub ident: bool,
     pub form: u8,
 }
