@@ -22,4 +22,5 @@ pub mod ByDate
 pub mod Characters
 pub mod BadUtf8
 pub mod WhichColumn
+pub mod Nodes
 pub mod Starred

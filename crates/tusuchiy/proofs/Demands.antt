@@ -1,4 +1,4 @@
--- The three demands, services by date, what is said of bad UTF-8 and which column a refusal says hold of every call of `check`: of each outcome that its contract names.
+-- The three demands, services by date, nodes and boarding areas, what is said of bad UTF-8 and which column a refusal says hold of every call of `check`: of each outcome that its contract names.
 use Prim.Native.Nat.{ℕ}
 use mathlib.Core.Path.{_≡_, refl}
 use mathlib.Core.List.{List, [], _∷_}
@@ -9,10 +9,12 @@ use Rattle.meaning.specs.Demands.{Demand1, Demand2, Demand3}
 use Rattle.meaning.specs.ByDate.{ByDate}
 use Rattle.meaning.specs.BadUtf8.{BadUtf8}
 use Rattle.meaning.specs.WhichColumn.{WhichColumn}
+use Rattle.meaning.specs.Nodes.{Nodes}
 use Rattle.meaning.proofs.Demands as D
 use Rattle.meaning.proofs.ByDate as E
 use Rattle.meaning.proofs.BadUtf8 as U
 use Rattle.meaning.proofs.WhichColumn as W
+use Rattle.meaning.proofs.Nodes as N
 
 module _ (s₁ s₂ s₃ s₄ s₅ s₆ : List ℕ) (t₁ t₂ t₃ t₄ t₅ t₆ list : List ℤ) (p : Place) where
   abbrev files : List (List ℕ)
@@ -33,6 +35,9 @@ module _ (s₁ s₂ s₃ s₄ s₅ s₆ : List ℕ) (t₁ t₂ t₃ t₄ t₅ t�
 
     pub by-date : ByDate files tables o
     by-date = rw (← checked) (E.by-date files tables list p refl refl)
+
+    pub nodes : Nodes files tables o
+    nodes = rw (← checked) (N.nodes files tables list p refl refl)
 
   pub bad-utf8 : BadUtf8 files tables
   bad-utf8 = U.bad-utf8 files tables

@@ -1,0 +1,299 @@
+-- Nodes and boarding areas: each sentence of document 02's E10 holds of every outcome of six files and six tables.
+use Prim.Native.Nat.{ℕ, zero, suc, _+_, _*_, _-_, _≤_, _<_}
+use native.Mathlib.Omega.{arith}
+use mathlib.Core.Path.{_≡_, refl, sym, _∙_}
+use mathlib.Core.Logic.{_↔_, _⊎_, inl, inr}
+use mathlib.Core.Bool.{Bool, true, false, cond, not, _&&_, _||_}
+use mathlib.Core.List.{List, [], _∷_, map}
+use lib.IntN.{ℤ, pos}
+use lib.ListN.{length, getD}
+use lib.Dec.{eqb, leb, ltb}
+use borrow.Author.Tests.{eqb-true, eqb-false, ne-eqb, ltb-true, ltb-false, lt-ltb, le-ltb, leb-true, le-leb, not-true, not-false}
+use Rattle.meaning.specs.declared.Choice.{Choice}
+use Rattle.meaning.specs.declared.Choice.the-variants.{Picked, NoChoice}
+use Rattle.meaning.specs.declared.Column.{Column}
+use Rattle.meaning.specs.declared.Place.{Place}
+use Rattle.meaning.specs.Lists.{empty, place}
+use Rattle.meaning.specs.Columns.{Row, stopsColumns, schemas, schema, knownAt, columnOf, countOf, places, rowOf, rowsOf}
+use Rattle.meaning.specs.Forms.{noMark, formed, pointed, toPoint, degreesText, sizeText, latitudeOf, longitudeOf, digitText, choiceOf, isChoice, shapes, shape}
+use Rattle.meaning.specs.Tables.{Feed, fileOf, feedOf, refer, stopIds, stopName, stopLat, stopLon, locationType, parentStation, degrees, oneIf, kindOf, inner, placed, widths, widthOf}
+use Rattle.meaning.specs.Refusals.{rule3, rule9, rule12, slack, blank}
+use Rattle.meaning.specs.Rules.{row, rule21·stops, otherKind, parentKind, rule22}
+use Rattle.meaning.specs.Outcome.{outcome}
+use Rattle.meaning.specs.Promises.{lineOrder, turn}
+use Rattle.meaning.specs.Held.{lineCount}
+use Rattle.meaning.specs.Demands.{Reads}
+use Rattle.meaning.specs.Nodes.{OneDigit, Unfit, none, other, base22, Filled, PlaceTold, Nodes}
+use Rattle.meaning.proofs.ListLaws.{both, and-both, nothing}
+use Rattle.meaning.proofs.Tests.{either, or-left, or-right}
+use Rattle.meaning.proofs.References.{dangling-refer}
+use Rattle.meaning.proofs.FirstBroken.{readable-exactly}
+use Rattle.meaning.proofs.Columns.{kept-12}
+use Rattle.meaning.proofs.Readable.{values-kept}
+use Rattle.meaning.proofs.Records.{rows-count}
+use Rattle.meaning.proofs.Held.{tables-held}
+
+-- ---- the form of location_type
+
+shape-is : (v : List ℕ) → shape (columnOf 1 4 .form) v ≡ isChoice (choiceOf 4 v)
+unfolding shape shapes columnOf knownAt schema schemas stopsColumns
+shape-is v = refl
+
+single : (v : List ℕ) → length v ≡ 1 → v ≡ getD v 0 0 ∷ []
+single [] e = absurd (omega arith)
+single (b ∷ []) e = refl
+single (b ∷ c ∷ r) e = absurd (omega arith)
+
+one-digit : (v : List ℕ) → isChoice (choiceOf 4 v) ≡ true → OneDigit 4 v
+unfolding choiceOf formed digitText
+one-digit v e =
+    let h = and-both (eqb (length v) 1) (leb 48 (getD v 0 0) && leb (getD v 0 0) 52) (go (noMark v) _ _ e) in
+    let g = and-both (leb 48 (getD v 0 0)) (leb (getD v 0 0) 52) (h .1) in
+    let low : 48 ≤ getD v 0 0 = leb-true 48 _ (g .0) in
+    let high : getD v 0 0 ≤ 52 = leb-true _ 52 (g .1) in
+    let b : 48 + (getD v 0 0 - 48) ≡ getD v 0 0 = omega arith in
+    record { digit = getD v 0 0 - 48; small = omega arith; is = rw b (single v (eqb-true _ 1 (h .0))) }
+  where
+    go : (m d : Bool) (n : ℕ) → isChoice (cond m (cond d (Picked n) NoChoice) NoChoice) ≡ true → d ≡ true
+    go true true n e = refl
+    go true false n e = e
+    go false d n e = both false e refl
+
+digit-formed : (v : List ℕ) → OneDigit 4 v → isChoice (choiceOf 4 v) ≡ true
+unfolding choiceOf formed digitText noMark
+digit-formed v o =
+    let h = o .small in
+    rw (o .is, ne-eqb (48 + o .digit) 34 (λ z. omega arith), le-leb 48 (48 + o .digit) (omega arith), le-leb (48 + o .digit) 52 (omega arith))
+
+allowed : (v : List ℕ) → shape (columnOf 1 4 .form) v ≡ true ↔ OneDigit 4 v
+allowed v = (λ e. one-digit v (sym (shape-is v) ∙ e), λ o. shape-is v ∙ digit-formed v o)
+
+unread : (r : Row) → shape (columnOf 1 4 .form) (locationType r) ≡ false → kindOf r ≡ 0
+unfolding kindOf
+unread r e = go (choiceOf 4 (locationType r)) (sym (shape-is (locationType r)) ∙ e)
+  where
+    go : (c : Choice) → isChoice c ≡ false → oneIf c ≡ 0
+    go (Picked n) e = both true refl e
+    go NoChoice e = refl
+
+-- ---- rule 22
+
+module _ (w : Feed) (i : ℕ) where
+  abbrev r : Row
+  r = row (w .stops) i
+
+  -- a node or a boarding area breaks it exactly where its parent is empty or of another type
+  unfit : (m : ℕ) → 2 < kindOf r → parentKind (kindOf r) ≡ m → rule22 w i ≡ true ↔ Unfit w i m
+  unfolding rule22 otherKind
+  unfit m h p = rw (ne-eqb (kindOf r) 1 (λ z. omega arith), lt-ltb 1 (kindOf r) (omega arith), p) (λ e. there (either _ _ e), back)
+    where
+      k : ℕ
+      k = refer (parentStation r) (stopIds w)
+
+      there : (empty (parentStation r) ≡ true) ⊎ (otherKind w m (parentStation r) ≡ true) → Unfit w i m
+      there (inl e) = none e
+      there (inr e) =
+          let b = and-both (not (eqb k 0)) _ e in
+          let z = eqb-false k 0 (not-true _ (b .0)) in
+          other (k - 1) (omega (arith, z)) (eqb-false _ m (not-true _ (b .1)))
+
+      back : Unfit w i m → (empty (parentStation r) || otherKind w m (parentStation r)) ≡ true
+      back (none e) = or-left _ _ e
+      back (other j e u) =
+          let z : k - 1 ≡ j = omega arith in
+          or-right (empty (parentStation r)) _ (rw (ne-eqb k 0 (λ n. omega arith), z, ne-eqb (kindOf (row (w .stops) j)) m u))
+
+  node : kindOf r ≡ 3 → rule22 w i ≡ true ↔ Unfit w i 1
+  unfolding parentKind
+  node e = unfit 1 (omega arith) (rw e)
+
+  area : kindOf r ≡ 4 → rule22 w i ≡ true ↔ Unfit w i 0
+  unfolding parentKind
+  area e = unfit 0 (omega arith) (rw e)
+
+  unresolved : inner r ≡ true → rule21·stops w i ≡ true → rule22 w i ≡ false
+  unfolding rule21·stops rule22 otherKind inner
+  unresolved h e =
+      let v = parentStation r in
+      let k : 2 < kindOf r = ltb-true 2 (kindOf r) h in
+      let b = and-both (not (empty v)) _ (sym (dangling-refer v (stopIds w)) ∙ e) in
+      rw (ne-eqb (kindOf r) 1 (λ z. omega arith), lt-ltb 1 (kindOf r) (omega arith), not-true (empty v) (b .0), b .1)
+
+  others : inner r ≡ false → rule22 w i ≡ base22 w i
+  unfolding rule22 parentKind inner
+  others h = let k : kindOf r ≤ 2 = ltb-false 2 (kindOf r) h in rw (ne-eqb (kindOf r) 4 (λ z. omega arith), go (kindOf r) k)
+    where
+      go : (n : ℕ) → n ≤ 2 → ltb 1 n ≡ eqb n 2
+      go zero g = refl
+      go (suc zero) g = refl
+      go (suc (suc zero)) g = refl
+      go (suc (suc (suc n))) g = absurd (omega arith)
+
+-- ---- rule 12
+
+-- the slack of a row of stops.txt, by whether it is a node or a boarding area, and whether it has a place
+abbrev free : Bool → Bool → ℕ
+free a b = cond a (cond b 1 2) 0
+
+-- when a row of stops.txt has a value blank, by its column's need
+module _ (r : Row) (c : Column) (v : List ℕ) where
+  blank-never : c .need ≡ 0 → blank (slack 1 r) c v ≡ false
+  unfolding blank
+  blank-never e = rw (e, le-ltb (slack 1 r) 0 (omega arith))
+
+  blank-name : c .need ≡ 1 → blank (slack 1 r) c v ≡ not (inner r) && empty v
+  unfolding blank slack
+  blank-name e = rw e (go (inner r) (placed r))
+    where
+      go : (a b : Bool) → (ltb (free a b) 1 && empty v) ≡ (not a && empty v)
+      go true true = refl
+      go true false = refl
+      go false b = refl
+
+  blank-place : c .need ≡ 2 → blank (slack 1 r) c v ≡ (not (inner r) || placed r) && empty v
+  unfolding blank slack
+  blank-place e = rw e (go (inner r) (placed r))
+    where
+      go : (a b : Bool) → (ltb (free a b) 2 && empty v) ≡ ((not a || b) && empty v)
+      go true true = refl
+      go true false = refl
+      go false b = refl
+
+  blank-id : c .need ≡ 3 → blank (slack 1 r) c v ≡ empty v
+  unfolding blank slack
+  blank-id e = rw e (go (inner r) (placed r))
+    where
+      go : (a b : Bool) → (ltb (free a b) 3 && empty v) ≡ empty v
+      go true true = refl
+      go true false = refl
+      go false b = refl
+
+-- no value is blank exactly where the row is filled
+module _ (r : Row) where
+  abbrev Kept : Type 0
+  Kept = (k : ℕ) → k < countOf 1 → blank (slack 1 r) (columnOf 1 k) (getD r k []) ≡ false
+
+  kept-filled : Kept → Filled r
+  unfolding placed countOf columnOf knownAt schema schemas stopsColumns
+  kept-filled h = record {
+    id = sym (blank-id r _ _ refl) ∙ h 0 (omega arith);
+    name = λ e. rw e at (sym (blank-name r _ _ refl) ∙ h 1 (omega arith));
+    latitude = λ e. rw e at latitude;
+    longitude = λ e. rw e at longitude;
+    together = λ e. level (empty (stopLat r)) (empty (stopLon r)) (rw e at latitude) (rw e at longitude);
+  }
+    where
+      latitude : (not (inner r) || placed r) && empty (stopLat r) ≡ false
+      latitude = sym (blank-place r _ _ refl) ∙ h 2 (omega arith)
+
+      longitude : (not (inner r) || placed r) && empty (stopLon r) ≡ false
+      longitude = sym (blank-place r _ _ refl) ∙ h 3 (omega arith)
+
+      level : (x y : Bool) → (not (x && y) && x) ≡ false → (not (x && y) && y) ≡ false → x ≡ y
+      level true true a b = refl
+      level true false a b = a
+      level false true a b = sym b
+      level false false a b = refl
+
+  filled-kept : Filled r → Kept
+  unfolding placed countOf columnOf knownAt schema schemas stopsColumns
+  filled-kept f zero h = blank-id r _ _ refl ∙ f .id
+  filled-kept f (suc zero) h = blank-name r _ _ refl ∙ go (inner r) (empty (stopName r)) (f .name)
+    where
+      go : (a x : Bool) → (a ≡ false → x ≡ false) → (not a && x) ≡ false
+      go true x n = refl
+      go false x n = n refl
+  filled-kept f (suc (suc zero)) h = blank-place r _ _ refl ∙ go (inner r) (empty (stopLat r)) (empty (stopLon r)) (f .latitude) (f .together)
+    where
+      go : (a x y : Bool) → (a ≡ false → x ≡ false) → (a ≡ true → x ≡ y) → ((not a || not (x && y)) && x) ≡ false
+      go true true true n t = refl
+      go true true false n t = t refl
+      go true false y n t = refl
+      go false x y n t = n refl
+  filled-kept f (suc (suc (suc zero))) h = blank-place r _ _ refl ∙ go (inner r) (empty (stopLat r)) (empty (stopLon r)) (f .longitude) (f .together)
+    where
+      go : (a x y : Bool) → (a ≡ false → y ≡ false) → (a ≡ true → x ≡ y) → ((not a || not (x && y)) && y) ≡ false
+      go true true true n t = refl
+      go true true false n t = refl
+      go true false true n t = sym (t refl)
+      go true false false n t = refl
+      go false x y n t = n refl
+  filled-kept f (suc (suc (suc (suc zero)))) h = blank-never r _ _ refl
+  filled-kept f (suc (suc (suc (suc (suc zero))))) h = blank-never r _ _ refl
+  filled-kept f (suc (suc (suc (suc (suc (suc k)))))) h = absurd (omega arith)
+
+needs : (header : List (List ℕ)) (l : List ℕ) → rule9 1 header ≡ false → rule12 1 (places 1 header) l ≡ 0 ↔ Filled (rowOf (places 1 header) l)
+needs header l lacks =
+    let kept = kept-12 1 header lacks l in
+    let r = rowOf (places 1 header) l in
+    (λ e. kept-filled r (kept .0 e), λ f. kept .1 (filled-kept r f))
+
+before : turn 12 < turn 13
+unfolding turn place lineOrder
+before = omega arith
+
+-- ---- the seventh number
+
+no-value : (v : List ℕ) → empty v ≡ true → v ≡ []
+unfolding empty
+no-value v e = nothing v (omega (arith, eqb-true (length v) 0 e))
+
+no-degrees : (v : List ℕ) → empty v ≡ true → (degrees (latitudeOf v) ≡ pos 0) × (degrees (longitudeOf v) ≡ pos 0)
+unfolding latitudeOf longitudeOf formed noMark degreesText sizeText pointed toPoint
+no-degrees v e = rw (no-value v e) (refl, refl)
+
+-- of a filled row
+module _ (r : Row) (f : Filled r) where
+  has-place : placed r ≡ true → (empty (stopLat r) ≡ false) × (empty (stopLon r) ≡ false)
+  unfolding placed
+  has-place e = go (inner r) refl
+    where
+      level : (x y : Bool) → x ≡ y → not (x && y) ≡ true → (x ≡ false) × (y ≡ false)
+      level true y t h = (both y (sym t) (not-true y h), not-true y h)
+      level false y t h = (refl, sym t)
+
+      go : (a : Bool) → inner r ≡ a → (empty (stopLat r) ≡ false) × (empty (stopLon r) ≡ false)
+      go true h = level (empty (stopLat r)) (empty (stopLon r)) (f .together h) e
+      go false h = (f .latitude h, f .longitude h)
+
+  place-told : (n : ℕ → ℤ) → n 2 ≡ degrees (latitudeOf (stopLat r)) → n 3 ≡ degrees (longitudeOf (stopLon r)) → n 6 ≡ pos (cond (placed r) 1 0) → PlaceTold r n
+  unfolding placed
+  place-told n lat lon p = record {
+    with = λ e. (rw e at p, has-place e);
+    without = λ e.
+        let h = and-both (empty (stopLat r)) (empty (stopLon r)) (not-false _ e) in
+        (rw e at p, (lat ∙ no-degrees (stopLat r) (h .0) .0, lon ∙ no-degrees (stopLon r) (h .1) .1));
+    always = λ e. rw (f .latitude e);
+  }
+
+-- ---- the outcome
+
+module _ (files : List (List ℕ)) (tables : List (List ℤ)) (list : List ℤ) (p : Place) (six : length files ≡ 6) (lent : length tables ≡ 6) where
+  seventh :
+      Reads files tables
+      → (i : ℕ)
+      → i + 1 < lineCount files 1
+      → PlaceTold (row (feedOf files .stops) i) (λ j. getD (getD (outcome files tables list p .tables) 0 []) ((i + 1) * 7 + j) (pos 0))
+  unfolding feedOf
+  seventh reads i h =
+      let read = readable-exactly files (map length tables) .1 reads in
+      let held = tables-held files tables list p six read lent .stops .records i h in
+      let inside : i < length (rowsOf 1 (fileOf files 1)) = omega (arith, rows-count 1 (fileOf files 1)) in
+      place-told _
+      (kept-filled _ (λ k g. values-kept files (map length tables) read 1 (omega arith) (omega arith) i inside k g .there))
+      _ (held .latitude) (held .longitude) (held .place)
+
+  pub nodes : Nodes files tables (outcome files tables list p)
+  unfolding rule3 widthOf widths
+  nodes = record {
+    allowed = allowed;
+    node = node;
+    area = area;
+    unresolved = unresolved;
+    others = others;
+    needs = needs;
+    unread = unread;
+    before = before;
+    seventh = seventh;
+    width = λ s room. refl;
+  }
