@@ -13,8 +13,8 @@ use borrow.Author.Tests.{eq-eqb, ne-eqb, lt-ltb, le-ltb}
 use Rattle.meaning.proofs.Computed.{all, and-left, and-right}
 use Rattle.meaning.specs.declared.Column.{Column}
 use Rattle.meaning.specs.Lists.{lesser, least}
-use Rattle.meaning.specs.Columns.{columnOf, countOf, cell}
-use Rattle.meaning.specs.Refusals.{Test, test, testAt, rule11, rule12, rule13, long, blank, formless, leftmost, valueTests}
+use Rattle.meaning.specs.Columns.{columnOf, countOf, cell, rowOf}
+use Rattle.meaning.specs.Refusals.{Test, test, testAt, rule11, rule12, rule13, slack, long, blank, formless, leftmost, valueTests}
 use Rattle.reading.specs.declared.Fault.{Fault}
 use Rattle.reading.specs.Tests.{fault, first, columnTests, valueTestsTo, earlierOf}
 
@@ -48,10 +48,10 @@ pub value-no : (n p : ℕ) (b : Bool) (r : List Test) → b ≡ false → (k : F
 value-no n p b r e k h = rw e (column-no n 0 r refl k h)
 
 -- an absent column breaks no rule
-pub value-absent : (c : Column) (p : ℕ) (v : List ℕ) → p ≡ 0 → fault 0 0 ≡ first (columnTests c p v)
+pub value-absent : (free : ℕ) (c : Column) (p : ℕ) (v : List ℕ) → p ≡ 0 → fault 0 0 ≡ first (columnTests free c p v)
 unfolding columnTests
-value-absent c p v z =
-    column-no 11 _ _ (none (long c v)) _ (column-no 12 _ _ (none (blank c v)) _ (column-no 13 _ _ (none (formless c v)) _ first-none))
+value-absent free c p v z =
+    column-no 11 _ _ (none (long c v)) _ (column-no 12 _ _ (none (blank free c v)) _ (column-no 13 _ _ (none (formless c v)) _ first-none))
   where
     none : (b : Bool) → cond b p 0 ≡ 0
     none true = z
@@ -151,8 +151,8 @@ three-both a b d x y z =
     late b d = after-later 11 12 b _ (omega arith) (after-later 11 13 d _ (omega arith) (inl refl))
 
 -- a turn along the known columns
-module _ (f : ℕ) (ps l : List ℕ) where
-  pub row-none : fault 0 0 ≡ first (valueTestsTo f ps l 0)
+module _ (free f : ℕ) (ps l : List ℕ) where
+  pub row-none : fault 0 0 ≡ first (valueTestsTo free f ps l 0)
   unfolding valueTestsTo leftmost least first
   row-none = refl
 
@@ -160,19 +160,19 @@ module _ (f : ℕ) (ps l : List ℕ) where
   unfolding leftmost least
   leftmost-more P k = rw (add-one k)
 
-  pub row-turn : (k : ℕ) (w j m : Fault) → w ≡ first (valueTestsTo f ps l k) → (c : Column) → c ≡ columnOf f k → (v : List ℕ) → v ≡ cell l (getD ps k 0)
-      → j ≡ first (columnTests c (getD ps k 0) v) → m ≡ earlierOf w j → m ≡ first (valueTestsTo f ps l (k + 1))
+  pub row-turn : (k : ℕ) (w j m : Fault) → w ≡ first (valueTestsTo free f ps l k) → (c : Column) → c ≡ columnOf f k → (v : List ℕ) → v ≡ cell l (getD ps k 0)
+      → j ≡ first (columnTests free c (getD ps k 0) v) → m ≡ earlierOf w j → m ≡ first (valueTestsTo free f ps l (k + 1))
   unfolding valueTestsTo columnTests
   row-turn k w j m e c x v y p q =
-      rw (leftmost-more long k, leftmost-more blank k, leftmost-more formless k, q, e, p, x, y)
+      rw (leftmost-more long k, leftmost-more (blank free) k, leftmost-more formless k, q, e, p, x, y)
       (three-both _ _ _ _ _ _)
 
   -- a value that breaks no rule changes nothing
-  pub row-kept : (k : ℕ) (w j : Fault) → w ≡ first (valueTestsTo f ps l k) → (c : Column) → c ≡ columnOf f k → (v : List ℕ) → v ≡ cell l (getD ps k 0)
-      → j ≡ first (columnTests c (getD ps k 0) v) → j .rule ≡ 0 → w ≡ first (valueTestsTo f ps l (k + 1))
+  pub row-kept : (k : ℕ) (w j : Fault) → w ≡ first (valueTestsTo free f ps l k) → (c : Column) → c ≡ columnOf f k → (v : List ℕ) → v ≡ cell l (getD ps k 0)
+      → j ≡ first (columnTests free c (getD ps k 0) v) → j .rule ≡ 0 → w ≡ first (valueTestsTo free f ps l (k + 1))
   unfolding earlierOf
   row-kept k w j e c x v y p z = row-turn k w j w e c x v y p (rw (eq-eqb (j .rule) 0 z))
 
-  pub row-end : (k : ℕ) (w : Fault) → w ≡ first (valueTestsTo f ps l k) → k ≡ countOf f → w ≡ first (valueTests f ps l)
+  pub row-end : (k : ℕ) (w : Fault) → w ≡ first (valueTestsTo free f ps l k) → k ≡ countOf f → free ≡ slack f (rowOf ps l) → w ≡ first (valueTests f ps l)
   unfolding valueTestsTo valueTests rule11 rule12 rule13
-  row-end k w e p = rw (← p) e
+  row-end k w e p s = rw (← p, ← s) e

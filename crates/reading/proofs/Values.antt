@@ -1,7 +1,7 @@
 -- Rules 5 to 14 on a line: what the callees say of each test.
-use mathlib.Core.Path.{_≡_, refl, sym, ap}
+use mathlib.Core.Path.{_≡_, refl, sym, ap, _∙_}
 use mathlib.Core.Bool.{Bool, true, false, cond, not, _&&_}
-use mathlib.Core.List.{List}
+use mathlib.Core.List.{List, []}
 use Prim.Native.Nat.{ℕ, zero, suc, _+_, _≤_, _<_}
 use native.Mathlib.Omega.{arith}
 use lib.Dec.{ltb}
@@ -10,9 +10,11 @@ use borrow.Author.Tests.{eq-eqb, ne-eqb, lt-ltb, le-ltb}
 use Rattle.meaning.specs.declared.Column.{Column}
 use Rattle.meaning.specs.Lists.{empty, least}
 use Rattle.meaning.specs.Bytes.{good, fields}
-use Rattle.meaning.specs.Columns.{columnOf, countOf, cell}
+use Rattle.meaning.specs.Columns.{columnOf, countOf, cell, rowOf}
 use Rattle.meaning.specs.Forms.{shapes, shape}
-use Rattle.meaning.specs.Refusals.{rule6, rule7, rule10, rule11, rule12, rule13, long, blank, formless, leftmost, valueTests, lineTests}
+use Rattle.meaning.specs.Tables.{kindOf, inner, placed}
+use Rattle.meaning.specs.Refusals.{rule6, rule7, rule10, rule11, rule12, rule13, slack, long, blank, formless, leftmost, valueTests, lineTests}
+use Rattle.meaning.proofs.Columns.{row-at}
 
 -- a value of n bytes under a column
 module _ (c : Column) (v : List ℕ) (n : ℕ) (e : n ≡ length v) where
@@ -20,18 +22,18 @@ module _ (c : Column) (v : List ℕ) (n : ℕ) (e : n ≡ length v) where
   unfolding long
   long-is t u p q = rw (← e, ← p) q
 
-  pub blank-empty : n ≡ 0 → (u : Bool) → c .need ≡ u → blank c v ≡ u
+  pub blank-empty : (free : ℕ) → n ≡ 0 → (u : Bool) → ltb free (c .need) ≡ u → blank free c v ≡ u
   unfolding blank empty
-  blank-empty z true p = rw (← e, z, p)
-  blank-empty z false p = rw p
+  blank-empty free z true p = rw (← e, z, p)
+  blank-empty free z false p = rw p
 
   pub formless-empty : n ≡ 0 → formless c v ≡ false
   unfolding formless empty
   formless-empty z = rw (← e, z)
 
-  pub blank-full : (n ≡ 0 → ⊥) → blank c v ≡ false
+  pub blank-full : (free : ℕ) → (n ≡ 0 → ⊥) → blank free c v ≡ false
   unfolding blank empty
-  blank-full z = rw (← e, ne-eqb n 0 z) (go (c .need))
+  blank-full free z = rw (← e, ne-eqb n 0 z) (go (ltb free (c .need)))
     where
       go : (b : Bool) → (b && false) ≡ false
       go true = refl
@@ -75,15 +77,22 @@ module _ (ps qs : List ℕ) (alike : (k : ℕ) → getD ps k 0 ≡ getD qs k 0) 
   unfolding leftmost
   leftmost-same P f l n = least-same _ _ (λ k. ap (λ (p : ℕ). cond (P (columnOf f k) (cell l p)) p 0) (alike k)) n
 
+  row-same : (l : List ℕ) (k : ℕ) → getD (rowOf ps l) k [] ≡ getD (rowOf qs l) k []
+  row-same l k = row-at ps l k ∙ ap (cell l) (alike k) ∙ sym (row-at qs l k)
+
+  slack-same : (f : ℕ) (l : List ℕ) → slack f (rowOf ps l) ≡ slack f (rowOf qs l)
+  unfolding slack inner placed kindOf
+  slack-same f l = rw (row-same l 4, row-same l 2, row-same l 3)
+
   pub line-same : (f count : ℕ) (l : List ℕ) → lineTests f ps count l ≡ lineTests f qs count l
   unfolding lineTests valueTests rule11 rule12 rule13
-  line-same f count l = rw (leftmost-same long f l (countOf f), leftmost-same blank f l (countOf f), leftmost-same formless f l (countOf f))
+  line-same f count l = rw (slack-same f l, leftmost-same long f l (countOf f), leftmost-same (blank (slack f (rowOf qs l))) f l (countOf f), leftmost-same formless f l (countOf f))
 
 -- a number that is none of the first k
 pub past : (n k : ℕ) → k ≤ n → (n ≡ k → ⊥) → k + 1 ≤ n
 past n k h e = omega arith
 
--- no form has a number from 11 on
-pub no-form : (n : ℕ) (v : List ℕ) → 11 ≤ n → false ≡ shape n v
+-- no form has a number from 12 on
+pub no-form : (n : ℕ) (v : List ℕ) → 12 ≤ n → false ≡ shape n v
 unfolding shape shapes
 no-form n v h = sym (ap (λ (f : List ℕ → Bool). f v) (List·getD-eq-default shapes (λ w. false) {n = n} h))

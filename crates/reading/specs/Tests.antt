@@ -15,14 +15,14 @@ unfoldable pub first : List Test → Fault
 first [] = fault 0 0
 first (t ∷ r) = let k = first r in cond (t .broken) (fault (t .number) (t .column)) k
 
--- rules 11 to 13 of the value under a known column that stands in column p
-unfoldable pub columnTests : Column → ℕ → List ℕ → List Test
-columnTests c p v =
-    testAt 11 (cond (long c v) p 0) ∷ testAt 12 (cond (blank c v) p 0) ∷ testAt 13 (cond (formless c v) p 0) ∷ []
+-- rules 11 to 13 of the value under a known column that stands in column p, on a line that may leave so much open
+unfoldable pub columnTests : ℕ → Column → ℕ → List ℕ → List Test
+columnTests free c p v =
+    testAt 11 (cond (long c v) p 0) ∷ testAt 12 (cond (blank free c v) p 0) ∷ testAt 13 (cond (formless c v) p 0) ∷ []
 
 -- rules 11 to 13 of the values under the first n known columns
-unfoldable pub valueTestsTo : ℕ → List ℕ → List ℕ → ℕ → List Test
-valueTestsTo f ps l n = testAt 11 (leftmost long f ps l n) ∷ testAt 12 (leftmost blank f ps l n) ∷ testAt 13 (leftmost formless f ps l n) ∷ []
+unfoldable pub valueTestsTo : ℕ → ℕ → List ℕ → List ℕ → ℕ → List Test
+valueTestsTo free f ps l n = testAt 11 (leftmost long f ps l n) ∷ testAt 12 (leftmost (blank free) f ps l n) ∷ testAt 13 (leftmost formless f ps l n) ∷ []
 
 -- the fault of the lower rule; of two of one rule the one further left
 unfoldable pub earlierOf : Fault → Fault → Fault

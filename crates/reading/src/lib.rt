@@ -1,4 +1,5 @@
 // Refusals 1 to 14: the first broken rule of a value, a line, a file and a feed. Nothing is written.
+use columns::Cells;
 use columns::Columns;
 use meaning::Choice;
 use meaning::Column;
@@ -12,6 +13,7 @@ use meaning::Time;
 use meaning::Verdict;
 use rows::Calendar;
 use rows::Dates;
+use rows::Stops;
 use text::LineStep;
 use text::Measured;
 ghost use mathlib.Core.Path.{_≡_};
@@ -22,10 +24,12 @@ ghost use lib.Dec.{ltb};
 ghost use lib.ListN.{length};
 ghost use Rattle.meaning.specs.Lists.{empty};
 ghost use Rattle.meaning.specs.Bytes.{linesFrom, linesOf, good, fields, value, values};
+ghost use Rattle.meaning.specs.Columns.{rowOf};
 ghost use Rattle.meaning.specs.Forms.{timeOf, dateOf, latitudeOf, longitudeOf, sequenceOf, choiceOf, routeTypeOf, exceptionOf, isTime, isDate, isDegrees, isNumber, isChoice, shape};
 ghost use Rattle.meaning.specs.Tables.{fileOf, widthOf};
-ghost use Rattle.meaning.specs.Refusals.{textTests, headTests, valueTests, lineTests, onLines, inFile, mayLack, rule4, speaks, verdictOf};
+ghost use Rattle.meaning.specs.Refusals.{textTests, headTests, valueTests, lineTests, onLines, inFile, mayLack, rule4, slack, speaks, verdictOf};
 ghost use Rattle.columns.specs.Columns.{placesOf};
+ghost use Rattle.values.specs.Located.{Within, Located};
 ghost use Rattle.reading.specs.Tests.{fault, first, columnTests, earlierOf};
 ghost use Rattle.reading.specs.Wholes.{wholeOf, wholesOf, ruleMarks, firstTrue, wholeClaims, orElse};
 
@@ -122,6 +126,7 @@ fn is_of_late_form(form: u8, raw: &[u8]) -> bool
         8 => is_choice(raw, 3),
         9 => is_route_type(raw),
         10 => is_exception(raw),
+        11 => is_choice(raw, 4),
         _ => false,
     }
 }
@@ -154,9 +159,27 @@ pub struct Fault {
     pub column: usize,
 }
 
-// The first of rules 11 to 13 that the value of a raw field breaks under a known column that stands in column p; an absent one breaks none.
-fn value_fault(c: Column, p: usize, raw: &[u8]) -> Fault
-    ensures { λ r. ⌜ r ≡ first (columnTests c p (value (now (raw .entry)))) ⌝ }
+// What a line may leave open: 1, of a line of type 3 or 4, its name; 2 its place too, where it has no coordinate.
+fn slack_of(f: usize, l: &[u8], q: Cells) -> u8
+    requires { ⌜ Within (length (now l)) (q .start) (q .end) ⌝ }
+    ensures { λ r. ⌜ ((ps : List ℕ) → Located (now (l .entry)) ps (q .start) (q .end) → r ≡ slack f (rowOf ps (now (l .entry)))) ⌝ }
+{
+    if f != Stops::FILE {
+        return 0;
+    }
+    if values::location_type(l, q) <= 2 {
+        return 0;
+    }
+    if values::has_place(l, q) {
+        return 1;
+    }
+    2
+}
+
+// The first of rules 11 to 13 that the value of a raw field breaks under a known column that stands in column p, on a line that may leave
+// so much open; an absent column breaks none.
+fn value_fault(c: Column, slack: u8, p: usize, raw: &[u8]) -> Fault
+    ensures { λ r. ⌜ r ≡ first (columnTests slack c p (value (now (raw .entry)))) ⌝ }
 {
     if p == 0 {
         return Fault { rule: 0, column: 0 };
@@ -169,7 +192,7 @@ fn value_fault(c: Column, p: usize, raw: &[u8]) -> Fault
         };
     }
     if n == 0 {
-        if c.need {
+        if slack < c.need {
             return Fault {
                 rule: 12,
                 column: p,
@@ -214,6 +237,7 @@ fn row_fault(f: usize, at: [usize; 10], l: &[u8]) -> Fault
     ensures { λ r. ⌜ r ≡ first (valueTests f at (now (l .entry))) ⌝ }
 {
     let cells = columns::locate(l, at);
+    let slack = slack_of(f, l, cells);
     let start = cells.start;
     let end = cells.end;
     let m = schema::count(f);
@@ -222,7 +246,7 @@ fn row_fault(f: usize, at: [usize; 10], l: &[u8]) -> Fault
     while k < m {
         let a = start[k];
         let e = end[k];
-        let t = value_fault(schema::known(f, k), at[k], &l[a..e]);
+        let t = value_fault(schema::known(f, k), slack, at[k], &l[a..e]);
         if t.rule != 0 {
             fault = earlier(fault, t);
         }

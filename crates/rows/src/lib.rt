@@ -3,7 +3,7 @@ ghost use mathlib.Core.Path.{_≡_};
 ghost use mathlib.Core.List.{_∷_, []};
 ghost use Prim.Native.Nat.{ℕ, _+_, _*_, _^_, _<_, _≤_};
 ghost use lib.IntN.{pos};
-ghost use lib.ListN.{length, set};
+ghost use lib.ListN.{length, getD, set};
 ghost use Rattle.meaning.specs.Tables.{widthOf, idColumn};
 ghost use Rattle.rows.specs.Cells.{putAt, natAt, boundsAt, timeAt};
 ghost use Rattle.rows.specs.Waiting.{unmark, packed, settledAt};
@@ -35,24 +35,32 @@ pub struct DateRow(pub usize);
 pub struct Stops;
 
 impl Stops {
-    pub const WIDTH: usize = 6;
+    pub const WIDTH: usize = 7;
 
     pub const FILE: usize = 1;
 
     // Where a record starts.
     pub fn place(row: StopRow) -> usize
-        requires { ⌜ row .0 * 6 < 2 ^ 64 ⌝ }
-        ensures { λ p. ⌜ p ≡ row .0 * 6 ⌝ }
+        requires { ⌜ row .0 * 7 < 2 ^ 64 ⌝ }
+        ensures { λ p. ⌜ p ≡ row .0 * 7 ⌝ }
     {
         row.0 * Stops::WIDTH
     }
 
-    // The record of a line, but for its parent, number 5, which is settled before.
-    pub fn put(t: &mut [i32], row: StopRow, id: Bounds, latitude: i32, longitude: i32, kind: u32)
-        requires { ⌜ row .0 * 6 + 5 ≤ length (now t) ⌝ }
-        requires { ⌜ (id .start < 2 ^ 31) × ((id .end < 2 ^ 31) × (kind < 2 ^ 31)) ⌝ }
-        ensures { λ _. ⌜ now (t .exit) ≡ putAt (now (t .entry)) (row .0 * 6)
-            (pos (id .start) ∷ pos (id .end) ∷ latitude ∷ longitude ∷ pos kind ∷ []) ⌝ }
+    // The record of a line, whose parent is settled in number 6; 1 takes its place there where the line has a place, else 0.
+    pub fn put(
+        t: &mut [i32],
+        row: StopRow,
+        id: Bounds,
+        latitude: i32,
+        longitude: i32,
+        kind: u32,
+        placed: u32,
+    )
+        requires { ⌜ row .0 * 7 + 7 ≤ length (now t) ⌝ }
+        requires { ⌜ (id .start < 2 ^ 31) × ((id .end < 2 ^ 31) × ((kind < 2 ^ 31) × (placed < 2 ^ 31))) ⌝ }
+        ensures { λ _. ⌜ now (t .exit) ≡ putAt (now (t .entry)) (row .0 * 7)
+            (pos (id .start) ∷ pos (id .end) ∷ latitude ∷ longitude ∷ pos kind ∷ getD (now (t .entry)) (row .0 * 7 + 6) (pos 0) ∷ pos placed ∷ []) ⌝ }
     {
         let r = [
             id.start as i32,
@@ -60,40 +68,42 @@ impl Stops {
             latitude,
             longitude,
             kind as i32,
+            cells::number_of(t, row.0, Stops::WIDTH, 6),
+            placed as i32,
         ];
         cells::store(t, Stops::place(row), &r);
     }
 
     // Where the field of a parent lies that waits in a stop's record: numbers 3 and 4.
     pub fn waiting_at(t: &[i32], row: StopRow) -> Bounds
-        ensures { λ r. ⌜ r ≡ boundsAt (now (t .entry)) (row .0 * 6 + 3) ⌝ }
+        ensures { λ r. ⌜ r ≡ boundsAt (now (t .entry)) (row .0 * 7 + 3) ⌝ }
     {
         cells::waiting_of(t, row.0, Stops::WIDTH)
     }
 
-    // The parent's record, number 5.
+    // The parent's record, in number 6 till the record is put.
     pub fn settle(t: &mut [i32], row: StopRow, parent: StopRow)
-        requires { ⌜ (row .0 * 6 + 6 ≤ length (now t)) × (parent .0 < 2 ^ 31) ⌝ }
-        ensures { λ _. ⌜ now (t .exit) ≡ set (now (t .entry)) (row .0 * 6 + 5) (pos (parent .0)) ⌝ }
+        requires { ⌜ (row .0 * 7 + 7 ≤ length (now t)) × (parent .0 < 2 ^ 31) ⌝ }
+        ensures { λ _. ⌜ now (t .exit) ≡ set (now (t .entry)) (row .0 * 7 + 6) (pos (parent .0)) ⌝ }
     {
         cells::settle(t, row.0, Stops::WIDTH, parent.0);
     }
 
     // Where the id of a record stands in the file.
     pub fn id_at(t: &[i32], row: StopRow) -> Bounds
-        ensures { λ r. ⌜ r ≡ boundsAt (now (t .entry)) (row .0 * 6) ⌝ }
+        ensures { λ r. ⌜ r ≡ boundsAt (now (t .entry)) (row .0 * 7) ⌝ }
     {
         cells::bounds_of(t, row.0, Stops::WIDTH)
     }
 
     pub fn kind_at(t: &[i32], row: StopRow) -> usize
-        ensures { λ r. ⌜ r ≡ natAt (now (t .entry)) (row .0 * 6 + 4) ⌝ }
+        ensures { λ r. ⌜ r ≡ natAt (now (t .entry)) (row .0 * 7 + 4) ⌝ }
     {
         cells::nat_of(t, row.0, Stops::WIDTH, 4)
     }
 
     pub fn parent_at(t: &[i32], row: StopRow) -> StopRow
-        ensures { λ r. ⌜ r .0 ≡ natAt (now (t .entry)) (row .0 * 6 + 5) ⌝ }
+        ensures { λ r. ⌜ r .0 ≡ natAt (now (t .entry)) (row .0 * 7 + 5) ⌝ }
     {
         StopRow(cells::nat_of(t, row.0, Stops::WIDTH, 5))
     }

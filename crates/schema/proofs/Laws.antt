@@ -38,9 +38,9 @@ module _ {A : Type 0} (g : Known → A) where
   pads-at (r ∷ l) zero k = pad-at 10 r k
   pads-at (r ∷ l) (suc f) k = pads-at l f k
 
-pub column-is : (c : Column) (m n i : Bool) (w : ℕ) → m ≡ c .must → n ≡ c .need → i ≡ c .ident → w ≡ c .form
+pub column-is : (c : Column) (m i : Bool) (n w : ℕ) → m ≡ c .must → n ≡ c .need → i ≡ c .ident → w ≡ c .form
     → _≡_ {A = Column} (record { must = m; need = n; ident = i; form = w }) c
-column-is c m n i w p q r s = rw (p, q, r, s)
+column-is c m i n w p q r s = rw (p, q, r, s)
 
 abbrev pub lengths : List (List Known) → List ℕ
 lengths [] = []

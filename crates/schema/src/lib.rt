@@ -6,7 +6,7 @@ ghost use Rattle.meaning.specs.Lists.{same};
 ghost use Rattle.meaning.specs.Bytes.{value};
 ghost use Rattle.meaning.specs.Columns.{columnOf, nameOf, countOf};
 
-// For each file and known column: must be present, needs a value, is an id, form.
+// For each file and known column: must be present, on which lines it needs a value, is an id, form.
 const MUST: [[bool; 10]; 7] = [
     [
         false,
@@ -83,80 +83,15 @@ const MUST: [[bool; 10]; 7] = [
     ],
 ];
 
-const NEED: [[bool; 10]; 7] = [
-    [
-        false,
-        false,
-        false,
-        false,
-        false,
-        false,
-        false,
-        false,
-        false,
-        false,
-    ],
-    [
-        true,
-        true,
-        true,
-        true,
-        false,
-        false,
-        false,
-        false,
-        false,
-        false,
-    ],
-    [
-        true,
-        true,
-        false,
-        false,
-        false,
-        false,
-        false,
-        false,
-        false,
-        false,
-    ],
-    [true, true, true, true, true, true, true, true, true, true],
-    [
-        true,
-        true,
-        true,
-        false,
-        false,
-        false,
-        false,
-        false,
-        false,
-        false,
-    ],
-    [
-        true,
-        false,
-        false,
-        true,
-        true,
-        false,
-        false,
-        false,
-        false,
-        false,
-    ],
-    [
-        true,
-        true,
-        true,
-        false,
-        false,
-        false,
-        false,
-        false,
-        false,
-        false,
-    ],
+// By number: never, unless the line is of type 3 or 4, unless such a line has no coordinate, always.
+const NEED: [[u8; 10]; 7] = [
+    [0, 0, 0, 0, 0, 0, 0, 0, 0, 0],
+    [3, 1, 2, 2, 0, 0, 0, 0, 0, 0],
+    [3, 3, 0, 0, 0, 0, 0, 0, 0, 0],
+    [3, 3, 3, 3, 3, 3, 3, 3, 3, 3],
+    [3, 3, 3, 0, 0, 0, 0, 0, 0, 0],
+    [3, 0, 0, 3, 3, 0, 0, 0, 0, 0],
+    [3, 3, 3, 0, 0, 0, 0, 0, 0, 0],
 ];
 
 const IDENT: [[bool; 10]; 7] = [
@@ -248,7 +183,7 @@ const IDENT: [[bool; 10]; 7] = [
 
 const FORM: [[u8; 10]; 7] = [
     [0, 0, 0, 0, 0, 0, 0, 0, 0, 0],
-    [0, 0, 3, 4, 7, 0, 0, 0, 0, 0],
+    [0, 0, 3, 4, 11, 0, 0, 0, 0, 0],
     [0, 9, 0, 0, 0, 0, 0, 0, 0, 0],
     [0, 6, 6, 6, 6, 6, 6, 6, 2, 2],
     [0, 0, 0, 6, 7, 7, 0, 0, 0, 0],

@@ -1,6 +1,6 @@
 -- What the readers of one located line answer.
 use mathlib.Core.Path.{_≡_, ap, _∙_}
-use mathlib.Core.Bool.{true, false}
+use mathlib.Core.Bool.{Bool, true, false, not, _&&_}
 use mathlib.Core.List.{List, []}
 use Prim.Native.Nat.{ℕ, suc, _+_, _*_, _-_, _^_, _≤_, _<_}
 use native.Mathlib.Omega.{arith}
@@ -13,7 +13,7 @@ use Rattle.meaning.specs.Lists.{empty}
 use Rattle.meaning.specs.Bytes.{value}
 use Rattle.meaning.specs.Columns.{cell, rowOf}
 use Rattle.meaning.specs.Forms.{choiceOf}
-use Rattle.meaning.specs.Tables.{picked, oneIf, choiceOr, packFrom, packedDays}
+use Rattle.meaning.specs.Tables.{picked, oneIf, choiceOr, packFrom, packedDays, kindOf, placed}
 use Rattle.meaning.proofs.Columns.{row-at}
 use Rattle.values.specs.Located.{valueIn, Located}
 
@@ -39,6 +39,16 @@ module _ (none : ℤ) (m : ℕ) (v : List ℕ) where
   pub choice-given : (n : ℕ) (c : Choice) → empty v ≡ false → n ≡ oneIf c → c ≡ choiceOf m v → pos n ≡ choiceOr none m v
   unfolding choiceOr
   choice-given n c e p q = rw (e, ← q) (picked-one c n p)
+
+-- the type of a stop and whether it has a place, by the values under its columns
+module _ (ps l st en : List ℕ) (loc : Located l ps st en) where
+  pub kind-in : (n : ℕ) (c : Choice) → n ≡ oneIf c → c ≡ choiceOf 4 (valueIn l st en 4) → n ≡ kindOf (rowOf ps l)
+  unfolding kindOf
+  kind-in n c e q = rw (in-row ps l st en loc 4, ← q) e
+
+  pub placed-in : (a b : Bool) → a ≡ empty (valueIn l st en 2) → b ≡ empty (valueIn l st en 3) → not (a && b) ≡ placed (rowOf ps l)
+  unfolding placed
+  placed-in a b e q = rw (in-row ps l st en loc 2, in-row ps l st en loc 3, ← e, ← q)
 
 -- the day mark of one day more, Monday lowest
 days-left : (d : ℕ) → 0 < d → d ≤ 7 → 7 - (d - 1) ≡ suc (7 - d)

@@ -7,7 +7,7 @@ ghost use lib.ListN.{length};
 ghost use Rattle.meaning.specs.Bytes.{part};
 ghost use Rattle.meaning.specs.Columns.{rowOf};
 ghost use Rattle.meaning.specs.Forms.{latitudeOf, longitudeOf, timeOf, dateOf, sequenceOf, choiceOf, routeTypeOf, exceptionOf};
-ghost use Rattle.meaning.specs.Tables.{degrees, day, number, seconds, picked, oneIf, orZero, orMinus, packedDays};
+ghost use Rattle.meaning.specs.Tables.{degrees, day, number, seconds, picked, oneIf, orZero, orMinus, packedDays, kindOf, placed};
 ghost use Rattle.forms.specs.Bounds.{ChoiceFits};
 ghost use Rattle.values.specs.Located.{fieldIn, valueIn, Within, Located};
 use columns::Cells;
@@ -140,6 +140,25 @@ pub fn choice_or_minus(l: &[u8], q: Cells, k: usize, m: u8) -> i32
         return -1;
     }
     num::u32_to_i32(chosen(forms::choice_of(v, m)))
+}
+
+// The location_type of a line of stops.txt; empty means 0, and so does a value not of its form.
+pub fn location_type(l: &[u8], q: Cells) -> u32
+    requires { ⌜ Within (length (now l)) (q .start) (q .end) ⌝ }
+    ensures { λ r. ⌜ ((ps : List ℕ) → Located (now (l .entry)) ps (q .start) (q .end) → r ≡ kindOf (rowOf ps (now (l .entry)))) ⌝ }
+{
+    chosen(forms::choice_of(raw(l, q, 4), 4))
+}
+
+// Has a line of stops.txt a place: is one of its coordinates there?
+pub fn has_place(l: &[u8], q: Cells) -> bool
+    requires { ⌜ Within (length (now l)) (q .start) (q .end) ⌝ }
+    ensures { λ r. ⌜ ((ps : List ℕ) → Located (now (l .entry)) ps (q .start) (q .end) → r ≡ placed (rowOf ps (now (l .entry)))) ⌝ }
+{
+    if text::is_empty_value(raw(l, q, 2)) {
+        return !text::is_empty_value(raw(l, q, 3));
+    }
+    true
 }
 
 // The seven day marks packed in one number with Monday lowest.

@@ -12,10 +12,10 @@ use Rattle.reading.proofs.row_fault.Statement.{statement}
 use Rattle.reading.proofs.row_fault.Tie as tie
 
 abbrev Inv-loop : tie.InvT-loop
-Inv-loop f l at start end m fault₀ k₀ fault k = (k ≤ m) × (fault ≡ first (valueTestsTo f at l k))
+Inv-loop f l at slack start end m fault₀ k₀ fault k = (k ≤ m) × (fault ≡ first (valueTestsTo slack f at l k))
 
 abbrev μ-loop : tie.MeasureT-loop
-μ-loop f l at start end m fault₀ k₀ fault k = m - k
+μ-loop f l at slack start end m fault₀ k₀ fault k = m - k
 
 locate-requires : tie.Need-locate-requires Inv-loop μ-loop
 locate-requires c κs = search needs
