@@ -4,13 +4,13 @@ use mathlib.Core.Bool.{Bool, true, false, cond, not, _&&_}
 use mathlib.Core.List.{List, []}
 use Prim.Native.Nat.{ℕ, zero, suc, _+_, _≤_, _<_}
 use native.Mathlib.Omega.{arith}
-use lib.Dec.{ltb}
+use lib.Dec.{ltb, eqb}
 use lib.ListN.{length, getD, List·getD-eq-default}
 use borrow.Author.Tests.{eq-eqb, ne-eqb, lt-ltb, le-ltb}
 use Rattle.meaning.specs.declared.Column.{Column}
 use Rattle.meaning.specs.Lists.{empty, least}
 use Rattle.meaning.specs.Bytes.{good, fields}
-use Rattle.meaning.specs.Columns.{columnOf, countOf, cell, rowOf}
+use Rattle.meaning.specs.Columns.{Row, columnOf, countOf, cell, rowOf}
 use Rattle.meaning.specs.Forms.{shapes, shape}
 use Rattle.meaning.specs.Tables.{kindOf, inner, placed}
 use Rattle.meaning.specs.Refusals.{rule6, rule7, rule10, rule11, rule12, rule13, slack, long, blank, formless, leftmost, valueTests, lineTests}
@@ -42,6 +42,24 @@ module _ (c : Column) (v : List ℕ) (n : ℕ) (e : n ≡ length v) where
   pub formless-full : (n ≡ 0 → ⊥) → (t u : Bool) → t ≡ shape (c .form) v → t ≡ u → formless c v ≡ not u
   unfolding formless empty
   formless-full z t u p q = rw (← e, ne-eqb n 0 z, ← p, q)
+
+-- what a line may leave open: nothing in another file, nothing on a line of another type, and else by whether it has a place
+module _ (f : ℕ) (r : Row) where
+  pub other-file : (f ≡ 1 → ⊥) → 0 ≡ slack f r
+  unfolding slack
+  other-file h = rw (ne-eqb f 1 h)
+
+  pub other-type : (n : ℕ) → n ≡ kindOf r → n ≤ 2 → 0 ≡ slack f r
+  unfolding slack inner
+  other-type n e h = rw (← e, le-ltb 2 n h) (go (eqb f 1))
+    where
+      go : (b : Bool) → _≡_ {A = ℕ} 0 (cond (b && false) (cond (placed r) 1 2) 0)
+      go true = refl
+      go false = refl
+
+  pub by-place : (n : ℕ) → f ≡ 1 → n ≡ kindOf r → 2 < n → (b : Bool) → b ≡ placed r → cond b 1 2 ≡ slack f r
+  unfolding slack inner
+  by-place n z e h b q = rw (← e, ← q, eq-eqb f 1 z, lt-ltb 2 n h)
 
 -- rules 6, 7 and 10 by what a walk along the line told
 module _ (l : List ℕ) where

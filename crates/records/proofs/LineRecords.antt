@@ -1,21 +1,21 @@
 -- The record of a line from its located fields.
 use mathlib.Core.Path.{_≡_, sym, ap, _∙_}
+use mathlib.Core.Bool.{cond}
 use mathlib.Core.List.{List, [], _∷_, _++_, append-assoc}
 use Prim.Native.Nat.{ℕ, suc, _+_, _*_, _≤_, _<_}
 use native.Mathlib.Omega.{arith}
 use lib.IntN.{ℤ, pos}
-use lib.ListN.{length, getD, take, drop, length-append, List·getD-map}
+use lib.ListN.{length, getD, take, drop, length-append}
 use lib.Seq.{drop-cons}
-use Rattle.meaning.specs.Columns.{fieldAt, rowOf}
+use Rattle.meaning.specs.Columns.{rowOf}
 use Rattle.meaning.specs.Forms.{latitudeOf, longitudeOf, timeOf, dateOf, sequenceOf, routeTypeOf, exceptionOf}
-use Rattle.meaning.specs.Tables.{Feed, degrees, day, number, seconds, picked, orZero, orMinus, refer, packedDays, stopIds, routeIds, serviceIds, tripIds, datedIds, idPlace, idColumn, parentStation, tripService, recordOf, numbersOf, stopNumbers, routeNumbers, serviceNumbers, tripNumbers, exceptionNumbers}
+use Rattle.meaning.specs.Tables.{Feed, degrees, day, number, seconds, picked, orZero, orMinus, refer, packedDays, stopIds, routeIds, serviceIds, tripIds, datedIds, idPlace, idColumn, parentStation, tripService, placed, recordOf, numbersOf, stopNumbers, routeNumbers, serviceNumbers, tripNumbers, exceptionNumbers}
 use Rattle.meaning.specs.Refusals.{maxBytes}
 use Rattle.rows.specs.Cells.{putAt}
 use Rattle.rows.specs.Waiting.{packed}
 use Rattle.columns.specs.Columns.{startsOf, endsOf}
-use Rattle.columns.proofs.Laws.{located-inside}
-use Rattle.values.specs.Located.{valueIn, Located, Within}
-use Rattle.values.proofs.Readings.{in-row}
+use Rattle.values.specs.Located.{valueIn, Located}
+use Rattle.values.proofs.Readings.{in-row, within}
 use Rattle.records.specs.Line.{line, Lies}
 use Rattle.records.specs.Waiting.{markOf, waitingOf}
 
@@ -46,19 +46,18 @@ module _ (ps l : List ℕ) (at : ℕ) (st en : List ℕ) (loc : Located l ps st 
   id-in k a e p q = rw (← loc k, p, q)
 
   pub stop-record :
-      (w : Feed) (t : List ℤ) (r a e kind : ℕ) (lat lon : ℤ)
-      → r * 6 + 6 ≤ length t
-      → getD t (r * 6 + 5) (pos 0) ≡ pos (refer (parentStation (rowOf ps l)) (stopIds w))
+      (w : Feed) (a e kind mark : ℕ) (lat lon parent : ℤ)
+      → parent ≡ pos (refer (parentStation (rowOf ps l)) (stopIds w))
       → a ≡ at + getD st 0 0
       → e ≡ at + getD en 0 0
       → lat ≡ degrees (latitudeOf (valueIn l st en 2))
       → lon ≡ degrees (longitudeOf (valueIn l st en 3))
-      → pos kind ≡ orZero 2 (valueIn l st en 4)
-      → putAt t (r * 6) (pos a ∷ pos e ∷ lat ∷ lon ∷ pos kind ∷ []) ≡ putAt t (r * 6) (recordOf 1 w ps (line at l))
+      → pos kind ≡ orZero 4 (valueIn l st en 4)
+      → mark ≡ cond (placed (rowOf ps l)) 1 0
+      → pos a ∷ pos e ∷ lat ∷ lon ∷ pos kind ∷ parent ∷ pos mark ∷ [] ≡ recordOf 1 w ps (line at l)
   unfolding recordOf idColumn numbersOf stopNumbers
-  stop-record w t r a e kind lat lon room parent p q x y z =
-      put-last t (r * 6) (pos a ∷ pos e ∷ lat ∷ lon ∷ pos kind ∷ []) (pos (refer (parentStation (rowOf ps l)) (stopIds w))) (omega arith) parent
-      ∙ rw (id-in 0 a e p q, in-row ps l st en loc 2, in-row ps l st en loc 3, in-row ps l st en loc 4, ← x, ← y, ← z)
+  stop-record w a e kind mark lat lon parent g p q x y z m =
+      rw (id-in 0 a e p q, in-row ps l st en loc 2, in-row ps l st en loc 3, in-row ps l st en loc 4, g, ← x, ← y, ← z, ← m)
 
   pub route-record :
       (w : Feed) (a e kind : ℕ)
@@ -125,17 +124,6 @@ module _ (ps l : List ℕ) (at : ℕ) (st en : List ℕ) (loc : Located l ps st 
   waiting-record w trip stop sequence pickup dropOff a e arrival departure p q r x y u v g h =
       rw (id-in 0 a e g h, in-row ps l st en loc 0, in-row ps l st en loc 1, in-row ps l st en loc 2, in-row ps l st en loc 3, in-row ps l st en loc 4, in-row ps l st en loc 5, in-row ps l st en loc 6, in-row ps l st en loc 7, p, q, ← r, x, y, ← u, ← v)
 
--- the fields that `locate` gives under columns
-module _ (l cs st en : List ℕ) (starts : st ≡ startsOf l cs) (ends : en ≡ endsOf l cs) where
-  pub located : (ps : List ℕ) → ((k : ℕ) → getD cs k 0 ≡ getD ps k 0) → Located l ps st en
-  unfolding startsOf endsOf fieldAt
-  located ps e k =
-      let a : getD (startsOf l cs) k 0 ≡ fieldAt l (getD cs k 0) .start = List·getD-map (λ p. fieldAt l p .start) cs k 0 in
-      let b : getD (endsOf l cs) k 0 ≡ fieldAt l (getD cs k 0) .end = List·getD-map (λ p. fieldAt l p .end) cs k 0 in
-      rw (starts, ends, a, b, e k)
-
-  pub within : Within (length l) st en
-  within k = located-inside l cs st en starts ends k
-
-  pub lies : (at : ℕ) → at + length l ≤ maxBytes → Lies l at st en
-  lies at h = (within, h)
+-- the fields that `locate` gives lie in the file
+pub lies : (l cs st en : List ℕ) → st ≡ startsOf l cs → en ≡ endsOf l cs → (at : ℕ) → at + length l ≤ maxBytes → Lies l at st en
+lies l cs st en starts ends at h = (within l cs st en starts ends, h)

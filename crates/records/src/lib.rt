@@ -47,16 +47,17 @@ pub fn field_place(l: &[u8], at: usize, q: Cells, k: usize) -> Bounds
 
 // A stop, whose parent is settled.
 fn put_stop(l: &[u8], at: usize, q: Cells, t: &mut [i32], row: StopRow)
-    requires { ⌜ Lies (now l) at (q .start) (q .end) × (row .0 * 6 + 6 ≤ length (now t)) ⌝ }
+    requires { ⌜ Lies (now l) at (q .start) (q .end) × (row .0 * 7 + 7 ≤ length (now t)) ⌝ }
     ensures { λ _. ⌜ ((w : Feed) (ps : List ℕ) → Located (now (l .entry)) ps (q .start) (q .end)
-        → getD (now (t .entry)) (row .0 * 6 + 5) (pos 0) ≡ pos (refer (parentStation (rowOf ps (now (l .entry)))) (stopIds w))
-        → now (t .exit) ≡ putAt (now (t .entry)) (row .0 * 6) (recordOf 1 w ps (line at (now (l .entry))))) ⌝ }
+        → getD (now (t .entry)) (row .0 * 7 + 6) (pos 0) ≡ pos (refer (parentStation (rowOf ps (now (l .entry)))) (stopIds w))
+        → now (t .exit) ≡ putAt (now (t .entry)) (row .0 * 7) (recordOf 1 w ps (line at (now (l .entry))))) ⌝ }
 {
     let id = field_place(l, at, q, 0);
     let latitude = values::latitude(l, q, 2);
     let longitude = values::longitude(l, q, 3);
-    let kind = values::choice_or_zero(l, q, 4, 2);
-    Stops::put(t, row, id, latitude, longitude, kind);
+    let kind = values::choice_or_zero(l, q, 4, 4);
+    let placed = values::place_mark(l, q);
+    Stops::put(t, row, id, latitude, longitude, kind, placed);
 }
 
 // A route.
@@ -135,11 +136,11 @@ fn put_time(
 )
     requires { ⌜ Lies (now l) at (q .start) (q .end) × (row .0 * 8 + 8 ≤ length (now t)) ⌝ }
     requires { ⌜ («a_count» ≤ maxBytes) × («b_count» ≤ maxBytes) ⌝ }
-    requires { ⌜ Ready (now a) (now «a_table») 8 «a_count» (now «a_memo») × Ready (now b) (now «b_table») 6 «b_count» (now «b_memo») ⌝ }
+    requires { ⌜ Ready (now a) (now «a_table») 8 «a_count» (now «a_memo») × Ready (now b) (now «b_table») 7 «b_count» (now «b_memo») ⌝ }
     ensures { λ _. ⌜ ((w : Feed) (ps : List ℕ) → Located (now (l .entry)) ps (q .start) (q .end)
-        → Lists (now (a .entry)) (now («a_table» .entry)) 8 «a_count» (tripIds w) → Lists (now (b .entry)) (now («b_table» .entry)) 6 «b_count» (stopIds w)
+        → Lists (now (a .entry)) (now («a_table» .entry)) 8 «a_count» (tripIds w) → Lists (now (b .entry)) (now («b_table» .entry)) 7 «b_count» (stopIds w)
         → now (t .exit) ≡ putAt (now (t .entry)) (row .0 * 8) (waitingOf w ps (line at (now (l .entry))))) ⌝ }
-    ensures { λ _. ⌜ Ready (now (a .entry)) (now («a_table» .entry)) 8 «a_count» (now («a_memo» .exit)) × Ready (now (b .entry)) (now («b_table» .entry)) 6 «b_count» (now («b_memo» .exit)) ⌝ }
+    ensures { λ _. ⌜ Ready (now (a .entry)) (now («a_table» .entry)) 8 «a_count» (now («a_memo» .exit)) × Ready (now (b .entry)) (now («b_table» .entry)) 7 «b_count» (now («b_memo» .exit)) ⌝ }
 {
     let trip = resolve::find_trip(a, a_table, a_count, values::raw(l, q, 0), a_memo);
     let stop = resolve::find_stop(b, b_table, b_count, values::raw(l, q, 3), b_memo);

@@ -1,21 +1,23 @@
 -- What the readers of one located line answer.
-use mathlib.Core.Path.{_≡_, ap, _∙_}
+use mathlib.Core.Path.{_≡_, refl, ap, _∙_}
 use mathlib.Core.Bool.{Bool, true, false, not, _&&_}
 use mathlib.Core.List.{List, []}
 use Prim.Native.Nat.{ℕ, suc, _+_, _*_, _-_, _^_, _≤_, _<_}
 use native.Mathlib.Omega.{arith}
 use native.Mathlib.Nat.{pow-le-pow-right, pow-succ', zero-lt-suc}
-use lib.ListN.{getD}
+use lib.ListN.{length, getD, List·getD-map}
 use lib.IntN.{ℤ, pos}
 use Rattle.meaning.specs.declared.Choice.{Choice}
 use Rattle.meaning.specs.declared.Choice.the-variants.{Picked, NoChoice}
 use Rattle.meaning.specs.Lists.{empty}
 use Rattle.meaning.specs.Bytes.{value}
-use Rattle.meaning.specs.Columns.{cell, rowOf}
+use Rattle.meaning.specs.Columns.{fieldAt, cell, rowOf}
 use Rattle.meaning.specs.Forms.{choiceOf}
 use Rattle.meaning.specs.Tables.{picked, oneIf, choiceOr, packFrom, packedDays, kindOf, placed}
 use Rattle.meaning.proofs.Columns.{row-at}
-use Rattle.values.specs.Located.{valueIn, Located}
+use Rattle.columns.specs.Columns.{startsOf, endsOf}
+use Rattle.columns.proofs.Laws.{located-inside}
+use Rattle.values.specs.Located.{valueIn, Within, Located}
 
 -- the value under a column is the row's
 pub in-row :
@@ -83,3 +85,18 @@ pack-first ps l d e = rw e
 pub pack-last : (ps l : List ℕ) (n d : ℕ) → d ≤ 0 → n ≡ packFrom d (7 - d) (rowOf ps l) → n ≡ packedDays (rowOf ps l)
 unfolding packedDays
 pack-last ps l n d h e = let z : d ≡ 0 = omega arith in rw z at e
+
+-- the fields that `locate` gives under columns
+module _ (l cs st en : List ℕ) (starts : st ≡ startsOf l cs) (ends : en ≡ endsOf l cs) where
+  pub located : (ps : List ℕ) → ((k : ℕ) → getD cs k 0 ≡ getD ps k 0) → Located l ps st en
+  unfolding startsOf endsOf fieldAt
+  located ps e k =
+      let a : getD (startsOf l cs) k 0 ≡ fieldAt l (getD cs k 0) .start = List·getD-map (λ p. fieldAt l p .start) cs k 0 in
+      let b : getD (endsOf l cs) k 0 ≡ fieldAt l (getD cs k 0) .end = List·getD-map (λ p. fieldAt l p .end) cs k 0 in
+      rw (starts, ends, a, b, e k)
+
+  pub located-there : Located l cs st en
+  located-there = located cs (λ k. refl)
+
+  pub within : Within (length l) st en
+  within k = located-inside l cs st en starts ends k

@@ -1,5 +1,6 @@
 // The numbers that the fields of one located line say.
 ghost use mathlib.Core.Path.{_≡_};
+ghost use mathlib.Core.Bool.{cond};
 ghost use mathlib.Core.List.{List};
 ghost use Prim.Native.Nat.{ℕ, _^_, _<_, _≤_};
 ghost use lib.IntN.{pos};
@@ -159,6 +160,17 @@ pub fn has_place(l: &[u8], q: Cells) -> bool
         return !text::is_empty_value(raw(l, q, 3));
     }
     true
+}
+
+// The mark of a place: 1 with one, 0 without.
+pub fn place_mark(l: &[u8], q: Cells) -> u32
+    requires { ⌜ Within (length (now l)) (q .start) (q .end) ⌝ }
+    ensures { λ r. ⌜ (((ps : List ℕ) → Located (now (l .entry)) ps (q .start) (q .end) → r ≡ cond (placed (rowOf ps (now (l .entry)))) 1 0)) × (r < 2 ^ 31) ⌝ }
+{
+    if has_place(l, q) {
+        return 1;
+    }
+    0
 }
 
 // The seven day marks packed in one number with Monday lowest.

@@ -23,6 +23,9 @@ is-route-type-requires c κs = search needs
 is-exception-requires : tie.Need-is-exception-requires
 is-exception-requires c κs = search needs
 
+is-choice-requires-4 : tie.Need-is-choice-requires-4
+is-choice-requires-4 c κs = search needs
+
 returns : tie.Need-returns
 unfolding shape shapes
 returns c = rw (c .before .match .keys1) (c .is-sequence .ensures)
@@ -48,11 +51,15 @@ unfolding shape shapes
 returns-6 c = rw (c .before .match .keys6) (c .is-exception .ensures)
 
 returns-7 : tie.Need-returns-7
-returns-7 c =
+unfolding shape shapes
+returns-7 c = rw (c .before .match .keys7) (c .is-choice4 .ensures)
+
+returns-8 : tie.Need-returns-8
+returns-8 c =
     let r = c .match .rest in
     let n = c .before .before .args .form in
-    let h = past n 7 (past n 6 (past n 5 (c .before .before .pre) (r .0 .0 .0 .0 .0 .1)) (r .0 .0 .0 .0 .1)) (r .0 .0 .0 .1) in
-    no-form _ _ (past n 10 (past n 9 (past n 8 h (r .0 .0 .1)) (r .0 .1)) (r .1))
+    let h = past n 7 (past n 6 (past n 5 (c .before .before .pre) (r .0 .0 .0 .0 .0 .0 .1)) (r .0 .0 .0 .0 .0 .1)) (r .0 .0 .0 .0 .1) in
+    no-form _ _ (past n 11 (past n 10 (past n 9 (past n 8 h (r .0 .0 .0 .1)) (r .0 .0 .1)) (r .0 .1)) (r .1))
 
 pub is-of-late-form-spec : {M : Type 1} → statement M
 is-of-late-form-spec =
@@ -64,10 +71,12 @@ is-of-late-form-spec =
     is-choice-requires-3
     is-route-type-requires
     is-exception-requires
+    is-choice-requires-4
     returns
     returns-2
     returns-3
     returns-4
     returns-5
     returns-6
-    returns-7)
+    returns-7
+    returns-8)

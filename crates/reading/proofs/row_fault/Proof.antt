@@ -1,6 +1,7 @@
 -- `reading::row_fault` meets its contract.
 use Rattle.reading.proofs.First.{row-end, row-kept, row-none, row-turn}
 use Rattle.columns.proofs.Laws.{located-inside, located-cell}
+use Rattle.values.proofs.Readings.{located-there, within}
 use Rattle.reading.specs.Tests.{first, valueTestsTo}
 use Rattle.meaning.specs.Bytes.{part}
 use mathlib.Core.Logic.{⊎-elim}
@@ -20,11 +21,14 @@ abbrev μ-loop : tie.MeasureT-loop
 locate-requires : tie.Need-locate-requires Inv-loop μ-loop
 locate-requires c κs = search needs
 
+slack-of-requires : tie.Need-slack-of-requires Inv-loop μ-loop
+slack-of-requires c κs = let g = c .locate .ensures in within _ _ _ _ (g .0) (g .1)
+
 count-requires : tie.Need-count-requires Inv-loop μ-loop
 count-requires c κs = search needs
 
 loop-holds : tie.Need-loop-holds Inv-loop μ-loop
-loop-holds c = (omega arith, row-none _ _ _)
+loop-holds c = (omega arith, row-none _ _ _ _)
 
 mul-a : tie.Need-mul-a Inv-loop μ-loop
 mul-a c = omega arith
@@ -49,17 +53,17 @@ array-read-value-fault c = omega arith
 
 sub-value-fault : tie.Need-sub-value-fault Inv-loop μ-loop
 sub-value-fault c =
-    let g = c .before .before .before .before .before .before .locate .ensures in
+    let g = c .before .before .before .before .before .before .before .locate .ensures in
     located-inside _ _ _ _ (g .0) (g .1) (c .before .before .loop .k) .0
 
 part-value-fault-start : tie.Need-part-value-fault-start Inv-loop μ-loop
 part-value-fault-start c =
-    let g = c .before .before .before .before .before .before .locate .ensures in
+    let g = c .before .before .before .before .before .before .before .locate .ensures in
     located-inside _ _ _ _ (g .0) (g .1) (c .before .before .loop .k) .0
 
 part-value-fault-end : tie.Need-part-value-fault-end Inv-loop μ-loop
 part-value-fault-end c =
-    let g = c .before .before .before .before .before .before .locate .ensures in
+    let g = c .before .before .before .before .before .before .before .locate .ensures in
     located-inside _ _ _ _ (g .0) (g .1) (c .before .before .loop .k) .1
 
 value-fault-requires : tie.Need-value-fault-requires Inv-loop μ-loop
@@ -80,15 +84,18 @@ loop-again c =
     let v = c .before .before in
     let b = v .before .before in
     let i = b .before .before .loop in
-    let g = b .before .before .before .before .before .before .locate .ensures in
+    let g = b .before .before .before .before .before .before .before .locate .ensures in
     let cell = located-cell _ _ _ _ (g .0) (g .1) (i .k) in
     ⊎-elim
-    (λ w. (omega arith, rw (w .2) (row-turn _ _ _ _ _ _ _ (i .inv .1) _ (b .known .ensures) _ cell (v .value-fault .ensures) (w .1 .ensures))))
-    (λ w. (omega arith, rw (w .1) (row-kept _ _ _ _ _ _ (i .inv .1) _ (b .known .ensures) _ cell (v .value-fault .ensures) (w .0 .left))))
+    (λ w. (omega arith, rw (w .2) (row-turn _ _ _ _ _ _ _ _ (i .inv .1) _ (b .known .ensures) _ cell (v .value-fault .ensures) (w .1 .ensures))))
+    (λ w. (omega arith, rw (w .1) (row-kept _ _ _ _ _ _ _ (i .inv .1) _ (b .known .ensures) _ cell (v .value-fault .ensures) (w .0 .left))))
     (c .if1 .came)
 
 returns : tie.Need-returns Inv-loop μ-loop
-returns c = row-end _ _ _ _ _ (c .before .loop .inv .1) (omega arith)
+returns c =
+    let b = c .before .before .before .before .before in
+    let g = b .before .locate .ensures in
+    row-end _ _ _ _ _ _ (c .before .loop .inv .1) (omega arith) (b .slack-of .ensures _ (located-there _ _ _ _ (g .0) (g .1)))
 
 pub row-fault-spec : {M : Type 1} → statement M
 row-fault-spec =
@@ -97,6 +104,7 @@ row-fault-spec =
     Inv-loop
     μ-loop
     locate-requires
+    slack-of-requires
     count-requires
     loop-holds
     mul-a

@@ -1,7 +1,8 @@
 -- `records::put_record` meets its contract.
 use Rattle.meaning.specs.Tables.{widths, widthOf}
 use Rattle.records.specs.Waiting.{waits, waitingColumn, soughtIds, namedOf, writtenOf}
-use Rattle.records.proofs.LineRecords.{located, lies}
+use Rattle.values.proofs.Readings.{located}
+use Rattle.records.proofs.LineRecords.{lies}
 use Rattle.records.proofs.Readings.{file-room, file-put, file-named, fifth}
 use Rattle.records.proofs.References.{sought-trips, sought-times}
 use Rattle.meaning.specs.Columns.{rowOf}

@@ -1,5 +1,6 @@
 -- `tables::placing::place_line` meets its contract.
-use Rattle.records.proofs.LineRecords.{located, lies, within}
+use Rattle.values.proofs.Readings.{located, within}
+use Rattle.records.proofs.LineRecords.{lies}
 use Prim.Native.Nat.{_-_}
 use native.Mathlib.Omega.{arith}
 use borrow.Author.Needs.{needs}
