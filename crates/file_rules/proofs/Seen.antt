@@ -22,13 +22,13 @@ use Rattle.judging.proofs.Judged.{twice-not, stop-judged, route-judged, service
 use Rattle.file_rules.specs.Lines.{ruleNumbers, ruleCount, Judges, Ready}
 
 -- the kind of a stop that a reference resolves to
-kind-referred : (w : Feed) (s : List ℕ) (t : List ℤ) (v : List ℕ) (k kind : ℕ) → Filled 1 w (w .stops) s t → k ≡ refer v (stopIds w) → kind ≡ natAt t (k * 6 + 4) → KindAt w k kind
+kind-referred : (w : Feed) (s : List ℕ) (t : List ℤ) (v : List ℕ) (k kind : ℕ) → Filled 1 w (w .stops) s t → k ≡ refer v (stopIds w) → kind ≡ natAt t (k * 7 + 4) → KindAt w k kind
 unfolding stopIds
 kind-referred w s t v k kind h e g z =
     let n = named v (stopIds w) (λ y. z (e ∙ y)) in
     let one : k - 1 + 1 ≡ k = omega arith in
     let inside : k - 1 < length (w .stops) = omega (arith, n .is, n .within, length-map (w .stops) (under 0)) in
-    g ∙ ap (λ j. natAt t (j * 6 + 4)) (sym one) ∙ stop-kind w s t (k - 1) h inside
+    g ∙ ap (λ j. natAt t (j * 7 + 4)) (sym one) ∙ stop-kind w s t (k - 1) h inside
 
 module _ {w : Feed} {n : ℕ} {t stops : List ℤ} {marks : List ℕ} {i : ℕ} where
   pub stop-line-is :
@@ -37,9 +37,9 @@ module _ {w : Feed} {n : ℕ} {t stops : List ℤ} {marks : List ℕ} {i : ℕ} 
       → {repeats parented : Bool} {parent kind parentKind : ℕ} {r : List Bool}
       → repeats ≡ marked marks 1 (i + 1)
       → parented ≡ marked marks parentMark (i + 1)
-      → parent ≡ natAt t ((i + 1) * 6 + 5)
-      → kind ≡ natAt t ((i + 1) * 6 + 4)
-      → parentKind ≡ natAt t (parent * 6 + 4)
+      → parent ≡ natAt t ((i + 1) * 7 + 5)
+      → kind ≡ natAt t ((i + 1) * 7 + 4)
+      → parentKind ≡ natAt t (parent * 7 + 4)
       → r ≡ stopJudged repeats (not parented) parent kind parentKind
       → Judges 1 w i r
   unfolding ruleNumbers ruleCount rowsIn recordCount idsIn rulesOf
@@ -122,7 +122,7 @@ module _ {w : Feed} {n : ℕ} {t stops : List ℤ} {marks : List ℕ} {i : ℕ} 
       → {trip stop stopKind : ℕ} {arrival departure : Time} {point : ℕ} {equal falling : Bool} {r : List Bool}
       → trip ≡ natAt t ((i + 1) * 8)
       → stop ≡ natAt t ((i + 1) * 8 + 1)
-      → stopKind ≡ natAt stops (stop * 6 + 4)
+      → stopKind ≡ natAt stops (stop * 7 + 4)
       → arrival ≡ timeAt t ((i + 1) * 8 + 3)
       → departure ≡ timeAt t ((i + 1) * 8 + 4)
       → point ≡ natAt t ((i + 1) * 8 + 7)

@@ -46,11 +46,11 @@ module _ (f : ℕ) (low : 1 ≤ f) (high : f ≤ 6) (w : Feed) (rows : List Row)
 -- what a reader makes of number j after the place of an id, for a file whose width and numbers are known
 module _ (w : Feed) (s : List ℕ) (t : List ℤ) (i : ℕ) where
   module _ (h : Filled 1 w (w .stops) s t) (inside : i < length (w .stops)) where
-    pub stop-kind : natAt t ((i + 1) * 6 + 4) ≡ natOf (orZero 2 (locationType (row (w .stops) i)))
+    pub stop-kind : natAt t ((i + 1) * 7 + 4) ≡ natOf (orZero 4 (locationType (row (w .stops) i)))
     unfolding widthOf widths numbersOf stopNumbers
     stop-kind = ap natOf (after-id 1 (omega arith) (omega arith) w (w .stops) s t h i inside (λ z. omega arith) 2 (omega arith))
 
-    pub stop-parent : natAt t ((i + 1) * 6 + 5) ≡ refer (parentStation (row (w .stops) i)) (stopIds w)
+    pub stop-parent : natAt t ((i + 1) * 7 + 5) ≡ refer (parentStation (row (w .stops) i)) (stopIds w)
     unfolding widthOf widths numbersOf stopNumbers
     stop-parent = ap natOf (after-id 1 (omega arith) (omega arith) w (w .stops) s t h i inside (λ z. omega arith) 3 (omega arith))
 

@@ -10,8 +10,8 @@ use Rattle.num.specs.Signs.{natOf}
 use Rattle.meaning.specs.declared.Time.{Time}
 use Rattle.meaning.specs.Columns.{Row}
 use Rattle.meaning.specs.Forms.{timeOf, dateOf}
-use Rattle.meaning.specs.Tables.{Feed, stopIds, refer, parentStation, startDate, endDate, tripId, arrivalTime, departureTime, timeStop, timepoint, orMinus}
-use Rattle.meaning.specs.Rules.{row, dangling, rule21·stops, inNeither, rule21·trips, rule21·times, kindOf, otherKind, rule22, rule23, rule24, given, secondsOf, timed, untimed, arrives, departs, rule26, rule27, ofTripLine, firstOfTrip, rule30, openEnded, rule31, stopRules, routeRules, serviceRules, tripRules, timeRules, dateRules}
+use Rattle.meaning.specs.Tables.{Feed, stopIds, refer, parentStation, startDate, endDate, tripId, arrivalTime, departureTime, timeStop, timepoint, orMinus, kindOf}
+use Rattle.meaning.specs.Rules.{row, dangling, rule21·stops, inNeither, rule21·trips, rule21·times, otherKind, parentKind, rule22, rule23, rule24, given, secondsOf, timed, untimed, arrives, departs, rule26, rule27, ofTripLine, firstOfTrip, rule30, openEnded, rule31, stopRules, routeRules, serviceRules, tripRules, timeRules, dateRules}
 use Rattle.meaning.proofs.References.{dangling-refer}
 use Rattle.judging.specs.Judging.{loose, offKind, bothGiven, halfTimed, sooner, stopJudged, routeJudged, serviceJudged, tripJudged, timeJudged, dateJudged, testsFrom}
 use Rattle.judging.proofs.Stored.{kind-number, one-number}
@@ -83,18 +83,18 @@ module _ (w : Feed) (i : ℕ) (arrival departure : Time) (a : IsTime (arrivalTim
 
 module _ {w : Feed} {i : ℕ} where
   pub stop-judged :
-      {repeats none : Bool} {parent kind parentKind : ℕ}
-      → StopSeen w i repeats none parent kind parentKind
-      → stopRules w i ≡ testsFrom (20 ∷ 21 ∷ 22 ∷ 0 ∷ 0 ∷ 0 ∷ []) (stopJudged repeats none parent kind parentKind) 3
+      {repeats none : Bool} {parent kind has : ℕ}
+      → StopSeen w i repeats none parent kind has
+      → stopRules w i ≡ testsFrom (20 ∷ 21 ∷ 22 ∷ 0 ∷ 0 ∷ 0 ∷ []) (stopJudged repeats none parent kind has) 3
   unfolding stopRules testsFrom stopJudged rule21·stops rule22
-  stop-judged {repeats} {none} {parent} {kind} {parentKind} s =
+  stop-judged {repeats} {none} {parent} {kind} {has} s =
       let v = parentStation (row (w .stops) i) in
       let e : kindOf (row (w .stops) i) ≡ kind = sym (s .kinds ∙ kind-number (row (w .stops) i)) in
       rw (
         ← s .again,
         loose-is (s .parents),
-        off-kind-is w 1 v parent parentKind (s .parents .resolves) (s .parent-kinds),
         e,
+        off-kind-is w (parentKind kind) v parent has (s .parents .resolves) (s .parent-kinds),
         ← s .parents .bare,
       )
 

@@ -20,7 +20,7 @@ pub record Refers (v : List ℕ) (ids : List (List ℕ)) (none : Bool) (k : ℕ)
 
 -- the kind of the stop on record k, where there is one
 abbrev pub KindAt : Feed → ℕ → ℕ → Type 0
-KindAt w k kind = (k ≡ 0 → ⊥) → kind ≡ natOf (orZero 2 (locationType (row (w .stops) (k - 1))))
+KindAt w k kind = (k ≡ 0 → ⊥) → kind ≡ natOf (orZero 4 (locationType (row (w .stops) (k - 1))))
 
 -- a stored time
 abbrev pub IsTime : List ℕ → Time → Type 0
@@ -29,7 +29,7 @@ IsTime v t = t ≡ timeIn (seconds (timeOf v))
 pub record StopSeen (w : Feed) (i : ℕ) (repeats none : Bool) (parent kind parentKind : ℕ) : Type 0 where
   pub again : repeats ≡ rule20 (stopIds w) i
   pub parents : Refers (parentStation (row (w .stops) i)) (stopIds w) none parent
-  pub kinds : kind ≡ natOf (orZero 2 (locationType (row (w .stops) i)))
+  pub kinds : kind ≡ natOf (orZero 4 (locationType (row (w .stops) i)))
   pub parent-kinds : KindAt w parent parentKind
 
 pub record RouteSeen (w : Feed) (i : ℕ) (repeats nameless : Bool) : Type 0 where

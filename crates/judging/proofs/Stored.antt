@@ -13,8 +13,8 @@ use Rattle.meaning.specs.declared.Choice.the-variants.{Picked, NoChoice}
 use Rattle.meaning.specs.Lists.{empty}
 use Rattle.meaning.specs.Columns.{Row}
 use Rattle.meaning.specs.Forms.{noMark, formed, digitText, choiceOf}
-use Rattle.meaning.specs.Tables.{locationType, picked, choiceOr, orZero, orMinus, oneIf}
-use Rattle.meaning.specs.Rules.{kindOf, isOne}
+use Rattle.meaning.specs.Tables.{locationType, picked, choiceOr, orZero, orMinus, oneIf, kindOf}
+use Rattle.meaning.specs.Rules.{isOne}
 
 -- ---- choices
 
@@ -50,9 +50,9 @@ choice-number m v = stored _ m v natOf oneIf go refl
     go (Picked n) = refl
     go NoChoice = refl
 
-pub kind-number : (r : Row) → natOf (orZero 2 (locationType r)) ≡ kindOf r
+pub kind-number : (r : Row) → natOf (orZero 4 (locationType r)) ≡ kindOf r
 unfolding kindOf
-kind-number r = choice-number 2 (locationType r)
+kind-number r = choice-number 4 (locationType r)
 
 -- -1, which stands for an empty value, isn't 1
 pub one-number : (m : ℕ) (v : List ℕ) → eqb (natOf (orMinus m v)) 1 ≡ isOne (choiceOf m v)

@@ -6,7 +6,7 @@ use lib.ListN.{getD}
 use lib.Dec.{ltb, eqb}
 use Rattle.meaning.specs.declared.Time.{Time}
 use Rattle.meaning.specs.Refusals.{Test, test}
-use Rattle.meaning.specs.Rules.{given, secondsOf}
+use Rattle.meaning.specs.Rules.{parentKind, given, secondsOf}
 
 -- ---- one rule
 
@@ -18,10 +18,10 @@ loose none k = not none && eqb k 0
 abbrev pub offKind : ℕ → ℕ → ℕ → Bool
 offKind wanted k kind = not (eqb k 0) && not (eqb kind wanted)
 
--- 22: a parent where there is to be none, none where there is to be one, or one that is no station
+-- 22: a parent where there is to be none, none where there is to be one, or one of another type than it must have
 abbrev pub misplaced : Bool → ℕ → ℕ → ℕ → Bool
-misplaced none parent kind parentKind =
-    eqb kind 1 && not none || (eqb kind 2 && none || offKind 1 parent parentKind)
+misplaced none parent kind has =
+    eqb kind 1 && not none || (ltb 1 kind && none || offKind (parentKind kind) parent has)
 
 -- a line has both times
 abbrev pub bothGiven : Time → Time → Bool

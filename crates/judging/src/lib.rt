@@ -1,5 +1,6 @@
 // What the stored numbers of one line, and a few tests of its values, say of each binding rule.
 ghost use mathlib.Core.Path.{_≡_};
+ghost use Rattle.meaning.specs.Rules.{parentKind};
 ghost use Rattle.judging.specs.Judging.{loose, offKind, misplaced, halfTimed, sooner, stopJudged, routeJudged, serviceJudged, tripJudged, timeJudged, dateJudged};
 use meaning::Time;
 use rows::times;
@@ -18,11 +19,22 @@ fn is_off_kind(wanted: usize, at: usize, kind: usize) -> bool
     (at != 0) & (kind != wanted)
 }
 
-// 22: a parent where there is to be none, none where there is to be one, or one that is no station.
+// The type that the parent of a stop must have: 0 for a boarding area, 1 for all others.
+fn wanted_kind(kind: usize) -> usize
+    ensures { λ r. ⌜ r ≡ parentKind kind ⌝ }
+{
+    if kind == 4 {
+        return 0;
+    }
+    1
+}
+
+// 22: a parent where there is to be none, none where there is to be one, or one of another type than it must have.
 fn is_misplaced(none: bool, parent: usize, kind: usize, parent_kind: usize) -> bool
     ensures { λ r. ⌜ r ≡ misplaced none parent kind «parent_kind» ⌝ }
 {
-    (kind == 1) & !none | ((kind == 2) & none | is_off_kind(1, parent, parent_kind))
+    let wanted = wanted_kind(kind);
+    (kind == 1) & !none | ((1 < kind) & none | is_off_kind(wanted, parent, parent_kind))
 }
 
 // 27: the first of two times comes before the second.

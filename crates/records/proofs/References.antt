@@ -35,7 +35,7 @@ module _ (f : ℕ) (a : List ℕ) (at : List ℤ) (an : ℕ) (am b : List ℕ) (
     routes = λ p. ready-blank a at 3 an am (i .routes p .0) (i .routes p .1) x;
     services = λ p. ready-blank b bt 5 bn bm (i .services p .0) (i .services p .1) y;
     trips = λ p. ready-blank a at 8 an am (i .trips p .0) (i .trips p .1) x;
-    stops = λ p. ready-blank b bt 6 bn bm (i .stops p .0) (i .stops p .1) y;
+    stops = λ p. ready-blank b bt 7 bn bm (i .stops p .0) (i .stops p .1) y;
   }
 
   pub sought-trips : f ≡ 4 → Ready a at 3 an am → Ready b bt 5 bn bm → Sought f a at an am b bt bn bm
@@ -46,7 +46,7 @@ module _ (f : ℕ) (a : List ℕ) (at : List ℤ) (an : ℕ) (am b : List ℕ) (
     stops = λ p. absurd (omega arith);
   }
 
-  pub sought-times : f ≡ 5 → Ready a at 8 an am → Ready b bt 6 bn bm → Sought f a at an am b bt bn bm
+  pub sought-times : f ≡ 5 → Ready a at 8 an am → Ready b bt 7 bn bm → Sought f a at an am b bt bn bm
   sought-times e x y = record {
     routes = λ p. absurd (omega arith);
     services = λ p. absurd (omega arith);
@@ -67,7 +67,7 @@ indexed-trips a at an b bt bn x y = record {
 
 pub indexed-times :
     (a : List ℕ) (at : List ℤ) (an : ℕ) (b : List ℕ) (bt : List ℤ) (bn : ℕ)
-    → Placed a at 8 an × Arranged a 8 an at → Placed b bt 6 bn × Arranged b 6 bn bt → Indexed 5 a at an b bt bn
+    → Placed a at 8 an × Arranged a 8 an at → Placed b bt 7 bn × Arranged b 7 bn bt → Indexed 5 a at an b bt bn
 indexed-times a at an b bt bn x y = record {
   routes = λ p. absurd (omega arith);
   services = λ p. absurd (omega arith);
@@ -87,7 +87,7 @@ refers-trips w a at an b bt bn x y = record {
 
 pub refers-times :
     (w : Feed) (a : List ℕ) (at : List ℤ) (an : ℕ) (b : List ℕ) (bt : List ℤ) (bn : ℕ)
-    → Lists a at 8 an (tripIds w) → Lists b bt 6 bn (stopIds w) → Refers 5 w a at an b bt bn
+    → Lists a at 8 an (tripIds w) → Lists b bt 7 bn (stopIds w) → Refers 5 w a at an b bt bn
 refers-times w a at an b bt bn x y = record {
   routes = λ p. absurd (omega arith);
   services = λ p. absurd (omega arith);

@@ -36,10 +36,10 @@ pub fn named_record(
 
 // The stop that a raw field names.
 pub fn find_stop(s: &[u8], t: &[i32], n: usize, raw: &[u8], memo: &mut [u32]) -> StopRow
-    requires { ⌜ Ready (now s) (now t) 6 n (now memo) ⌝ }
-    ensures { λ r. ⌜ First (names (now (s .entry)) (now (t .entry)) 6 (value (now (raw .entry)))) (n + 1) (r .0) ⌝ }
+    requires { ⌜ Ready (now s) (now t) 7 n (now memo) ⌝ }
+    ensures { λ r. ⌜ First (names (now (s .entry)) (now (t .entry)) 7 (value (now (raw .entry)))) (n + 1) (r .0) ⌝ }
     ensures { λ r. ⌜ r .0 ≤ n ⌝ }
-    ensures { λ _. ⌜ Ready (now (s .entry)) (now (t .entry)) 6 n (now (memo .exit)) ⌝ }
+    ensures { λ _. ⌜ Ready (now (s .entry)) (now (t .entry)) 7 n (now (memo .exit)) ⌝ }
 {
     StopRow(named_record(s, t, Stops::WIDTH, n, raw, memo))
 }

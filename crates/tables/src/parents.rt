@@ -15,20 +15,20 @@ use rows::Stops;
 
 // The stop that the field waiting in a stop's record names.
 fn waiting_parent(s: &[u8], t: &[i32], n: usize, row: StopRow, memo: &mut [u32]) -> StopRow
-    requires { ⌜ Ready (now s) (now t) 6 n (now memo) ⌝ }
-    ensures { λ r. ⌜ First (names (now (s .entry)) (now (t .entry)) 6 (value (part (now (s .entry)) (boundsAt (now (t .entry)) (row .0 * 6 + 3))))) (n + 1) (r .0) ⌝ }
+    requires { ⌜ Ready (now s) (now t) 7 n (now memo) ⌝ }
+    ensures { λ r. ⌜ First (names (now (s .entry)) (now (t .entry)) 7 (value (part (now (s .entry)) (boundsAt (now (t .entry)) (row .0 * 7 + 3))))) (n + 1) (r .0) ⌝ }
     ensures { λ r. ⌜ r .0 ≤ n ⌝ }
-    ensures { λ _. ⌜ Ready (now (s .entry)) (now (t .entry)) 6 n (now (memo .exit)) ⌝ }
+    ensures { λ _. ⌜ Ready (now (s .entry)) (now (t .entry)) 7 n (now (memo .exit)) ⌝ }
 {
     let p = Stops::waiting_at(t, row);
     resolve::find_stop(s, t, n, ordering::part_of(s, p.start, p.end), memo)
 }
 
-// Each stop's parent, number 5 of its record, behind a memo.
+// Each stop's parent, number 6 of its record till that is put, behind a memo.
 fn settle_with(s: &[u8], n: usize, t: &mut [i32], memo: &mut [u32])
-    requires { ⌜ Ready (now s) (now t) 6 n (now memo) × (n ≤ maxBytes) ⌝ }
-    ensures { λ _. ⌜ KeptAt 5 6 n (now (t .entry)) (now (t .exit)) ⌝ }
-    ensures { λ _. ⌜ ((ids : List (List ℕ)) → Lists (now (s .entry)) (now (t .entry)) 6 n ids → Named 6 (now (s .entry)) (n + 1) ids (now (t .entry)) (now (t .exit))) ⌝ }
+    requires { ⌜ Ready (now s) (now t) 7 n (now memo) × (n ≤ maxBytes) ⌝ }
+    ensures { λ _. ⌜ KeptAt 6 7 n (now (t .entry)) (now (t .exit)) ⌝ }
+    ensures { λ _. ⌜ ((ids : List (List ℕ)) → Lists (now (s .entry)) (now (t .entry)) 7 n ids → Named 7 (now (s .entry)) (n + 1) ids (now (t .entry)) (now (t .exit))) ⌝ }
 {
     let mut r = 1;
     while r <= n {
@@ -38,11 +38,11 @@ fn settle_with(s: &[u8], n: usize, t: &mut [i32], memo: &mut [u32])
     }
 }
 
-// Each stop's parent, number 5 of its record.
+// Each stop's parent, number 6 of its record till that is put.
 pub fn settle_parents(s: &[u8], n: usize, t: &mut [i32])
-    requires { ⌜ Placed (now s) (now t) 6 n × (Arranged (now s) 6 n (now t) × (n ≤ maxBytes)) ⌝ }
-    ensures { λ _. ⌜ KeptAt 5 6 n (now (t .entry)) (now (t .exit)) ⌝ }
-    ensures { λ _. ⌜ ((ids : List (List ℕ)) → Lists (now (s .entry)) (now (t .entry)) 6 n ids → Named 6 (now (s .entry)) (n + 1) ids (now (t .entry)) (now (t .exit))) ⌝ }
+    requires { ⌜ Placed (now s) (now t) 7 n × (Arranged (now s) 7 n (now t) × (n ≤ maxBytes)) ⌝ }
+    ensures { λ _. ⌜ KeptAt 6 7 n (now (t .entry)) (now (t .exit)) ⌝ }
+    ensures { λ _. ⌜ ((ids : List (List ℕ)) → Lists (now (s .entry)) (now (t .entry)) 7 n ids → Named 7 (now (s .entry)) (n + 1) ids (now (t .entry)) (now (t .exit))) ⌝ }
 {
     let mut memo = memo::blank();
     settle_with(s, n, t, &mut memo);

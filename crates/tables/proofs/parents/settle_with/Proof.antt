@@ -15,7 +15,7 @@ use Rattle.tables.proofs.parents.settle_with.Statement.{statement}
 use Rattle.tables.proofs.parents.settle_with.Tie as tie
 
 abbrev Inv-loop : tie.InvT-loop
-Inv-loop s n t₀ memo₀ r₀ t memo r = ((1 ≤ r) × (r ≤ n + 1)) × ((length memo ≡ length memo₀) × (KeptAt 5 6 n t₀ t × (Ready s t 6 n memo × ((ids : List (List ℕ)) → Lists s t₀ 6 n ids → Named 6 s r ids t₀ t))))
+Inv-loop s n t₀ memo₀ r₀ t memo r = ((1 ≤ r) × (r ≤ n + 1)) × ((length memo ≡ length memo₀) × (KeptAt 6 7 n t₀ t × (Ready s t 7 n memo × ((ids : List (List ℕ)) → Lists s t₀ 7 n ids → Named 7 s r ids t₀ t))))
 
 abbrev μ-loop : tie.MeasureT-loop
 μ-loop s n t₀ memo₀ r₀ t memo r = n + 1 - r
@@ -49,12 +49,12 @@ loop-again c =
       (
         p .kept .1 .1 .1 .1 .0 ∙ l .inv .1 .0,
         (
-          settle-kept 6 _ _ (omega arith) (l .inv .0 .0) below _ _ _ (c .before .settle .ensures) _ kept,
+          settle-kept 7 _ _ (omega arith) (l .inv .0 .0) below _ _ _ (c .before .settle .ensures) _ kept,
           (
-            settle-ready 6 _ _ (omega arith) (l .inv .0 .0) below (l .t) _ _ (c .before .settle .ensures) _ _ (p .ensures .1 .1),
+            settle-ready 7 _ _ (omega arith) (l .inv .0 .0) below (l .t) _ _ (c .before .settle .ensures) _ _ (p .ensures .1 .1),
             λ ids lists.
-                settle-turn 6 _ _ (omega arith) (l .inv .0 .0) below _ _ _ (c .before .settle .ensures) _ ids _ kept row (l .inv .1 .1 .1 .1 ids lists)
-                (referred _ (l .t) 6 _ ids _ _ _ (lists-as _ 6 _ _ (l .t) ids (kept .size) (kept-three 6 _ _ (l .t) (omega arith) kept) lists) (p .ensures .0) refl),
+                settle-turn 7 _ _ (omega arith) (l .inv .0 .0) below _ _ _ (c .before .settle .ensures) _ ids _ kept row (l .inv .1 .1 .1 .1 ids lists)
+                (referred _ (l .t) 7 _ ids _ _ _ (lists-as _ 7 _ _ (l .t) ids (kept .size) (kept-three 7 _ _ (l .t) (omega arith) kept) lists) (p .ensures .0) refl),
           ),
         ),
       ),
@@ -69,7 +69,7 @@ same-length-2 c = c .before .loop .inv .1 .0
 returns : tie.Need-returns Inv-loop μ-loop
 returns c =
     let l = c .before .loop in
-    (l .inv .1 .1 .0, λ ids lists. named-end 6 _ _ (l .r) ids _ _ (c .loop-test .left) (l .inv .0 .1) (l .inv .1 .1 .1 .1 ids lists))
+    (l .inv .1 .1 .0, λ ids lists. named-end 7 _ _ (l .r) ids _ _ (c .loop-test .left) (l .inv .0 .1) (l .inv .1 .1 .1 .1 ids lists))
 
 pub settle-with-spec : {M : Type 1} → statement M
 settle-with-spec =
