@@ -10,9 +10,9 @@ use borrow.Author.Tests.{ltb-true, ltb-false, eqb-true, eq-eqb, ne-eqb, not-fals
 use Rattle.meaning.specs.Lists.{empty}
 use Rattle.meaning.specs.Bytes.{Line, linesOf, startOf, countLf}
 use Rattle.meaning.specs.Columns as C
-use Rattle.meaning.specs.Columns.{columnOf, countOf, places, headerOf, cell, rowOf, rowsOf}
+use Rattle.meaning.specs.Columns.{always, columnOf, countOf, places, headerOf, cell, rowOf, rowsOf}
 use Rattle.meaning.specs.Tables.{under, idColumn}
-use Rattle.meaning.specs.Refusals.{maxBytes, maxLines, claim, rule1, rule2, ended, rule4, inFile, rule5, blank}
+use Rattle.meaning.specs.Refusals.{maxBytes, maxLines, claim, rule1, rule2, ended, rule4, inFile, rule5}
 use Rattle.meaning.specs.Promises.{noLine, NoneBroken}
 use Rattle.meaning.proofs.ListLaws.{and-both}
 use Rattle.meaning.proofs.Laws.{getD-map-in}
@@ -20,7 +20,7 @@ use Rattle.meaning.proofs.FirstBroken.{spoken-first, silent-none}
 use Rattle.meaning.proofs.Columns.{row-at}
 use Rattle.meaning.proofs.Records.{rows-count}
 use Rattle.text.proofs.Lines.{lines-all}
-use Rattle.meaning.proofs.Readable.{row-is, no-stray, line-kept}
+use Rattle.meaning.proofs.Readable.{always-there, row-is, no-stray, line-kept}
 use Rattle.ordering.specs.Ids.{valueOn}
 use Rattle.indexes.specs.Order.{idsOf, idOf}
 use Rattle.indexes.specs.Index.{indexed, loneClaims, loneVerdict}
@@ -32,7 +32,7 @@ use Rattle.id_places.proofs.Starts.{Among, among, start-within, value-o
 -- the id of each of files 1 to 4 is known and needed
 pub record Needed (f : ℕ) : Type 0 where
   pub known : idColumn f < countOf f
-  pub need : columnOf f (idColumn f) .need ≡ true
+  pub need : columnOf f (idColumn f) .need ≡ always
 
 pub needed : (f : ℕ) → indexed f ≡ true → Needed f
 unfolding indexed idColumn countOf columnOf C.knownAt C.schema C.schemas C.stopsColumns C.routesColumns C.calendarColumns C.tripsColumns
@@ -129,11 +129,10 @@ module _ (f : ℕ) (s : List ℕ) (reads : Reads f s) where
     calm-line = let z : rule5 (getD (linesOf s) (i + 2 - 1) noLine .text) ≡ false = no-stray f s quiet i row-in in rw there at z
 
     id-there : empty (cell (line .text) (ownColumn f s)) ≡ false
-    unfolding blank idOf idsOf
+    unfolding idOf idsOf
     id-there =
         let n = needed f (reads .asked) in
-        let k = line-kept f s quiet i row-in (idColumn f) (n .known) .there in
-        let z : empty (getD (getD (rowsOf f s) i []) (idColumn f) []) ≡ false = rw (n .need) at k in
+        let z = always-there f (getD (rowsOf f s) i []) _ _ (n .need) (line-kept f s quiet i row-in (idColumn f) (n .known)) in
         let e : suc i - 1 ≡ i = omega arith in
         rw (← id-is, e, getD-map-in (under (idColumn f)) (rowsOf f s) i [] [] row-in) z
 

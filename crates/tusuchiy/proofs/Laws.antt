@@ -15,12 +15,12 @@ use Rattle.meaning.specs.declared.Answer.the-variants.{Accepted, Findings, Refu
 use Rattle.meaning.specs.Bytes.{countLf}
 use Rattle.meaning.specs.Columns.{rowsOf, schemas, schema, knownAt, columnOf, countOf, tripsColumns, stopTimesColumns}
 use Rattle.meaning.specs.Tables.{Feed, fileOf, feedOf, rowsIn, filled}
-use Rattle.meaning.specs.Refusals.{verdictOf, mayLack, blank, maxLines}
+use Rattle.meaning.specs.Refusals.{verdictOf, mayLack, maxLines}
 use Rattle.meaning.specs.Findings.{findingsOf, answerOf, handed, page, roomOf}
 use Rattle.meaning.specs.Outcome.{Outcome, readOutcome, filledFrom, outcome}
 use Rattle.meaning.specs.Promises.{WholeKept}
 use Rattle.meaning.proofs.Laws.{getD-map-in}
-use Rattle.meaning.proofs.Readable.{whole-kept, values-kept}
+use Rattle.meaning.proofs.Readable.{always-there, whole-kept, values-kept}
 use Rattle.meaning.proofs.Held.{filled-at}
 use Rattle.marks.specs.Noted.{Noted, TripsNoted}
 use Rattle.tables.specs.Fill.{Room, Fits}
@@ -75,16 +75,16 @@ module _ (files : List (List ℕ)) (tables : List (List ℤ)) (six : length file
 
   -- rule 12: a readable feed has no trip without a route, a service or an id, and no line of stop_times without a trip or a stop
   named : Named (feedOf files)
-  unfolding feedOf fileOf blank columnOf knownAt schema schemas countOf tripsColumns stopTimesColumns
+  unfolding feedOf fileOf columnOf knownAt schema schemas countOf tripsColumns stopTimesColumns
   named =
       let trips = values-kept files (map length tables) read 4 (omega arith) (omega arith) in
       let times = values-kept files (map length tables) read 5 (omega arith) (omega arith) in
       record {
-        routes = λ i h. trips i h 0 (omega arith) .there;
-        services = λ i h. trips i h 1 (omega arith) .there;
-        ids = λ i h. trips i h 2 (omega arith) .there;
-        trips = λ i h. times i h 0 (omega arith) .there;
-        stops = λ i h. times i h 3 (omega arith) .there;
+        routes = λ i h. always-there _ _ _ _ refl (trips i h 0 (omega arith));
+        services = λ i h. always-there _ _ _ _ refl (trips i h 1 (omega arith));
+        ids = λ i h. always-there _ _ _ _ refl (trips i h 2 (omega arith));
+        trips = λ i h. always-there _ _ _ _ refl (times i h 0 (omega arith));
+        stops = λ i h. always-there _ _ _ _ refl (times i h 3 (omega arith));
       }
 
   module _ (held : List (List ℤ)) (all : held ≡ filledFrom 1 (feedOf files) files tables) where
