@@ -293,6 +293,24 @@ A,Alder,90.1,2,\n",
         &TIMES,
         &DATES,
     );
+    feed(
+        b"each type of a stop",
+        b"stop_id,stop_name,stop_lat,stop_lon,location_type\n\
+A,,,,0\n\
+A,Alder,,,2\n\
+A,,,,3\n\
+A,,1.5,,3\n\
+A,,,x,4\n\
+A,,91,2,4\n\
+A,Alder,,,5\n\
+A,Alder,1.5,2,5\n\
+,,,,4\n",
+        &ROUTES,
+        &CALENDAR,
+        &TRIPS,
+        &TIMES,
+        &DATES,
+    );
 }
 
 // Files in order, each with its faults; none hides another's.

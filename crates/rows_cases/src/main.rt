@@ -50,25 +50,42 @@ fn both(a: bool, b: bool) -> bool {
     false
 }
 
-// The places of a second record's id and of its parent's field wait; then its parent, and negative coordinates. The first record and what follows stay.
+// The places of a second record's id and of its parent's field wait; then its parent, which goes to its number, and negative coordinates.
+// The first record and what follows stay.
 fn stops() {
-    let mut t = [7i32; 13];
+    let mut t = [7i32; 15];
     let id = Bounds { start: 36, end: 37 };
     let field = Bounds { start: 41, end: 44 };
     rows::cells::put_places(&mut t, 1, Stops::WIDTH, id, 0, field);
     told(
         b"places",
-        same(&t, &[7, 7, 7, 7, 7, 7, 36, 37, 0, 41, 44, 0, 7]),
+        same(&t, &[7, 7, 7, 7, 7, 7, 7, 36, 37, 0, 41, 44, 0, 0, 7]),
     );
     let place = Stops::waiting_at(&t, StopRow(1));
     told(b"waiting", both(place.start == 41, place.end == 44));
-    Stops::settle(&mut t, StopRow(1), StopRow(1));
+    Stops::settle(&mut t, StopRow(1), StopRow(3));
     told(
         b"settled",
-        same(&t, &[7, 7, 7, 7, 7, 7, 36, 37, 0, 41, 44, 1, 7]),
+        same(&t, &[7, 7, 7, 7, 7, 7, 7, 36, 37, 0, 41, 44, 0, 3, 7]),
     );
-    Stops::put(&mut t, StopRow(1), id, -338674999, -1800000000, 2);
-    let want = [7, 7, 7, 7, 7, 7, 36, 37, -338674999, -1800000000, 2, 1, 7];
+    Stops::put(&mut t, StopRow(1), id, -338674999, -1800000000, 2, 1);
+    let want = [
+        7,
+        7,
+        7,
+        7,
+        7,
+        7,
+        7,
+        36,
+        37,
+        -338674999,
+        -1800000000,
+        2,
+        3,
+        1,
+        7,
+    ];
     told(b"stops", same(&t, &want));
 }
 
@@ -269,7 +286,7 @@ fn timepoints() {
 
 // A negative number is one past every file and every record.
 fn negative() {
-    let t = [36, -1, -338674999, 1800000000, 2, -2147483648];
+    let t = [36, -1, -338674999, 1800000000, 2, -2147483648, 1];
     let id = Stops::id_at(&t, StopRow(0));
     told(b"id", both(id.start == 36, id.end == 4294967295));
     told(b"parent", Stops::parent_at(&t, StopRow(0)).0 == 4294967295);
@@ -277,7 +294,7 @@ fn negative() {
 
 // What lies outside the table is 0, whatever the row; a record that is cut off is read as far as it goes.
 fn outside() {
-    let t = [0, 0, 0, 0, 0, 0, 50, 51, 9];
+    let t = [0, 0, 0, 0, 0, 0, 0, 50, 51, 9];
     let id = Stops::id_at(&t, StopRow(1));
     told(
         b"cut",
