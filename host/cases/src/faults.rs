@@ -23,7 +23,7 @@ pub fn break_one(feed: &mut Feed, random: &mut Random) {
         2 | 3 => lose_reference(feed, random),
         4 => move_reference(feed, random),
         5 => own_parent(feed, random),
-        6 => edit(feed, random, 0, "location_type", |random| random.pick(&["", "0", "1", "2"]).to_string()),
+        6 => change_type(feed, random),
         7 => clear_names(feed, random),
         8 => turn_dates(feed, random),
         9 => clear_times(feed, random),
@@ -125,6 +125,14 @@ fn own_parent(feed: &mut Feed, random: &mut Random) {
         let id = feed[0].get(row, "stop_id").to_vec();
         feed[0].set(row, "parent_station", id);
     }
+}
+
+/// A stop of another type; one without a name or a place has to stay a node or a boarding area.
+fn change_type(feed: &mut Feed, random: &mut Random) {
+    let Some(row) = row(feed, random, 0) else { return };
+    let lacks = ["stop_name", "stop_lat"].iter().any(|name| feed[0].get(row, name).is_empty());
+    let types: &[&str] = if lacks { &["3", "4"] } else { &["", "0", "1", "2", "3", "4"] };
+    feed[0].set(row, "location_type", random.pick(types));
 }
 
 fn clear_names(feed: &mut Feed, random: &mut Random) {
