@@ -9,7 +9,7 @@ use model::{Answer, Files, FILES};
 use std::str::from_utf8;
 
 /// How many seeds are looked at.
-const SEEDS: u64 = 2000;
+const SEEDS: u64 = 4000;
 
 const MARK: &[u8] = b"\xEF\xBB\xBF";
 
