@@ -114,13 +114,31 @@ impl<'a> Reasons<'a> {
                 members.extend([shown_value(&value), bytes, limit]);
                 format!("{} {} has {} bytes", column.name, shown(&value), value.len())
             }
-            12 => format!("{} is empty", column.name),
+            12 => format!("{} is empty{}", column.name, self.why_needed(refusal.file, column.name, text)),
             _ => {
                 members.extend([shown_value(&value), ("wanted", Value::text(column.form))]);
                 format!("{} is {}, wanted: {}", column.name, shown(&value), column.form)
             }
         };
         Some(About { words, members })
+    }
+
+    /// Why a stop may not lack a value that a node or a boarding area may.
+    fn why_needed(&self, file: usize, column: &str, text: &[u8]) -> String {
+        let other = match (file, column) {
+            (1, "stop_name") => None,
+            (1, "stop_lat") => Some("stop_lon"),
+            (1, "stop_lon") => Some("stop_lat"),
+            _ => return String::new(),
+        };
+        let is_type = |place: &usize| self.name(1, *place).as_deref() == Some(b"location_type");
+        let place = (0..self.header(1).len()).find(is_type);
+        let kind = place.and_then(|place| field(text, place + 1)).map_or(Cow::Borrowed(&[][..]), |field| value(&text[field]));
+        match (&*kind, other) {
+            (b"3" | b"4", Some(other)) => format!(" and {other} isn't, wanted: both or neither"),
+            (b"" | b"0" | b"1" | b"2", _) => String::new(),
+            _ => format!("; location_type {} counts as 0", shown(&kind)),
+        }
     }
 }
 
