@@ -399,7 +399,10 @@ const WANTED_STATION: &str = ", wanted: a station (location_type 1)";
 fn own_clause(kind: i32, parent: &[u8]) -> Option<(&'static str, String)> {
     let (clause, who, wanted) = match (kind, parent) {
         (1, [_, ..]) => {
-            return Some(("station_with_parent", format!("a station has the parent_station {}, wanted: none", shown(parent))))
+            return Some((
+                "station_with_parent",
+                format!("a station has the parent_station {}, wanted: none", shown(parent)),
+            ))
         }
         (2, []) => ("entrance_without_parent", "an entrance", WANTED_STATION),
         (3, []) => ("node_without_parent", "a generic node", WANTED_STATION),

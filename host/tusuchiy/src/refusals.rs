@@ -133,7 +133,8 @@ impl<'a> Reasons<'a> {
         };
         let is_type = |place: &usize| self.name(1, *place).as_deref() == Some(b"location_type");
         let place = (0..self.header(1).len()).find(is_type);
-        let kind = place.and_then(|place| field(text, place + 1)).map_or(Cow::Borrowed(&[][..]), |field| value(&text[field]));
+        let kind =
+            place.and_then(|place| field(text, place + 1)).map_or(Cow::Borrowed(&[][..]), |field| value(&text[field]));
         match (&*kind, other) {
             (b"3" | b"4", Some(other)) => format!(" and {other} isn't, wanted: both or neither"),
             (b"" | b"0" | b"1" | b"2", _) => String::new(),
