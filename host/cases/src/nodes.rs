@@ -7,8 +7,9 @@ use crate::Case;
 /// The types of stops.
 const TYPES: [&str; 5] = ["0", "1", "2", "3", "4"];
 
-/// Types in other spellings, good ones and bad ones; those that aren't of their form count as 0.
-const SPELLINGS: [&str; 11] = ["", "\"\"", "\"3\"", "\"4\"", "5", "03", "33", "34", " 3", "-3", "x"];
+/// Types as they may be written: nine good ways, then some that aren't of their form and count as 0.
+const SPELLINGS: [&str; 16] =
+    ["0", "1", "2", "3", "4", "", "\"\"", "\"3\"", "\"4\"", "5", "03", "33", "34", " 3", "-3", "x"];
 
 /// A stop of each type that others may name, each with the parent that it needs.
 const PARENTS: &str = "P0,Platform,1,2,0,\nP1,Station,1,2,1,\nP2,Way in,1,2,2,P1\nP3,,,,3,P1\nP4,,,,4,P0\n";
@@ -24,7 +25,7 @@ fn with_stops(lines: &str) -> Case {
 /// A stop of every type with every parent, before that parent and behind it: none, one that stands nowhere, one of each type, itself.
 fn with_parents() -> Vec<Case> {
     let mut cases = Vec::new();
-    for child in TYPES.iter().chain(&SPELLINGS[..4]) {
+    for child in &SPELLINGS[..9] {
         for parent in ["", "\"\"", "nowhere", "c", "\"P0\"", "P0", "P1", "P2", "P3", "P4", "C"] {
             let line = format!("C,Child,1,2,{child},{parent}\n");
             cases.extend([format!("{line}{PARENTS}"), format!("{PARENTS}{line}")].map(|lines| with_stops(&lines)));
@@ -44,7 +45,7 @@ fn with_repeated_parents() -> Vec<Case> {
     cases
 }
 
-/// The columns whose emptiness the type decides, in each order: their places on a line of the four, the type first or last.
+/// Orders of name, latitude, longitude and type, which are 0 to 3: the first three in every order, and the type right or left of them.
 fn orders() -> Vec<[usize; 4]> {
     let three = [[0, 1, 2], [0, 2, 1], [1, 0, 2], [1, 2, 0], [2, 0, 1], [2, 1, 0]];
     three.iter().flat_map(|[a, b, c]| [[*a, *b, *c, 3], [3, *a, *b, *c]]).collect()
@@ -83,28 +84,26 @@ fn quoted(file: &str) -> String {
 
 /// Stops files with all such lines, for those who look at every line of a file.
 pub fn files() -> Vec<String> {
-    let types = [&TYPES[..], &SPELLINGS].concat();
-    let mut files: Vec<String> = orders().into_iter().map(|order| file(order, &values(&types))).collect();
+    let mut files: Vec<String> = orders().into_iter().map(|order| file(order, &values(&SPELLINGS))).collect();
     files.push(quoted(&files[0]));
     files
 }
 
 /// Such lines alone: every type in two orders of columns and in quotes, some types in every order.
 fn alone() -> Vec<Case> {
-    let types = [&TYPES[..], &SPELLINGS].concat();
     let mut files = Vec::new();
     for (place, order) in orders().into_iter().enumerate() {
-        let types = if place < 2 { &types[..] } else { &["", "3", "4", "x"] };
+        let types = if place < 2 { &SPELLINGS[..] } else { &["", "3", "4", "x"] };
         files.extend(values(types).into_iter().map(|four| file(order, &[four])));
     }
-    files.extend(values(&types).into_iter().map(|four| quoted(&file([2, 1, 0, 3], &[four]))));
+    files.extend(values(&SPELLINGS).into_iter().map(|four| quoted(&file([2, 1, 0, 3], &[four]))));
     files.into_iter().map(|file| with_file(0, file.into_bytes()).swap_remove(0)).collect()
 }
 
 /// Places at 0, 0 and at its edges, columns that are absent, long ids beside what is empty; each with a short table too.
 fn others() -> Vec<Case> {
     let mut files = Vec::new();
-    for kind in TYPES.iter().chain(&SPELLINGS) {
+    for kind in SPELLINGS {
         for [latitude, longitude] in [["0", "0"], ["-0", "0.00000001"], ["90", "-180"], ["91", "0"], ["0", "\"181\""]] {
             files.push(file([0, 1, 2, 3], &[["", latitude, longitude, kind]]));
         }
