@@ -22,11 +22,13 @@ pub struct Reasons<'a> {
     feed: &'a Feed,
     headers: [OnceCell<Vec<Range<usize>>>; FILES],
     all_fit: [OnceCell<bool>; FILES],
+    type_field: OnceCell<Option<usize>>,
 }
 
 impl<'a> Reasons<'a> {
     pub fn new(feed: &'a Feed) -> Self {
-        Reasons { feed, headers: Default::default(), all_fit: Default::default() }
+        let (headers, all_fit) = Default::default();
+        Reasons { feed, headers, all_fit, type_field: OnceCell::new() }
     }
 
     /// What the verdict's refusal is about; where a file is missing, all that are.
@@ -123,6 +125,12 @@ impl<'a> Reasons<'a> {
         Some(About { words, members })
     }
 
+    /// The field of stops.txt that is the type, counted from 1.
+    fn type_field(&self) -> Option<usize> {
+        let is_type = |place: &usize| self.name(1, place - 1).as_deref() == Some(b"location_type");
+        *self.type_field.get_or_init(|| (1..=self.header(1).len()).find(is_type))
+    }
+
     /// Why a stop may not lack a value that a node or a boarding area may.
     fn why_needed(&self, file: usize, column: &str, text: &[u8]) -> String {
         let other = match (file, column) {
@@ -131,10 +139,8 @@ impl<'a> Reasons<'a> {
             (1, "stop_lon") => Some("stop_lat"),
             _ => return String::new(),
         };
-        let is_type = |place: &usize| self.name(1, *place).as_deref() == Some(b"location_type");
-        let place = (0..self.header(1).len()).find(is_type);
-        let kind =
-            place.and_then(|place| field(text, place + 1)).map_or(Cow::Borrowed(&[][..]), |field| value(&text[field]));
+        let own = self.type_field().and_then(|place| field(text, place));
+        let kind = own.map_or(Cow::Borrowed(&[][..]), |field| value(&text[field]));
         match (&*kind, other) {
             (b"3" | b"4", Some(other)) => format!(" and {other} isn't, wanted: both or neither"),
             (b"" | b"0" | b"1" | b"2", _) => String::new(),
