@@ -63,6 +63,21 @@ def town(folder):
     return put(folder, stops, routes, CALENDAR + [WEEK, "H,0,0,0,0,0,1,1,20261231,20260101"], trips, times, dates)
 
 
+# A station with nodes and boarding areas: two of the stops have no coordinates, one of them with a finding and a call.
+def nodes(folder):
+    stops = ["stop_id,stop_name,stop_lat,stop_lon,location_type,parent_station", "MAIN,Main Station,52.52,13.40,1,", "P1,Platform 1,52.521,13.401,0,MAIN"]
+    stops += ["P2,Platform 2,52.522,13.402,0,MAIN", "N1,,,,3,MAIN", "N2,,52.523,13.403,3,P1", "B1,,,,4,MAIN", "B2,,52.524,13.404,4,P2"]
+    times = ["trip_id,arrival_time,departure_time,stop_id,stop_sequence", "T,08:00:00,08:00:00,P1,1", "T,08:05:00,08:05:00,B1,2", "T,08:10:00,08:10:00,P2,3"]
+    return put(folder, stops, ["route_id,route_short_name,route_type", "R,1,3"], CALENDAR + [WEEK], ["route_id,service_id,trip_id", "R,W,T"], times)
+
+
+# A feed whose only stop has no coordinates, and yet findings.
+def nowhere(folder):
+    times = ["trip_id,arrival_time,departure_time,stop_id,stop_sequence", "T,08:00:00,08:00:00,B1,1", "T,08:05:00,08:05:00,B1,2"]
+    stops = ["stop_id,stop_name,stop_lat,stop_lon,location_type", "B1,,,,4"]
+    return put(folder, stops, ["route_id,route_short_name,route_type", "R,1,3"], CALENDAR + [WEEK], ["route_id,service_id,trip_id", "R,W,T"], times)
+
+
 # Every line of stop_times but the last ones has a finding: 65,000 in all, on 32,500 trips of two lines.
 def many(folder, trips=32500):
     stops = ["stop_id,stop_name,stop_lat,stop_lon"] + [f"S{n},Stop {n},{50 + n % 256 / 100},{8 + n // 256 / 100}" for n in range(5000)]

@@ -232,6 +232,27 @@ def stops_map(browser, case):
     return calls
 
 
+# Stops without coordinates are drawn nowhere and leave the map as wide as it was; the list beside it leads to their findings.
+def without_place(browser, case):
+    dots = "['stop', 'call', 'own'].map((name) => document.querySelector('#map .' + name).getAttribute('d').split('M').length - 1)"
+    same(f"{case.name}: stops on the map", browser.value(dots), [4, 0, 1])
+    same(f"{case.name}: the note", browser.value("document.getElementById('map-note').textContent"), "5 stops by their coordinates, 2 more without any, 2 with findings. Choose one for its findings.")
+    figures = browser.value("[...document.querySelectorAll('#map g text:not(.label)')].map((text) => Number(text.textContent.slice(0, -1)))")
+    holds(f"{case.name}: degrees {figures}", figures and all(52 < figure < 53 or 13 < figure < 14 for figure in figures))
+    browser.value("document.querySelector('#faulty [data-stop=\"7\"]').click()")
+    chosen(browser, case, 2)
+    same(f"{case.name}: rings", browser.value("document.querySelectorAll('#map .chosen-stop').length"), 0)
+    browser.value("document.getElementById('stop-filter-clear').click()")
+    chosen(browser, case, len(case.findings))
+
+
+# Where no stop has coordinates there is no map, and what leads to a stop's findings still does.
+def no_map(browser, case):
+    same(f"{case.name}: the map is hidden", browser.value("document.getElementById('map-section').hidden"), True)
+    browser.value("document.querySelector('#list [data-stop]').click()")
+    chosen(browser, case, len(case.findings))
+
+
 # The trip's rows go by sequence, the step that falls is drawn once, and a departure before its arrival too.
 def time_diagram(browser, case):
     picture = "document.querySelector('.diagram[open] svg')"
@@ -392,12 +413,12 @@ def every_page(browser, case):
 def main():
     os.makedirs(PICTURES, exist_ok=True)
     with tempfile.TemporaryDirectory() as folder:
-        for name in ["many", "town", "hostile_refused", "hostile_bytes", "shuffled"]:
+        for name in ["many", "town", "nodes", "nowhere", "hostile_refused", "hostile_bytes", "shuffled"]:
             getattr(feeds, name)(os.path.join(folder, name))
         feeds.hostile(os.path.join(folder, feeds.HOSTILE_NAME))
         large_case = Case(folder, "many", "many", plain=True)
         cases = {name: Case(folder, name, os.path.join(TOP, "examples", name)) for name in ["feed", "findings", "refused", "by-date", "faults"]}
-        cases.update({name: Case(folder, name, name) for name in ["town", "hostile_refused", "hostile_bytes", "shuffled"]})
+        cases.update({name: Case(folder, name, name) for name in ["town", "nodes", "nowhere", "hostile_refused", "hostile_bytes", "shuffled"]})
         cases["hostile"] = Case(folder, "hostile", feeds.HOSTILE_NAME)
         browser = Browser()
         try:
@@ -414,6 +435,10 @@ def main():
             seen = names(browser, cases["town"])
             holds(f"roles: {seen}", {"button", "combobox", "searchbox", "image"} <= seen)
             keyboard(browser, cases["town"])
+            browser.open(cases["nodes"].page)
+            without_place(browser, cases["nodes"])
+            browser.open(cases["nowhere"].page)
+            no_map(browser, cases["nowhere"])
             browser.open(cases["faults"].page)
             filters(browser, cases["faults"], "wanted")
             without_script(browser, cases["faults"])
@@ -432,7 +457,7 @@ def main():
             picture(browser, cases["town"])
         finally:
             browser.close()
-    print("report: five examples, a town, hostile feeds and 65,000 findings show in a browser what the JSON document says", flush=True)
+    print("report: five examples, a town, stops without coordinates, hostile feeds and 65,000 findings show in a browser what the JSON document says", flush=True)
 
 
 main()

@@ -142,9 +142,10 @@ static int report(const struct lent *files) {
         print(list, answer.written, 3, after);
         had += answer.written;
     }
-    /* The tables are filled now: where the second line of stops.txt lies, if there is one. */
-    if (files[0].numbers >= 2 * TUSUCHIY_STOPS_WIDTH)
-        printf("first stop at %d %d\n", files[0].table[6 + 2], files[0].table[6 + 3]);
+    /* The tables are filled now: where the second line of stops.txt lies, if there is one and it has a place. */
+    const int32_t *first = files[0].numbers < 2 * TUSUCHIY_STOPS_WIDTH ? NULL : files[0].table + TUSUCHIY_STOPS_WIDTH;
+    if (first && first[6])
+        printf("first stop at %d %d\n", first[2], first[3]);
     return answer.verdict;
 }
 

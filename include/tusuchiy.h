@@ -11,8 +11,8 @@ extern "C" {
 #endif
 
 /* The version of the check, as a text and as a number: 10000 for each major, 100 for each minor step. */
-#define TUSUCHIY_VERSION "0.7.0"
-#define TUSUCHIY_VERSION_NUMBER 700
+#define TUSUCHIY_VERSION "0.8.0"
+#define TUSUCHIY_VERSION_NUMBER 800
 
 /* The six files have numbers: in `file` of an answer, of a finding and of a fault. */
 enum {
@@ -27,7 +27,8 @@ enum {
 /* A record has so many numbers in the table of its file. Lend each table at least its width times the number of
  * LF bytes in its file, else the feed is refused with number 3. A longer table does no harm. */
 enum {
-    TUSUCHIY_STOPS_WIDTH = 6,      /* id start, id end, latitude, longitude, location_type, parent record */
+    TUSUCHIY_STOPS_WIDTH = 7,      /* id start, id end, latitude, longitude, location_type (0 to 4), parent record,
+                                      place (1 with coordinates, 0 without) */
     TUSUCHIY_ROUTES_WIDTH = 3,     /* id start, id end, route_type */
     TUSUCHIY_CALENDAR_WIDTH = 5,   /* id start, id end, days (Monday is bit 0), start_date, end_date (YYYYMMDD) */
     TUSUCHIY_TRIPS_WIDTH = 8,      /* id start, id end, route record, service record in calendar.txt, direction_id,
@@ -40,7 +41,9 @@ enum {
 /* Line n of a file (the header is line 1) has record n - 1. Record 0 is all zero, so a reference of 0 means none.
  * Record r of a table t of width w is t[r * w] to t[r * w + w - 1]. Ids are places in the file: start, and the end
  * behind the last byte, quotes included, counted from the file's first byte. Latitude and longitude are in
- * ten-millionths of a degree. An empty direction_id or timepoint is -1, any other empty choice 0. */
+ * ten-millionths of a degree; both are 0 where place is 0, as it can be for location_type 3 and 4 alone (generic nodes
+ * and boarding areas), and a stop at 0, 0 has place 1. An empty direction_id or timepoint is -1, any other empty
+ * choice 0. */
 
 /* Values of `verdict`. */
 enum {

@@ -27,11 +27,27 @@ pub fn break_values(grid: &mut Grid, known: &[Column], rule: usize, random: &mut
             grid.header[place] = random.pick(&[&b"gone"[..], b"", b"STOP_ID"]).to_vec();
         }
         _ if grid.rows.is_empty() => {}
+        12 if known.iter().any(|column| column.name == "location_type") && random.once_in(2) => {
+            empty_stop(grid, random)
+        }
         _ => {
             let row = random.below(grid.rows.len());
             break_more(grid, known, row, rule, random);
             let value = bad_value(rule, column, random);
             grid.set(row, column.name, value);
+        }
+    }
+}
+
+/// A stop of any type, or of one that isn't of its form, without its name, a coordinate or several of them.
+fn empty_stop(grid: &mut Grid, random: &mut Random) {
+    let row = random.below(grid.rows.len());
+    let kind = *random.pick(&["", "0", "1", "2", "3", "4", "5", "03"]);
+    let which = random.between(1, 7);
+    let empty = ["stop_name", "stop_lat", "stop_lon"].into_iter().enumerate().filter(|(bit, _)| which >> bit & 1 == 1);
+    for (name, value) in empty.map(|(_, name)| (name, "")).chain([("location_type", kind)]) {
+        if grid.header.iter().any(|have| have == name.as_bytes()) {
+            grid.set(row, name, value);
         }
     }
 }
@@ -82,6 +98,7 @@ fn bad_value(rule: usize, column: &Column, random: &mut Random) -> Vec<u8> {
         }
         (_, Form::Coordinate(_)) => &["180.000000001", "181", "-999", "1.000000000000000000000", " 1", "-", "1.-1"],
         (_, Form::Sequence) => &["1000000000", "-1", "1.0", " 1", "0x1", "a"],
+        (_, Form::Choice(["0", "1", "2", "3", "4"], _)) => &["5", "03", "33", " 3", "4 ", "34", "-3", "a"],
         (_, Form::Choice(["1", "2"], _)) => &["0", "3", "01", " 2", "2 ", "12", "-1", "a"],
         _ => &["01", " 1", "9", "10", "13", "-1", "1 ", "a", "100"],
     };

@@ -1,7 +1,7 @@
 //! Edge cases, each tried everywhere: every raw field under every known column, every odd file in every place, every small order of lines,
-//! every state of calendar and calendar_dates, every two files that can't be read; and all that is about characters and columns.
+//! every state of calendar and calendar_dates, every two files that can't be read; and all that is about characters, columns and nodes.
 
-use crate::{characters, columns, large, orders, services, Case};
+use crate::{characters, columns, large, nodes, orders, services, Case};
 use model::columns::COLUMNS;
 use model::{Files, FILES};
 
@@ -243,6 +243,7 @@ pub fn cases() -> Vec<Case> {
     cases.extend(of_services());
     cases.extend(characters::cases());
     cases.extend(columns::cases());
+    cases.extend(nodes::cases());
     cases
 }
 

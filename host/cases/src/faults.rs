@@ -18,12 +18,12 @@ const REFERENCES: [(usize, &str, usize, &str); 6] = [
 
 /// Breaks something, usually, at a random place.
 pub fn break_one(feed: &mut Feed, random: &mut Random) {
-    match random.below(23) {
+    match random.below(26) {
         0 | 1 => repeat_id(feed, random),
         2 | 3 => lose_reference(feed, random),
         4 => move_reference(feed, random),
-        5 => own_parent(feed, random),
-        6 => edit(feed, random, 0, "location_type", |random| random.pick(&["", "0", "1", "2"]).to_string()),
+        5 | 23 | 24 => change_parent(feed, random),
+        6 | 25 => change_type(feed, random),
         7 => clear_names(feed, random),
         8 => turn_dates(feed, random),
         9 => clear_times(feed, random),
@@ -119,12 +119,20 @@ fn move_reference(feed: &mut Feed, random: &mut Random) {
     }
 }
 
-/// A stop that is its own parent.
-fn own_parent(feed: &mut Feed, random: &mut Random) {
-    if let Some(row) = row(feed, random, 0) {
-        let id = feed[0].get(row, "stop_id").to_vec();
-        feed[0].set(row, "parent_station", id);
-    }
+/// A stop that is its own parent, or that has any stop or none as its parent.
+fn change_parent(feed: &mut Feed, random: &mut Random) {
+    let (Some(child), Some(other)) = (row(feed, random, 0), row(feed, random, 0)) else { return };
+    let parent = *random.pick(&[Some(child), Some(other), Some(other), None]);
+    let id = parent.map_or(Vec::new(), |parent| feed[0].get(parent, "stop_id").to_vec());
+    feed[0].set(child, "parent_station", id);
+}
+
+/// A stop of another type; one without a name or a place has to stay a node or a boarding area.
+fn change_type(feed: &mut Feed, random: &mut Random) {
+    let Some(row) = row(feed, random, 0) else { return };
+    let lacks = ["stop_name", "stop_lat"].iter().any(|name| feed[0].get(row, name).is_empty());
+    let types: &[&str] = if lacks { &["3", "4"] } else { &["", "0", "1", "2", "3", "4"] };
+    feed[0].set(row, "location_type", random.pick(types));
 }
 
 fn clear_names(feed: &mut Feed, random: &mut Random) {

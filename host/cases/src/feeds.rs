@@ -110,28 +110,47 @@ fn stops(random: &mut Random) -> Grid {
     let names = ["stop_id", "stop_name", "stop_lat", "stop_lon", "location_type", "parent_station"];
     let mut grid = Grid::new(&names);
     let plain = random.once_in(3);
-    let kinds: Vec<usize> = (0..count(random, 6)).map(|_| if plain { 0 } else { random.below(3) }).collect();
+    let kinds = kinds(random, plain);
     let ids = ids(random, kinds.len());
-    let stations: Vec<usize> = (0..kinds.len()).filter(|&stop| kinds[stop] == 1).collect();
+    let of_kind = |kind: usize| (0..kinds.len()).filter(|&stop| kinds[stop] == kind).collect::<Vec<_>>();
+    let (platforms, stations) = (of_kind(0), of_kind(1));
     for (id, &kind) in ids.iter().zip(&kinds) {
-        // An entrance needs a station; without one the stop becomes a plain stop.
-        let kind = if kind == 2 && stations.is_empty() { 0 } else { kind };
-        let child = kind == 2 || kind == 0 && !stations.is_empty() && random.once_in(2);
-        let parent = if child { ids[*random.pick(&stations)].clone() } else { Vec::new() };
+        let parents = match kind {
+            0 if random.once_in(2) => &stations[..],
+            2 | 3 => &stations,
+            4 => &platforms,
+            _ => &[],
+        };
+        let parent = if parents.is_empty() { Vec::new() } else { ids[*random.pick(parents)].clone() };
         let written = if kind == 0 && (plain || random.once_in(2)) { String::new() } else { kind.to_string() };
-        let wide = random.once_in(3);
-        let longitude = if wide { random.pick(&LONGITUDES) } else { random.pick(&PLACES) };
-        let row: [&[u8]; 6] = [
-            id,
-            random.pick(&NAMES).as_bytes(),
-            random.pick(&PLACES).as_bytes(),
-            longitude.as_bytes(),
-            written.as_bytes(),
-            &parent,
-        ];
+        let [name, latitude, longitude] = name_and_place(random, kind).map(str::as_bytes);
+        let row: [&[u8]; 6] = [id, name, latitude, longitude, written.as_bytes(), &parent];
         grid.push(&row);
     }
     grid
+}
+
+/// The types of stops that all find their parents: without a station none is an entrance or a node, without a platform none a boarding area.
+fn kinds(random: &mut Random, plain: bool) -> Vec<usize> {
+    let mut kinds: Vec<usize> = (0..count(random, 6)).map(|_| if plain { 0 } else { random.below(5) }).collect();
+    for (kind, parent) in [(2, 1), (3, 1), (4, 0)] {
+        if !kinds.contains(&parent) {
+            kinds.iter_mut().filter(|own| **own == kind).for_each(|own| *own = 0);
+        }
+    }
+    kinds
+}
+
+/// The name, latitude and longitude of a stop of a type; a node or a boarding area may lack its name, or its place.
+fn name_and_place(random: &mut Random, kind: usize) -> [&'static str; 3] {
+    let may_lack = kind > 2;
+    let name = if may_lack && random.once_in(2) { "" } else { *random.pick(&NAMES) };
+    if may_lack && random.once_in(2) {
+        return [name, "", ""];
+    }
+    let wide = random.once_in(3);
+    let longitude = if wide { *random.pick(&LONGITUDES) } else { *random.pick(&PLACES) };
+    [name, *random.pick(&PLACES), longitude]
 }
 
 fn routes(random: &mut Random) -> Grid {

@@ -13,6 +13,7 @@ pub mod index;
 pub mod large;
 pub mod lines;
 pub mod listing;
+pub mod nodes;
 pub mod orders;
 pub mod processes;
 pub mod random;

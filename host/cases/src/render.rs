@@ -37,11 +37,14 @@ pub fn arrange(grid: &Grid, known: &[Column], faulty: bool, random: &mut Random)
     arranged
 }
 
-/// May this column be left out? In a feed without faults only if nothing stands in it.
+/// May this column be left out? In a feed without faults only if nothing stands in it, and never if a line couldn't be read without it.
 fn may_go(grid: &Grid, known: &[Column], place: usize, faulty: bool) -> bool {
-    let empty = grid.rows.iter().all(|row| row[place].is_empty());
+    let empty = |place: usize| grid.rows.iter().all(|row| row[place].is_empty());
     let optional = known.iter().any(|column| column.name.as_bytes() == grid.header[place] && !column.present);
-    optional && (empty || faulty)
+    // A line without a name or a place can, by its type.
+    let lacking = |column: &Column| grid.rows.iter().any(|row| row[grid.column(column.name)].is_empty());
+    let by_type = grid.header[place] == b"location_type" && known.iter().filter(|column| column.needed()).any(lacking);
+    optional && (empty(place) || faulty && !by_type)
 }
 
 /// The name of a column; an unknown one gets a name that this file doesn't know.

@@ -19,8 +19,8 @@ fn listed(changes: &[(usize, &[u8])], wanted: &[Fault]) {
 
 const DATES: &[u8] = b"service_id,date,exception_type";
 
-/// calendar_dates of these lines, each with its ending.
-fn dates(lines: &[&[u8]]) -> Vec<u8> {
+/// A file of these lines, each with its ending.
+fn of_lines(lines: &[&[u8]]) -> Vec<u8> {
     lines.iter().flat_map(|line| [line, &b"\n"[..]].concat()).collect()
 }
 
@@ -38,7 +38,7 @@ fn lines_below(header: &[u8]) -> Vec<u8> {
         b",20240704,2",
         b"W,20240230,2",
     ];
-    dates(&[&[header], &lines[..]].concat())
+    of_lines(&[&[header], &lines[..]].concat())
 }
 
 /// What doesn't look at the header, on those lines.
@@ -65,8 +65,31 @@ fn below_a_good_header_all_lines_speak() {
     listed(&[(6, &lines_below(b"\xEF\xBB\xBFservice_id,date,exception_type\r"))], &[ALWAYS, BY_COLUMNS].concat());
     // Unknown names may stand twice; the columns move.
     let header = b"note,exception_type,note,date,service_id";
-    let file = dates(&[header, b",2,,20240704,W", b",2,,2024070,W", b",3,,2024070,W", b",3,,,W", b",2,,20240704,W,"]);
+    let file =
+        of_lines(&[header, b",2,,20240704,W", b",2,,2024070,W", b",3,,2024070,W", b",3,,,W", b",2,,20240704,W,"]);
     listed(&[(6, &file)], &[[6, 3, 13, 4], [6, 4, 13, 2], [6, 5, 12, 4], [6, 6, 10, 0]]);
+}
+
+/// E10: what nodes and boarding areas may lack is no fault, one coordinate alone is, and a type that isn't of its form counts as 0.
+#[test]
+fn stops_of_every_type() {
+    let lines: [&[u8]; 13] = [
+        b"stop_id,location_type,stop_lon,stop_name,stop_lat",
+        b"A,3,,,",
+        b"A,4,\"\",\"\",\"\"",
+        b"A,3,2,,1.5",
+        b"A,3,2,,",
+        b"A,4,,Area,x",
+        b"A,4,x,,1.5",
+        b"A,2,,,",
+        b"A,,2,,",
+        b"A,03,2,Stop,",
+        b"A,03,2,Stop,1.5",
+        b",3,,,",
+        b"A,\"4\",,,",
+    ];
+    let wanted = [[5, 12, 5], [6, 12, 3], [7, 13, 3], [8, 12, 3], [9, 12, 4], [10, 12, 5], [11, 13, 2], [12, 12, 1]];
+    listed(&[(1, &of_lines(&lines))], &wanted.map(|[line, number, column]| [1, line, number, column]));
 }
 
 /// A header refused by each of its tests: below it only what doesn't look at the columns.
@@ -106,7 +129,7 @@ fn a_refused_header_hides_nothing_of_other_files() {
 #[test]
 fn a_line_has_one_fault_at_most() {
     let (commas, long) = ([b','; 32], [b'i'; 65]);
-    let file = dates(&[
+    let file = of_lines(&[
         DATES,
         b"\xFF\t\"",
         b"a\"\xFF",
@@ -131,14 +154,14 @@ fn a_line_has_one_fault_at_most() {
         (b"date,note,note", 9, 0),
     ];
     for (header, number, column) in headers {
-        listed(&[(6, &dates(&[header]))], &[[6, 1, number, column]]);
+        listed(&[(6, &of_lines(&[header]))], &[[6, 1, number, column]]);
     }
 }
 
 /// A missing last line ending hides nothing: the bytes behind the last LF are a line.
 #[test]
 fn a_last_line_without_its_ending_is_judged() {
-    let with = |last: &[u8]| [&dates(&[DATES, b"W,20240704,2"]), last].concat();
+    let with = |last: &[u8]| [&of_lines(&[DATES, b"W,20240704,2"]), last].concat();
     listed(&[(6, &with(b"W,20240705,2"))], &[[6, 0, 4, 0]]);
     listed(&[(6, &with(b"W,20240230,2"))], &[[6, 0, 4, 0], [6, 3, 13, 2]]);
     listed(&[(6, &with(b"W"))], &[[6, 0, 4, 0], [6, 3, 10, 0]]);
@@ -160,7 +183,7 @@ fn a_last_line_without_its_ending_is_judged() {
 /// No LF ends the last bytes, so no CR among them belongs to an ending.
 #[test]
 fn a_last_cr_without_its_lf_is_outside_an_ending() {
-    let with = |last: &[u8]| [&dates(&[DATES, b"W,20240704,2\r"]), last].concat();
+    let with = |last: &[u8]| [&of_lines(&[DATES, b"W,20240704,2\r"]), last].concat();
     listed(&[(6, &with(b"W,20240705,2\r"))], &[[6, 0, 4, 0], [6, 3, 5, 0]]);
     listed(&[(6, &with(b"\r"))], &[[6, 0, 4, 0], [6, 3, 5, 0]]);
     listed(&[(6, &with(b"W,20240230,2\r"))], &[[6, 0, 4, 0], [6, 3, 5, 0]]);
@@ -235,7 +258,7 @@ fn files_that_are_as_large_as_they_may_be() {
     listed(&[(6, &[&good[..], b"W,2024070,2"].concat())], &[[6, 0, 4, 0], [6, 65_537, 13, 2]]);
     listed(&[(6, &[&good[..], b"\r"].concat())], &[[6, 0, 4, 0], [6, 65_537, 5, 0]]);
     listed(&[(6, &[&good[..], b"\n"].concat())], &[[6, 0, 2, 0]]);
-    let mut long = dates(&[DATES, b"W", b"W"]);
+    let mut long = of_lines(&[DATES, b"W", b"W"]);
     long.resize(16_777_216, b'x');
     listed(&[(6, &long)], &[[6, 0, 4, 0], [6, 2, 10, 0], [6, 3, 10, 0], [6, 4, 10, 0]]);
     long.push(b'\n');

@@ -81,6 +81,44 @@ fn every_way_to_give_services_is_reached() {
     assert_eq!(services.len(), 4, "{services:?}");
 }
 
+/// Every type of stop beside a parent of every type, none and one that stands nowhere; nodes and areas with and without name and place; and
+/// stops of every type refused, and of some that aren't of their form, for one empty value or several.
+#[test]
+fn every_way_to_be_a_stop_is_reached() {
+    let mut parents = BTreeSet::new();
+    let mut lacking = BTreeSet::new();
+    let mut refused = BTreeSet::new();
+    for case in (0..SEEDS).map(case) {
+        if let Err(Answer::Refused { number: 12, file: 1, line, .. }) = read(&case.files, [usize::MAX; FILES]) {
+            refused.insert(empty_values(&case.files[0], line));
+        }
+        let Ok(feed) = read(&case.files, [usize::MAX; FILES]) else { continue };
+        for stop in feed[0].rows() {
+            let (kind, id) = (stop.number("location_type"), stop.value("parent_station"));
+            let parent =
+                feed[0].rows().find(|other| other.value("stop_id") == id).map(|other| other.number("location_type"));
+            parents.insert((kind, id.is_empty(), parent.filter(|_| !id.is_empty())));
+            lacking.insert((kind, ["stop_name", "stop_lat"].map(|name| stop.value(name).is_empty())));
+        }
+    }
+    assert_eq!(parents.len(), 5 * (5 + 2), "{parents:?}");
+    assert_eq!(lacking.len(), 3 + 2 * 4, "{lacking:?}");
+    let kinds: BTreeSet<&[u8]> = refused.iter().map(|(kind, _)| &kind[..]).collect();
+    assert!(["", "0", "1", "2", "3", "4", "5", "03"].iter().all(|kind| kinds.contains(kind.as_bytes())), "{refused:?}");
+    let ways: BTreeSet<&Vec<&str>> = refused.iter().map(|(_, empty)| empty).filter(|empty| !empty.is_empty()).collect();
+    assert_eq!(ways.len(), 7, "each of three, each two and all: {ways:?}");
+}
+
+/// The type of a line of stops.txt as it stands, and which of its name and its coordinates are empty.
+fn empty_values(file: &[u8], line: usize) -> (Vec<u8>, Vec<&'static str>) {
+    let rows: Vec<_> = [0, line - 1].map(|place| fields(lines(file)[place]).expect("a line that is cut")).to_vec();
+    let under =
+        |name: &str| rows[0].iter().position(|field| field.value == name.as_bytes()).map(|at| &rows[1][at].value);
+    let named = [("stop_name", "name"), ("stop_lat", "latitude"), ("stop_lon", "longitude")];
+    let empty = named.into_iter().filter(|(column, _)| under(column).is_some_and(Vec::is_empty));
+    (under("location_type").cloned().unwrap_or_default(), empty.map(|(_, name)| name).collect())
+}
+
 /// The lengths of the well-formed characters that a text begins with, and what follows them.
 fn characters(text: &[u8]) -> (BTreeSet<usize>, &[u8]) {
     let mut lengths = BTreeSet::new();

@@ -195,6 +195,17 @@ fn lines() {
     refused(1, &routes(&["B"]), [9, 1, 1, 0, 0]);
 }
 
+/// E10: nodes and boarding areas stand in an index, with name and place or without; one coordinate alone is their file's refusal.
+#[test]
+fn nodes_and_boarding_areas() {
+    let stops = |lines: &str| format!("{STOPS},location_type\n{lines}").into_bytes();
+    index(1, &stops("N,,,,3\nB,,1,2,4\nA,Alder,1,2,\n"), b"TTX\x01\0\x01\x03\0\x03\0\x02\0\x01\0");
+    refused(1, &stops("N,,,,3\nB,,1,,4\n"), [12, 1, 3, 4, 0]);
+    refused(1, &stops("N,,,,3\nB,,,,2\n"), [12, 1, 3, 2, 0]);
+    refused(1, &stops("N,,,,3\nB,,,,5\n"), [12, 1, 3, 2, 0]);
+    refused(1, &stops("N,,,,3\nB,b,1,2,5\n"), [13, 1, 3, 5, 0]);
+}
+
 /// Binding rules aren't tested: a parent that stands nowhere, both names empty, an end before its start.
 #[test]
 fn no_binding_rules() {

@@ -100,13 +100,13 @@ fn the_record_of_a_date() {
     assert_eq!(tables[5], [0, 0, 0, 0, 31, 32, 20240704, 2, 44, 45, 20241224, 1]);
 }
 
-/// A50: rule 3 goes by 8 numbers a trip and 4 a line of file 6, in the order of the files.
+/// A50: rule 3 goes by 8 numbers a trip and 4 a line of file 6, by E10 by 7 a stop, in the order of the files.
 #[test]
 fn rule_3_by_the_new_widths() {
     let files = feed(&[]);
     let whole = tables(&files, 0);
-    assert_eq!(whole.each_ref().map(Vec::len), [24, 6, 10, 16, 24, 12]);
-    for file in [3, 4, 6] {
+    assert_eq!(whole.each_ref().map(Vec::len), [28, 6, 10, 16, 24, 12]);
+    for file in [1, 3, 4, 6] {
         let mut short = whole.clone();
         short[file - 1].pop();
         short[5].pop();

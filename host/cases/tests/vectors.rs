@@ -5,7 +5,7 @@ use cases::{by_model, difference, index, vectors};
 
 #[test]
 fn the_model_agrees_with_every_vector() {
-    assert_eq!(vectors::E4.lines().next(), Some("# Document 01 with requests E2,E1,E6,E7,E4 in force."));
+    assert_eq!(vectors::E10.lines().next(), Some("# Document 01 with requests E2,E1,E6,E7,E4,E10 in force."));
     let vectors = vectors::customers();
     assert_eq!(vectors.len(), 400);
     for (case, wanted) in &vectors {

@@ -9,7 +9,7 @@ use model::{Answer, Files, FILES};
 use std::str::from_utf8;
 
 /// How many seeds are looked at.
-const SEEDS: u64 = 2000;
+const SEEDS: u64 = 4000;
 
 const MARK: &[u8] = b"\xEF\xBB\xBF";
 
@@ -208,7 +208,6 @@ fn by_the_vectors() {
     let but = [
         "14 after 6",
         "14 after 7",
-        "14 after 9",
         "14 before 5",
         "C0 80 for U+0000",
         "F5 to F7 begin four bytes",
@@ -216,7 +215,6 @@ fn by_the_vectors() {
         "a cut character at a line's end",
         "a second mark is ill-formed",
         "any byte after the first of two",
-        "overlong forms of four bytes",
         "overlong forms of two bytes",
         "surrogates in pairs",
         "the CR of an ending goes on",

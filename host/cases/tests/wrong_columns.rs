@@ -6,7 +6,7 @@ use cases::{columns, vectors, Case};
 use model::columns::{Column, COLUMNS};
 use model::fields::{fields, lines, Field, Line};
 use model::forms::{number, Form};
-use model::reading::{read, value_breaks};
+use model::reading::{excused, read, value_breaks};
 use model::Answer;
 use std::str::from_utf8;
 
@@ -20,6 +20,8 @@ struct Cell<'a> {
     raw: &'a [u8],
     value: Vec<u8>,
     table: &'static [Column],
+    /// By E10 the line may leave it empty.
+    excused: bool,
 }
 
 /// Of each name that stands more than once where it stands, the leftmost name first.
@@ -45,7 +47,7 @@ struct Reading {
 const RIGHT: Reading = Reading {
     key: |cell| cell.column().map(|_| cell.name.clone()),
     standing: |names, _| soonest(names).map(|own| own[1]),
-    breaks: |rule, cell| cell.column().is_some_and(|column| value_breaks(rule, column, &cell.value)),
+    breaks,
     pick: |places, _| places.first().copied(),
     count: |place, _| place + 1,
     other: |_, _| 0,
@@ -106,6 +108,12 @@ const NAMES: [(&str, Reading); 12] = [
     ("8 in any case", Reading { key: in_any_case, ..RIGHT }),
     ("8 by names that must be present", Reading { key: must_be_present, ..RIGHT }),
 ];
+
+/// Does a field break this one of rules 11 to 13?
+fn breaks(rule: usize, cell: &Cell) -> bool {
+    let broken = cell.column().is_some_and(|column| value_breaks(rule, column, &cell.value));
+    broken && !(rule == 12 && cell.excused)
+}
 
 impl Cell<'_> {
     /// Its column, if it is known.
@@ -257,11 +265,15 @@ fn cells<'a>(file: &'a [u8], line: usize, table: &'static [Column]) -> Vec<Cell<
     let lines = if line > 0 { lines(file) } else { Vec::new() };
     let Some(&Line { start, text }) = lines.get(line.wrapping_sub(1)) else { return Vec::new() };
     let (Some(names), Some(fields)) = (fields(lines[0]), fields(lines[line - 1])) else { return Vec::new() };
-    let cell = |(name, field): (Field, Field)| {
+    let pairs: Vec<(&Field, &Field)> = names.iter().zip(&fields).collect();
+    let under = |name: &str| pairs.iter().find(|pair| pair.0.value == name.as_bytes());
+    let excused =
+        |name: &[u8]| excused(&String::from_utf8_lossy(name), |name| under(name).map_or(b"", |pair| &pair.1.value));
+    let cell = |(name, field): &(&Field, &Field)| {
         let (before, raw) = text[..field.end - start].split_at(field.start - start);
-        Cell { name: name.value, before, raw, value: field.value, table }
+        Cell { name: name.value.clone(), before, raw, value: field.value.clone(), table, excused: excused(&name.value) }
     };
-    names.into_iter().zip(fields).map(cell).collect()
+    pairs.iter().map(cell).collect()
 }
 
 /// Fails unless the right reading gives the model's column of every refusal, and each wrong one but these another of some.
@@ -276,8 +288,8 @@ fn told_apart(cases: impl Iterator<Item = Case>, but: &[&str]) {
     missed.are(but);
 }
 
-/// What the customer's feeds lack: left of the value that is named one that breaks another of rules 11 to 13, or seems to break this one;
-/// names three times, one pair inside the other, or right of an unknown one that stands twice.
+/// What the customer's feeds lack: left of the value that is named one that only seems to break the rule; a long parent_station; columns in
+/// another order than the table's where several break a rule; names right of an unknown one that stands twice.
 #[test]
 fn by_the_vectors() {
     let but = [
@@ -285,17 +297,13 @@ fn by_the_vectors() {
         "11 from 64 bytes on",
         "11 in every known column",
         "11 in unread columns of ids",
+        "11 not in parent_station",
         "12 by empty times",
-        "12 by every empty known value",
-        "12 by every empty value",
-        "12 by raw bytes",
+        "13 by another file's columns",
         "8 by another file's names",
         "8 by unknown names",
         "8 in any case",
-        "8 the last standing",
-        "8 the second of the leftmost name",
-        "8 the second of the table's first",
-        "a value that breaks any of 11 to 13",
+        "the first value by the table",
     ];
     told_apart(vectors::customers().into_iter().map(|(case, _)| case), &but);
 }

@@ -13,7 +13,7 @@ pub struct Column {
 }
 
 impl Column {
-    /// Its values must be non-empty: the must-be-present columns but for the two times.
+    /// Its values must be non-empty: the must-be-present columns but for the two times. Some lines of stops are excused (`reading::excused`).
     pub fn needed(&self) -> bool {
         self.present && !matches!(self.form, Form::Time)
     }
@@ -35,6 +35,7 @@ const fn may(name: &'static str, form: Form) -> Column {
 const DAY: Form = Form::Choice(&["0", "1"], 0);
 const UP_TO_2: Form = Form::Choice(&["0", "1", "2"], 0);
 const UP_TO_3: Form = Form::Choice(&["0", "1", "2", "3"], 0);
+const UP_TO_4: Form = Form::Choice(&["0", "1", "2", "3", "4"], 0);
 const ONE_OR_NONE: Form = Form::Choice(&["0", "1"], -1);
 const ONE_OR_TWO: Form = Form::Choice(&["1", "2"], 0);
 const ROUTE_TYPE: Form = Form::Choice(&["0", "1", "2", "3", "4", "5", "6", "7", "11", "12"], 0);
@@ -44,7 +45,7 @@ const STOPS: &[Column] = &[
     must("stop_name", Form::Text),
     must("stop_lat", Form::Coordinate(90)),
     must("stop_lon", Form::Coordinate(180)),
-    may("location_type", UP_TO_2),
+    may("location_type", UP_TO_4),
     may("parent_station", Form::Text),
 ];
 
@@ -95,4 +96,4 @@ const CALENDAR_DATES: &[Column] =
 pub const COLUMNS: [&[Column]; FILES] = [STOPS, ROUTES, CALENDAR, TRIPS, STOP_TIMES, CALENDAR_DATES];
 
 /// How many numbers a record of each file has.
-pub const WIDTHS: [usize; FILES] = [6, 3, 5, 8, 8, 4];
+pub const WIDTHS: [usize; FILES] = [7, 3, 5, 8, 8, 4];

@@ -130,17 +130,21 @@ fn unresolved(feed: &Feed, file: usize, own: Row) -> Vec<Fact> {
 fn parent(feed: &Feed, own: Row) -> Facts {
     let id = own.value("parent_station");
     let line = Some(id).filter(|id| !id.is_empty()).and_then(|id| first_line(feed, 1, "stop_id", id));
+    let parent = line.map(|line| row(feed, 1, line).number("location_type"));
     let mut clauses = Vec::new();
-    if own.number("location_type") == 1 && !id.is_empty() {
-        clauses.push(text("station_with_parent"));
+    match own.number("location_type") {
+        1 if !id.is_empty() => clauses.push(text("station_with_parent")),
+        2 if id.is_empty() => clauses.push(text("entrance_without_parent")),
+        3 if id.is_empty() => clauses.push(text("node_without_parent")),
+        4 if id.is_empty() => clauses.push(text("boarding_area_without_parent")),
+        _ => {}
     }
-    if own.number("location_type") == 2 && id.is_empty() {
-        clauses.push(text("entrance_without_parent"));
+    match (own.number("location_type"), parent) {
+        (_, None) | (4, Some(0)) | (0..=3, Some(1)) => {}
+        (4, Some(_)) => clauses.push(text("parent_is_no_platform")),
+        _ => clauses.push(text("parent_is_no_station")),
     }
-    if line.is_some_and(|line| row(feed, 1, line).number("location_type") != 1) {
-        clauses.push(text("parent_is_no_station"));
-    }
-    let kind = line.map_or(Fact::None, |line| stored(row(feed, 1, line), "location_type"));
+    let kind = parent.map_or(Fact::None, |kind| Fact::Number(kind.into()));
     vec![
         ("clauses", Fact::List(clauses)),
         ("location_type", stored(own, "location_type")),

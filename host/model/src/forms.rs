@@ -1,4 +1,4 @@
-//! The value forms: from a value that isn't empty to the number stored, or none where it is not of its form.
+//! The value forms: from a value to the number stored, or none where it is not of its form.
 
 /// What a column's values look like.
 #[derive(Clone, Copy, Debug)]
@@ -20,6 +20,8 @@ pub fn number(form: Form, value: &[u8]) -> Option<i32> {
         Form::Text => Some(0),
         Form::Time if value.is_empty() => Some(-1),
         Form::Choice(_, empty) if value.is_empty() => Some(empty),
+        // Without a place, which rule 12 allows some lines.
+        Form::Coordinate(_) if value.is_empty() => Some(0),
         Form::Time => time(value),
         Form::Date => date(value),
         Form::Coordinate(limit) => coordinate(value, limit),

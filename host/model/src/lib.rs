@@ -1,4 +1,4 @@
-//! The whole check of document 01 with requests E2, E1, E6 and E7, written naively from the documents: files in, tables, list and answer out;
+//! The whole check of document 01 with requests E2, E1, E6, E7 and E10, written naively from the documents: files in, tables, list and answer out;
 //! request E4's index, and issue 19's list of all faults.
 #![forbid(unsafe_code)]
 

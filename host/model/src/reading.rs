@@ -189,14 +189,28 @@ pub fn row(line: Line, columns: &[Column], header: &[Vec<u8>]) -> Result<Vec<Fie
 
 /// Rules 11 to 13: the leftmost column, counted from 1, whose value breaks this one. Unknown columns break none.
 pub fn leftmost(number: usize, fields: &[Field], columns: &[Column], header: &[Vec<u8>]) -> Option<usize> {
+    let under = |name: &str| header.iter().zip(fields).find(|(have, _)| *have == name.as_bytes());
+    let value = |name: &str| under(name).map_or(&[][..], |(_, field)| &field.value);
     let breaks = |place: &usize| {
         let column = columns.iter().find(|column| column.name.as_bytes() == header[place - 1]);
-        column.is_some_and(|column| value_breaks(number, column, &fields[place - 1].value))
+        let broken = |column| value_breaks(number, column, &fields[place - 1].value);
+        column.is_some_and(|column| broken(column) && !(number == 12 && excused(column.name, value)))
     };
     (1..=fields.len()).find(breaks)
 }
 
-/// Does a value under a known column break this one of rules 11 to 13?
+/// Rule 12 by E10: may a line with these values leave the one under this column empty, though others may not? A node or a boarding area,
+/// whose type has to be written as such, may do so with its name, and with its coordinates together.
+pub fn excused<'a>(column: &str, value: impl Fn(&str) -> &'a [u8]) -> bool {
+    let node_or_area = matches!(value("location_type"), b"3" | b"4");
+    match column {
+        "stop_name" => node_or_area,
+        "stop_lat" | "stop_lon" => node_or_area && value("stop_lat").is_empty() && value("stop_lon").is_empty(),
+        _ => false,
+    }
+}
+
+/// Does a value under a known column break this one of rules 11 to 13, on a line that isn't excused?
 pub fn value_breaks(rule: usize, column: &Column, value: &[u8]) -> bool {
     match rule {
         11 => column.is_id() && value.len() > 64,

@@ -108,7 +108,9 @@ fn stop(row: Row, named: &Named) -> Vec<i32> {
     let [start, end] = bounds(row, "stop_id");
     let place = [row.number("stop_lat"), row.number("stop_lon")];
     let parent = reference(row, "parent_station", &named.stops);
-    vec![start, end, place[0], place[1], row.number("location_type"), parent]
+    // Rule 12 lets no line have one coordinate alone.
+    let has_place = !row.value("stop_lat").is_empty();
+    vec![start, end, place[0], place[1], row.number("location_type"), parent, has_place.into()]
 }
 
 fn route(row: Row) -> Vec<i32> {

@@ -52,9 +52,23 @@ fn stops(feed: &Feed, named: &Named, findings: &mut Vec<Finding>) {
         let has_parent = !row.value("parent_station").is_empty();
         let parent = if has_parent { named.stops.record(row.value("parent_station")) } else { 0 };
         let station_with_parent = kind == 1 && has_parent;
-        let entrance_without = kind == 2 && !has_parent;
-        let parent_no_station = parent > 0 && feed[0].record(parent).number("location_type") != 1;
-        add(findings, 1, place, 22, station_with_parent || entrance_without || parent_no_station);
+        let parent_lacking = needs_parent(kind) && !has_parent;
+        let other_parent = parent > 0 && feed[0].record(parent).number("location_type") != parent_of(kind);
+        add(findings, 1, place, 22, station_with_parent || parent_lacking || other_parent);
+    }
+}
+
+/// Does a stop of this type need a parent: an entrance, a node, a boarding area?
+fn needs_parent(kind: i32) -> bool {
+    [2, 3, 4].contains(&kind)
+}
+
+/// The type that the parent of a stop of this type has to have: a boarding area's is a stop or platform, any other's a station.
+fn parent_of(kind: i32) -> i32 {
+    if kind == 4 {
+        0
+    } else {
+        1
     }
 }
 

@@ -48,13 +48,15 @@ fn stops(stops: &[Stop], ids: &Ids, table: &mut [i32], found: &mut Findings) {
     for (record, stop, room) in records(stops, table, 1) {
         let has_parent = !stop.parent.is_empty();
         let parent = if has_parent { ids.record(stop.parent) } else { 0 };
-        let [latitude, longitude] = stop.place;
-        room.copy_from_slice(&[stop.id.start, stop.id.end, latitude, longitude, stop.kind, parent as i32]);
+        let [latitude, longitude] = stop.place.unwrap_or_default();
+        let mark = stop.place.is_some().into();
+        room.copy_from_slice(&[stop.id.start, stop.id.end, latitude, longitude, stop.kind, parent as i32, mark]);
         found.add(1, record, 20, ids.repeated[record - 1]);
         found.add(1, record, 21, has_parent && parent == 0);
-        let no_station = parent > 0 && stops[parent - 1].kind != 1;
-        let unfit = if has_parent { stop.kind == 1 } else { stop.kind == 2 };
-        found.add(1, record, 22, unfit || no_station);
+        // A boarding area's parent is of type 0, all others' of type 1.
+        let unfit_parent = parent > 0 && stops[parent - 1].kind != i32::from(stop.kind != 4);
+        let unfit = if has_parent { stop.kind == 1 } else { stop.kind >= 2 };
+        found.add(1, record, 22, unfit || unfit_parent);
     }
 }
 

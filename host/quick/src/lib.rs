@@ -1,4 +1,4 @@
-//! The whole check of document 01 with E2, E1, E6 and E7 by hash maps, written for speed: lines are sorted only where they have to be.
+//! The whole check of document 01 with E2, E1, E6, E7 and E10 by hash maps, written for speed: lines are sorted only where they have to be.
 #![forbid(unsafe_code)]
 
 mod filling;

@@ -7,7 +7,7 @@ use crate::row::{Broken, Row};
 use model::{Answer, Files, FILES};
 
 /// How many numbers a record of each table has.
-pub const WIDTHS: [usize; FILES] = [6, 3, 5, 8, 8, 4];
+pub const WIDTHS: [usize; FILES] = [7, 3, 5, 8, 8, 4];
 
 const MOST_BYTES: usize = 16_777_216;
 const MOST_LINES: usize = 65_536;

@@ -14,7 +14,8 @@ pub trait Record<'a>: Sized {
 
 pub struct Stop<'a> {
     pub id: Id<'a>,
-    pub place: [i32; 2],
+    /// Latitude and longitude; none on a line without them.
+    pub place: Option<[i32; 2]>,
     pub kind: i32,
     pub parent: &'a [u8],
 }
@@ -25,9 +26,15 @@ impl<'a> Record<'a> for Stop<'a> {
 
     fn read(row: &mut Row<'_, 'a>) -> Self {
         let id = row.needed_id(0);
-        row.needed_text(1);
-        let place = [row.needed(2, latitude), row.needed(3, longitude)];
-        Stop { id, place, kind: row.number(4, 0, up_to::<2>), parent: row.reference(5) }
+        // A type that isn't of its form is read as 0.
+        let kind = row.number(4, 0, up_to::<4>);
+        let node_or_area = kind > 2;
+        if !node_or_area {
+            row.needed_text(1);
+        }
+        let nowhere = node_or_area && row.text(2).is_empty() && row.text(3).is_empty();
+        let place = (!nowhere).then(|| [row.needed(2, latitude), row.needed(3, longitude)]);
+        Stop { id, place, kind, parent: row.reference(5) }
     }
 }
 

@@ -28,6 +28,7 @@ const ROUTE_TYPE: &str = "0 to 7, 11 or 12";
 const TO_1: &str = "0 or 1";
 const TO_2: &str = "0, 1 or 2";
 const TO_3: &str = "0, 1, 2 or 3";
+const TO_4: &str = "0, 1, 2, 3 or 4";
 const ADDED_OR_REMOVED: &str = "1 (added) or 2 (removed)";
 
 const STOPS: &[Column] = &[
@@ -35,7 +36,7 @@ const STOPS: &[Column] = &[
     must("stop_name", ""),
     must("stop_lat", LATITUDE),
     must("stop_lon", LONGITUDE),
-    may("location_type", TO_2),
+    may("location_type", TO_4),
     may("parent_station", ""),
 ];
 

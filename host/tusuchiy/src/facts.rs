@@ -156,16 +156,10 @@ impl<'a> Facts<'a> {
         let id = self.value(1, line, "parent_station");
         let parent = self.named(PARENT, line);
         let parent_kind = parent.map(|parent| self.number(LOCATION_TYPE, parent));
-        let mut clauses = Vec::new();
-        if kind == 1 && !id.is_empty() {
-            clauses.push(("station_with_parent", format!("a station has the parent_station {}", shown(&id))));
-        }
-        if kind == 2 && id.is_empty() {
-            clauses.push(("entrance_without_parent", "an entrance has no parent_station".to_string()));
-        }
-        if let (Some(parent), Some(other @ (0 | 2..))) = (parent, parent_kind) {
+        let mut clauses: Vec<(&str, String)> = own_clause(kind, &id).into_iter().collect();
+        if let (Some(parent), Some(other)) = (parent, parent_kind) {
             let words = format!("its parent_station {} on line {parent} has location_type {other}", shown(&id));
-            clauses.push(("parent_is_no_station", words));
+            clauses.extend(parent_clause(kind, other).map(|(clause, wanted)| (clause, words + wanted)));
         }
         let members = vec![
             ("clauses", Value::texts(clauses.iter().map(|(clause, _)| clause))),
@@ -394,6 +388,37 @@ fn referring(file: usize) -> &'static [(&'static str, &'static [(File, Cell)])] 
             ("service_id", &[(File::Calendar, SERVICE), (File::CalendarDates, SERVICE_DATE)]),
         ],
         _ => &[("trip_id", &[(File::Trips, TRIP)]), ("stop_id", &[(File::Stops, STOP)])],
+    }
+}
+
+/// What a parent has to be, of a boarding area and of any other stop.
+const WANTED_PLATFORM: &str = ", wanted: a stop or platform (location_type 0)";
+const WANTED_STATION: &str = ", wanted: a station (location_type 1)";
+
+/// The clause of rule 22 that a stop of this type breaks by having a parent_station, or by having none.
+fn own_clause(kind: i32, parent: &[u8]) -> Option<(&'static str, String)> {
+    let (clause, who, wanted) = match (kind, parent) {
+        (1, [_, ..]) => {
+            return Some((
+                "station_with_parent",
+                format!("a station has the parent_station {}, wanted: none", shown(parent)),
+            ))
+        }
+        (2, []) => ("entrance_without_parent", "an entrance", WANTED_STATION),
+        (3, []) => ("node_without_parent", "a generic node", WANTED_STATION),
+        (4, []) => ("boarding_area_without_parent", "a boarding area", WANTED_PLATFORM),
+        _ => return None,
+    };
+    Some((clause, format!("{who} has no parent_station{wanted}")))
+}
+
+/// The clause that it breaks by its parent's type, and what that should be; a station should have none, which is said already.
+fn parent_clause(kind: i32, parent: i32) -> Option<(&'static str, &'static str)> {
+    match (kind, parent) {
+        (4, 0) | (0..=3, 1) => None,
+        (4, _) => Some(("parent_is_no_platform", WANTED_PLATFORM)),
+        (1, _) => Some(("parent_is_no_station", "")),
+        _ => Some(("parent_is_no_station", WANTED_STATION)),
     }
 }
 

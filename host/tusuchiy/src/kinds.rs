@@ -28,7 +28,7 @@ struct Known {
 
 /// All that differs from file to file, in the order of their numbers.
 const KNOWN: [Known; FILES] = [
-    Known { name: "stops.txt", index: Some("stops.ttx"), width: 6, may_be_missing: false },
+    Known { name: "stops.txt", index: Some("stops.ttx"), width: 7, may_be_missing: false },
     Known { name: "routes.txt", index: Some("routes.ttx"), width: 3, may_be_missing: false },
     Known { name: "calendar.txt", index: Some("calendar.ttx"), width: 5, may_be_missing: true },
     Known { name: "trips.txt", index: Some("trips.ttx"), width: 8, may_be_missing: false },

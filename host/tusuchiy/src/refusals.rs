@@ -22,11 +22,13 @@ pub struct Reasons<'a> {
     feed: &'a Feed,
     headers: [OnceCell<Vec<Range<usize>>>; FILES],
     all_fit: [OnceCell<bool>; FILES],
+    type_field: OnceCell<Option<usize>>,
 }
 
 impl<'a> Reasons<'a> {
     pub fn new(feed: &'a Feed) -> Self {
-        Reasons { feed, headers: Default::default(), all_fit: Default::default() }
+        let (headers, all_fit) = Default::default();
+        Reasons { feed, headers, all_fit, type_field: OnceCell::new() }
     }
 
     /// What the verdict's refusal is about; where a file is missing, all that are.
@@ -114,13 +116,36 @@ impl<'a> Reasons<'a> {
                 members.extend([shown_value(&value), bytes, limit]);
                 format!("{} {} has {} bytes", column.name, shown(&value), value.len())
             }
-            12 => format!("{} is empty", column.name),
+            12 => format!("{} is empty{}", column.name, self.why_needed(refusal.file, column.name, text)),
             _ => {
                 members.extend([shown_value(&value), ("wanted", Value::text(column.form))]);
                 format!("{} is {}, wanted: {}", column.name, shown(&value), column.form)
             }
         };
         Some(About { words, members })
+    }
+
+    /// The field of stops.txt that is the type, counted from 1.
+    fn type_field(&self) -> Option<usize> {
+        let is_type = |place: &usize| self.name(1, place - 1).as_deref() == Some(b"location_type");
+        *self.type_field.get_or_init(|| (1..=self.header(1).len()).find(is_type))
+    }
+
+    /// Why a stop may not lack a value that a node or a boarding area may.
+    fn why_needed(&self, file: usize, column: &str, text: &[u8]) -> String {
+        let other = match (file, column) {
+            (1, "stop_name") => None,
+            (1, "stop_lat") => Some("stop_lon"),
+            (1, "stop_lon") => Some("stop_lat"),
+            _ => return String::new(),
+        };
+        let own = self.type_field().and_then(|place| field(text, place));
+        let kind = own.map_or(Cow::Borrowed(&[][..]), |field| value(&text[field]));
+        match (&*kind, other) {
+            (b"3" | b"4", Some(other)) => format!(" and {other} isn't, wanted: both or neither"),
+            (b"" | b"0" | b"1" | b"2", _) => String::new(),
+            _ => format!("; location_type {} counts as 0", shown(&kind)),
+        }
     }
 }
 

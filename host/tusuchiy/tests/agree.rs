@@ -200,6 +200,6 @@ fn the_limits_speak_in_their_order() {
     refused(&case, 2, 1);
     case.files[0].pop();
     refused(&case, 3, 1);
-    case.tables[0] = vec![9; 65_536 * 6];
+    case.tables[0] = vec![9; 65_536 * 7];
     refused(&case, 4, 2);
 }

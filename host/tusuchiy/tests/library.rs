@@ -130,13 +130,14 @@ fn a_feed_that_can_be_read_has_no_faults() {
 #[test]
 fn tables_are_long_enough_and_filled() {
     let files = example_files("feed");
-    assert_eq!(table_sizes(slices(&files)), [6 * 6, 2 * 3, 3 * 5, 3 * 8, 7 * 8, 0]);
+    assert_eq!(table_sizes(slices(&files)), [6 * 7, 2 * 3, 3 * 5, 3 * 8, 7 * 8, 0]);
     let mut check = Check::new(slices(&files)).expect("memory");
     assert_eq!(check.verdict().expect("an answer"), Verdict::Accepted);
-    assert_eq!(check.tables()[0][File::Stops.width() + 2..][..2], [525_251_000, 133_694_000]);
+    // A station without a parent, and with a place.
+    assert_eq!(check.tables()[0][File::Stops.width() + 2..][..5], [525_251_000, 133_694_000, 1, 0, 1]);
     assert_eq!(check.into_tables().map(|table| table.len()), table_sizes(slices(&files)));
     let long = vec![b'\n'; 70_000];
-    assert_eq!(table_sizes([&long, b"", b"x", b"\n", b"", b"\n\n"]), [6 * 65_536, 0, 0, 8, 0, 8]);
+    assert_eq!(table_sizes([&long, b"", b"x", b"\n", b"", b"\n\n"]), [7 * 65_536, 0, 0, 8, 0, 8]);
 }
 
 /// The feed by date: what its trips and its dates have in their tables, by hand.

@@ -27,6 +27,7 @@ fn wanted(form: Form) -> &'static str {
         Form::Choice(["0", "1"], _) => "0 or 1",
         Form::Choice(["0", "1", "2"], _) => "0, 1 or 2",
         Form::Choice(["0", "1", "2", "3"], _) => "0, 1, 2 or 3",
+        Form::Choice(["0", "1", "2", "3", "4"], _) => "0, 1, 2, 3 or 4",
         Form::Choice(["1", "2"], _) => "1 (added) or 2 (removed)",
         Form::Choice(..) => "0 to 7, 11 or 12",
     }
@@ -396,16 +397,23 @@ fn words_about_a_trips_service() {
 #[test]
 fn words_about_other_files() {
     let stops = "stop_id,stop_name,stop_lat,stop_lon,location_type,parent_station\n\
-                 MAIN,m,1,1,1,MAIN\nMAIN,m,1,1,,\nE,e,1,1,2,\nP,p,1,1,0,E\nQ,q,1,1,,X\n";
+                 MAIN,m,1,1,1,MAIN\nMAIN,m,1,1,,\nE,e,1,1,2,\nP,p,1,1,0,E\nQ,q,1,1,,X\n\
+                 N,,,,3,\nO,,,,3,P\nB,,,,4,\nC,,,,4,MAIN\nD,,,,4,P\nT,t,1,1,1,P\n";
     let found = words_of("stops.txt", stops);
+    let (station, platform) = ("a station (location_type 1)", "a stop or platform (location_type 0)");
     let wanted = [
-        "2:22: a station has the parent_station \"MAIN\"",
+        "2:22: a station has the parent_station \"MAIN\", wanted: none",
         "3:20: stop_id \"MAIN\" stands on line 2 already",
-        "4:22: an entrance has no parent_station",
-        "5:22: its parent_station \"E\" on line 4 has location_type 2",
+        &format!("4:22: an entrance has no parent_station, wanted: {station}"),
+        &format!("5:22: its parent_station \"E\" on line 4 has location_type 2, wanted: {station}"),
         "6:21: parent_station \"X\" stands on no line of stops.txt",
+        &format!("7:22: a generic node has no parent_station, wanted: {station}"),
+        &format!("8:22: its parent_station \"P\" on line 5 has location_type 0, wanted: {station}"),
+        &format!("9:22: a boarding area has no parent_station, wanted: {platform}"),
+        &format!("10:22: its parent_station \"MAIN\" on line 2 has location_type 1, wanted: {platform}"),
+        "12:22: a station has the parent_station \"P\", wanted: none; its parent_station \"P\" on line 5 has location_type 0",
     ];
-    assert_eq!(found[..5], wanted);
+    assert_eq!(found[..10], wanted);
     let routes = words_of("routes.txt", "route_id,route_short_name,route_type\nB7,,3\n");
     assert_eq!(routes, ["2:25: route_short_name and route_long_name are both empty"]);
     let header = "service_id,monday,tuesday,wednesday,thursday,friday,saturday,sunday,start_date,end_date\n";
@@ -444,6 +452,29 @@ fn words_about_refusals() {
     assert_eq!(words_of("routes.txt", &many), ["0:2: it has 65537 lines"]);
     let long = "\n".repeat(16_777_217);
     assert_eq!(words_of("routes.txt", &long), ["0:1: it has more than 16777216 bytes"]);
+}
+
+/// The words about stops that lack a name or a coordinate, which some types may.
+#[test]
+fn words_about_empty_values_of_stops() {
+    let other = |one: &str, other: &str| format!("2:12: {one} is empty and {other} isn't, wanted: both or neither");
+    for (line, wanted) in [
+        ("N,,1,2,0", "2:12: stop_name is empty"),
+        ("N,n,,,", "2:12: stop_lat is empty"),
+        ("N,n,1,,2", "2:12: stop_lon is empty"),
+        ("N,,1,,3", &other("stop_lon", "stop_lat")),
+        ("N,n,,x,\"4\"", &other("stop_lat", "stop_lon")),
+        (",,,,3", "2:12: stop_id is empty"),
+        ("N,,,,03", "2:12: stop_name is empty; location_type \"03\" counts as 0"),
+        ("N,n,1,\"\", 4", "2:12: stop_lon is empty; location_type \" 4\" counts as 0"),
+        ("N,n,1,2,5", "2:13: location_type is \"5\", wanted: 0, 1, 2, 3 or 4"),
+    ] {
+        let stops = format!("stop_id,stop_name,stop_lat,stop_lon,location_type\n{line}\n");
+        assert_eq!(words_of("stops.txt", &stops), [wanted], "{line}");
+    }
+    // Without the column all are of type 0, and a column of another name is none.
+    let stops = "stop_id,stop_name,stop_lat,stop_lon,Location_type\nN,,,,3\n";
+    assert_eq!(words_of("stops.txt", stops), ["2:12: stop_name is empty"]);
 }
 
 /// Files of routes that aren't UTF-8, behind the header where they begin with H, and the words about them, found by hand.

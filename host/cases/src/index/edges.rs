@@ -1,6 +1,7 @@
 //! Indexes at their edges: every two ids in either order, every way to be a wrong index beside every other, files that can't be read, buffers.
 
 use super::{base_line, sorted, Asked, Case};
+use crate::nodes;
 use model::columns::COLUMNS;
 use model::fields::value;
 use model::forms::Form;
@@ -342,10 +343,19 @@ fn every_state() -> Vec<Case> {
     cases
 }
 
+/// stops.txt with nodes and boarding areas, some of which can't be read.
+fn of_nodes() -> Vec<Case> {
+    let calls = |case: crate::Case| {
+        let index = bytes(1, &sorted(1, &case.files[0]));
+        [write(1, &case.files[0], index.len()), check(1, &case.files[0], index)]
+    };
+    nodes::cases().into_iter().step_by(7).flat_map(calls).collect()
+}
+
 /// Every call about an index; those that tell most apart come first.
 pub fn cases() -> Vec<Case> {
     let lists = [every_list(), every_byte(), high_bytes_first(), many_records(), every_way_at_once()].concat();
-    let mut cases = [every_state(), all_ids(), lists, pairs()].concat();
+    let mut cases = [every_state(), all_ids(), lists, pairs(), of_nodes()].concat();
     cases.iter_mut().enumerate().for_each(|(place, case)| case.name = format!("edge case {place}"));
     cases
 }

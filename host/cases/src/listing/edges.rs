@@ -2,6 +2,7 @@
 
 use super::{Case, NUMBERS};
 use crate::edges::{base, odd_files, BASE, MARK};
+use crate::nodes;
 use model::faults::{faults, Fault};
 use model::fields::line_ends;
 use model::{Files, FILES};
@@ -224,8 +225,14 @@ pub fn at_the_limits(file: usize) -> Vec<Case> {
     cases
 }
 
+/// Stops of every type on which values are empty or malformed; the list has room for all of them.
+fn of_nodes() -> Vec<Case> {
+    let file = |file: String| Case { list: vec![-9; 300 * NUMBERS], ..with_file(0, file.into_bytes()) };
+    nodes::files().into_iter().map(file).collect()
+}
+
 /// Every small case.
 pub fn cases() -> Vec<Case> {
     let each = |of: fn(usize) -> Vec<Case>| (0..FILES).flat_map(of).collect::<Vec<_>>();
-    [each(under_headers), each(on_one_line), each(at_the_end), of_services(), in_files(), pages()].concat()
+    [each(under_headers), each(on_one_line), each(at_the_end), of_services(), of_nodes(), in_files(), pages()].concat()
 }

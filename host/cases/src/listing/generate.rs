@@ -52,9 +52,9 @@ fn damaged(mut grid: Grid, file: usize, random: &mut Random) -> Vec<u8> {
     }
     match random.below(4000) {
         // Files over a limit take much memory.
-        0 => bytes.resize(16_777_217, *random.pick(b"\nx")),
-        1..=4 => break_bytes(&mut bytes, 2, random),
-        5..=900 => break_bytes(&mut bytes, 4, random),
+        0 | 1 => bytes.resize(16_777_217, *random.pick(b"\nx")),
+        2..=5 => break_bytes(&mut bytes, 2, random),
+        6..=900 => break_bytes(&mut bytes, 4, random),
         901..=1200 => truncate(&mut bytes, random),
         1201..=1500 => mutate(&mut bytes, random),
         _ => {}

@@ -137,9 +137,11 @@ fn stop_lines(subject: &Subject) -> std::ops::RangeInclusive<usize> {
     2..=if subject.refused() { 0 } else { subject.feed.line_count(1) }
 }
 
-/// Latitude and longitude in ten-millionths of a degree, id and name of a stop.
+/// Latitude and longitude in ten-millionths of a degree, both null of a stop without a place; its id and name.
 fn stop_row(subject: &Subject, headers: &Headers, line: usize) -> Value {
-    let [latitude, longitude] = [2, 3].map(|place| Value::Number(number(subject, 1, line, place).into()));
+    let has_place = number(subject, 1, line, 6) == 1;
+    let coordinate = |place| Value::Number(number(subject, 1, line, place).into());
+    let [latitude, longitude] = [2, 3].map(|place| if has_place { coordinate(place) } else { Value::Null });
     let [id, name] = ["stop_id", "stop_name"].map(|column| Value::text(name(subject, headers, 1, line, column)));
     Value::List(vec![latitude, longitude, id, name])
 }

@@ -286,10 +286,13 @@ function countFaulty() {
   }
 }
 
-// Where each stop lies in a square of 10,000: degrees, narrowed by the latitude.
+// A generic node or a boarding area may have no coordinates: it is on no map.
+const hasPlace = ([lat]) => lat !== null;
+
+// Where each stop lies in a square of 10,000: degrees, narrowed by the latitude; null for one without a place.
 function project() {
   const all = stops(), bounds = [Infinity, -Infinity, Infinity, -Infinity];
-  for (const [lat, lon] of all) {
+  for (const [lat, lon] of all.filter(hasPlace)) {
     bounds[0] = Math.min(bounds[0], lat); bounds[1] = Math.max(bounds[1], lat);
     bounds[2] = Math.min(bounds[2], lon); bounds[3] = Math.max(bounds[3], lon);
   }
@@ -299,13 +302,14 @@ function project() {
   const place = (lat, lon) => [(lon - (west + east) / 2) * narrow / size, ((south + north) / 2 - lat) / size];
   return { size, narrow, middle: [(south + north) / 2, (west + east) / 2], place,
     wide: (east - west) * narrow / size, high: (north - south) / size,
-    points: all.map(([lat, lon]) => place(lat / 1e7, lon / 1e7)) };
+    points: all.map((stop) => hasPlace(stop) ? place(stop[0] / 1e7, stop[1] / 1e7) : null) };
 }
 
-const dots = (lines) => lines.map((line) => { const [x, y] = ground.points[line - 2]; return `M${x.toFixed(1)} ${y.toFixed(1)}h.01`; }).join("");
+const onMap = (lines) => [...lines].filter((line) => ground.points[line - 2]);
+const dots = (lines) => onMap(lines).map((line) => { const [x, y] = ground.points[line - 2]; return `M${x.toFixed(1)} ${y.toFixed(1)}h.01`; }).join("");
 
 function startMap() {
-  if (!stops().length) return;
+  if (!stops().some(hasPlace)) return;
   byId("map-section").hidden = false;
   countFaulty();
   ground = project();
@@ -326,9 +330,10 @@ function startMap() {
 }
 
 function mapWords(own, calls) {
-  const count = grouped(stops().length);
-  if (!own && !calls) return `${count} stops by their coordinates, none with a finding.`;
-  return `${count} stops by their coordinates, ${grouped(own + calls)} with findings.`;
+  const placed = stops().filter(hasPlace).length, more = stops().length - placed;
+  const count = `${grouped(placed)} stops by their coordinates${more ? `, ${grouped(more)} more without any` : ""}`;
+  if (!own && !calls) return `${count}, none with a finding.`;
+  return `${count}, ${grouped(own + calls)} with findings.`;
 }
 
 function showLegend(own, calls) {
@@ -399,7 +404,8 @@ function paintGrid(scale) {
 
 // Names beside the faulty stops where these are few, and a ring around the one that is chosen.
 function markStop() {
-  const named = faulty.size <= 12 ? [...faulty.keys()] : [];
+  if (!ground) return;
+  const named = faulty.size <= 12 ? onMap(faulty.keys()) : [];
   const parts = [], taken = [];
   for (const line of named) {
     const [x, y] = onScreen(ground.points[line - 2]), name = stopName(line), end = x + 14 + name.length * 7;
@@ -408,7 +414,7 @@ function markStop() {
     taken.push({ x, y, end });
     parts.push(draw("text", { class: "label", x: x + 10, y: y + 4 }, name));
   }
-  if (chosen.stop) {
+  if (chosen.stop && ground.points[chosen.stop - 2]) {
     const [x, y] = onScreen(ground.points[chosen.stop - 2]);
     parts.push(draw("circle", { class: "chosen-stop", cx: x, cy: y, r: 12 }));
   }
@@ -429,7 +435,7 @@ function move(x, y) {
 // The faulty stop nearest to a point of the picture, if one is near.
 function stopAt(x, y) {
   let nearest = 0, least = 16;
-  for (const line of faulty.keys()) {
+  for (const line of onMap(faulty.keys())) {
     const [stopX, stopY] = onScreen(ground.points[line - 2]), distance = Math.hypot(stopX - x, stopY - y);
     if (distance < least) { nearest = line; least = distance; }
   }
@@ -489,8 +495,8 @@ function startFilters() {
   byId("filter-number").onchange = (event) => { chosen.number = Number(event.target.value); choose(); };
   byId("filter-text").oninput = (event) => { chosen.text = event.target.value; later(); };
   byId("filter").onsubmit = (event) => { event.preventDefault(); choose(); };
-  byId("filter").onreset = () => { Object.assign(chosen, { file: 0, number: 0, stop: 0, text: "" }); choose(); if (ground) markStop(); };
-  byId("stop-filter-clear").onclick = () => { chosen.stop = 0; choose(); if (ground) markStop(); };
+  byId("filter").onreset = () => { Object.assign(chosen, { file: 0, number: 0, stop: 0, text: "" }); choose(); markStop(); };
+  byId("stop-filter-clear").onclick = () => { chosen.stop = 0; choose(); markStop(); };
   byId("filter").hidden = data.total < 2;
 }
 
