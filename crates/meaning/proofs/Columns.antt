@@ -14,7 +14,8 @@ use Rattle.meaning.specs.declared.Bounds.{Bounds}
 use Rattle.meaning.specs.declared.Column.{Column}
 use Rattle.meaning.specs.Lists.{same, empty, place, find, findAgain, lesser, least}
 use Rattle.meaning.specs.Bytes.{bounds, part, fields, marked, content, undouble, value, valuesOf, values}
-use Rattle.meaning.specs.Columns.{Known, unknown, stopsColumns, routesColumns, calendarColumns, tripsColumns, stopTimesColumns, calendarDatesColumns, schemas, schema, knownAt, nameOf, columnOf, countOf, places, fieldAt, cell, rowOf}
+use Rattle.meaning.specs.Columns.{Known, Row, always, unknown, stopsColumns, routesColumns, calendarColumns, tripsColumns, stopTimesColumns, calendarDatesColumns, schemas, schema, knownAt, nameOf, columnOf, countOf, places, fieldAt, cell, rowOf}
+use Rattle.meaning.specs.Tables.{inner, placed}
 use Rattle.meaning.specs.Refusals.{slack, long, blank, formless, leftmost, rule8, rule9, rule11, rule12, rule13}
 use Rattle.meaning.specs.Promises.{First, absent, found}
 use Rattle.meaning.specs.WhichColumn.{standings, Keeps}
@@ -279,6 +280,16 @@ module _ (c : Column) where
   needless : (free : ℕ) → c .need ≡ 0 → blank free c [] ≡ false
   unfolding blank
   needless free e = rw (e, le-ltb free 0 (omega arith))
+
+  -- no line may leave open what is needed always
+  pub blank-always : (f : ℕ) (r : Row) (v : List ℕ) → c .need ≡ always → blank (slack f r) c v ≡ empty v
+  unfolding blank slack
+  blank-always f r v e = rw e (go (eqb f 1 && inner r) (placed r))
+    where
+      go : (a b : Bool) → (ltb (cond a (cond b 1 2) 0) always && empty v) ≡ empty v
+      go true true = refl
+      go true false = refl
+      go false b = refl
 
   formed : formless c [] ≡ false
   unfolding formless empty

@@ -28,7 +28,7 @@ use Rattle.meaning.proofs.ListLaws.{both, and-both, nothing}
 use Rattle.meaning.proofs.Tests.{either, or-left, or-right}
 use Rattle.meaning.proofs.References.{dangling-refer}
 use Rattle.meaning.proofs.FirstBroken.{readable-exactly}
-use Rattle.meaning.proofs.Columns.{kept-12}
+use Rattle.meaning.proofs.Columns.{blank-always, kept-12}
 use Rattle.meaning.proofs.Readable.{values-kept}
 use Rattle.meaning.proofs.Records.{rows-count}
 use Rattle.meaning.proofs.Held.{tables-held}
@@ -159,15 +159,6 @@ module _ (r : Row) (c : Column) (v : List ℕ) where
       go true false = refl
       go false b = refl
 
-  blank-id : c .need ≡ 3 → blank (slack 1 r) c v ≡ empty v
-  unfolding blank slack
-  blank-id e = rw e (go (inner r) (placed r))
-    where
-      go : (a b : Bool) → (ltb (free a b) 3 && empty v) ≡ empty v
-      go true true = refl
-      go true false = refl
-      go false b = refl
-
 -- no value is blank exactly where the row is filled
 module _ (r : Row) where
   abbrev Kept : Type 0
@@ -176,7 +167,7 @@ module _ (r : Row) where
   kept-filled : Kept → Filled r
   unfolding placed countOf columnOf knownAt schema schemas stopsColumns
   kept-filled h = record {
-    id = sym (blank-id r _ _ refl) ∙ h 0 (omega arith);
+    id = sym (blank-always _ 1 r _ refl) ∙ h 0 (omega arith);
     name = λ e. rw e at (sym (blank-name r _ _ refl) ∙ h 1 (omega arith));
     latitude = λ e. rw e at latitude;
     longitude = λ e. rw e at longitude;
@@ -197,7 +188,7 @@ module _ (r : Row) where
 
   filled-kept : Filled r → Kept
   unfolding placed countOf columnOf knownAt schema schemas stopsColumns
-  filled-kept f zero h = blank-id r _ _ refl ∙ f .id
+  filled-kept f zero h = blank-always _ 1 r _ refl ∙ f .id
   filled-kept f (suc zero) h = blank-name r _ _ refl ∙ go (inner r) (empty (stopName r)) (f .name)
     where
       go : (a x : Bool) → (a ≡ false → x ≡ false) → (not a && x) ≡ false

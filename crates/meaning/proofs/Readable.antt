@@ -1,37 +1,31 @@
 -- In a readable feed no rule of 1 to 14 is broken, and none of 5 to 14 in a file that reads: what the later layers may lean on.
 use Prim.Native.Nat.{ℕ, _+_, _-_, _≤_, _<_}
-use mathlib.Core.Path.{_≡_, refl, _∙_}
+use mathlib.Core.Path.{_≡_, refl, sym, _∙_}
 use mathlib.Core.List.{List, [], List·Memᴰ, List·Memᴰ·head, List·Memᴰ·tail, Memᴰ·append-right}
-use mathlib.Core.Bool.{Bool, true, false, cond, _&&_}
+use mathlib.Core.Bool.{false}
 use native.Mathlib.Omega.{arith}
 use lib.ListN.{length, getD, drop, length-map, length-drop}
 use lib.Seq.{getD-drop}
-use lib.Dec.{ltb, eqb}
+use lib.Dec.{eqb}
 use borrow.Author.Tests.{ne-eqb, eqb-true, not-false, ltb-false}
 use Rattle.meaning.specs.declared.Column.{Column}
 use Rattle.meaning.specs.declared.Verdict.the-variants.{Readable}
 use Rattle.meaning.specs.Bytes.{linesOf, values}
 use Rattle.meaning.specs.Lists.{empty}
-use Rattle.meaning.specs.Columns.{Row, never, unlessInner, unlessPlaceless, always, columnOf, countOf, places, rowOf, headerOf, rowsOf}
-use Rattle.meaning.specs.Tables.{fileOf, inner, placed}
-use Rattle.meaning.specs.Refusals.{Test, test, testAt, claimOf, rule1, rule2, rule3, rule4, rule5, rule9, slack, blank, rule11, rule12, rule13, textTests, headTests, valueTests, lineTests, inFile, verdictOf}
+use Rattle.meaning.specs.Columns.{Row, always, columnOf, countOf, places, rowOf, headerOf, rowsOf}
+use Rattle.meaning.specs.Tables.{fileOf}
+use Rattle.meaning.specs.Refusals.{Test, test, testAt, claimOf, rule1, rule2, rule3, rule4, rule5, rule9, slack, rule11, rule12, rule13, textTests, headTests, valueTests, lineTests, inFile, verdictOf}
 use Rattle.meaning.specs.Promises.{fileTests, fieldCount, testsOn, noLine, NoneBroken, ValueKept}
 pub use Rattle.meaning.specs.Promises.{WholeKept}
 use Rattle.meaning.proofs.Laws.{getD-map-in}
 use Rattle.meaning.proofs.FirstBroken.{readable-exactly}
 use Rattle.meaning.proofs.Claims.{claim-of-file, claim-of-line, in-file}
-use Rattle.meaning.proofs.Columns.{kept-11, kept-12, kept-13}
+use Rattle.meaning.proofs.Columns.{blank-always, kept-11, kept-12, kept-13}
 use Rattle.meaning.proofs.Sayable.{first-line}
 
--- no line may leave open what is needed always
+-- a value that is needed always is there
 pub always-there : (f : ℕ) (r : Row) (c : Column) (v : List ℕ) → c .need ≡ always → ValueKept (slack f r) c v → empty v ≡ false
-unfolding slack blank
-always-there f r c v e k = go (eqb f 1 && inner r) (placed r) (rw e at k .there)
-  where
-    go : (a b : Bool) → (ltb (cond a (cond b unlessInner unlessPlaceless) never) always && empty v) ≡ false → empty v ≡ false
-    go true true h = h
-    go true false h = h
-    go false b h = h
+always-there f r c v e k = sym (blank-always c f r v e) ∙ k .there
 
 -- a file none of whose lines breaks a rule
 module _ (f : ℕ) (s : List ℕ) (quiet : NoneBroken (inFile f (linesOf s))) where
