@@ -135,6 +135,18 @@ least-one g n r e h = rw e at (go (least-is g n) (rw (← e) at h))
     go (none z all) h = absurd (omega arith)
     go (one k i p b all) h = record { which = k; below-n = i; is = p; no-less = all }
 
+-- where all others are 0 it is the one that may not be
+pub least-only : (g : ℕ → ℕ) (n k : ℕ) → k < n → ((j : ℕ) → j < n → (j ≡ k → ⊥) → g j ≡ 0) → least g n ≡ g k
+least-only g n k h others = go (least-is g n)
+  where
+    here : (r j : ℕ) → j < n → g j ≡ r → 1 ≤ r → Dec (j ≡ k) → r ≡ g k
+    here r j i p b (yes e) = sym p ∙ ap g e
+    here r j i p b (no e) = absurd (omega (arith, others j i e))
+
+    go : {r : ℕ} → Least g n r → r ≡ g k
+    go (none z all) = z ∙ sym (all k h)
+    go (one j i p b low) = here _ j i p b (ℕ-discrete j k)
+
 -- ---- a name's standings
 
 module _ (v : List ℕ) where

@@ -1,6 +1,7 @@
 -- Nodes and boarding areas: each sentence of document 02's E10 holds of every outcome of six files and six tables.
 use Prim.Native.Nat.{ℕ, zero, suc, _+_, _*_, _-_, _≤_, _<_}
 use native.Mathlib.Omega.{arith}
+use native.Mathlib.Decide.{ℕ-discrete}
 use mathlib.Core.Path.{_≡_, refl, sym, _∙_}
 use mathlib.Core.Logic.{_↔_, _⊎_, inl, inr}
 use mathlib.Core.Bool.{Bool, true, false, cond, not, _&&_, _||_}
@@ -16,19 +17,19 @@ use Rattle.meaning.specs.declared.Place.{Place}
 use Rattle.meaning.specs.Lists.{empty, place}
 use Rattle.meaning.specs.Columns.{Row, stopsColumns, schemas, schema, knownAt, columnOf, countOf, places, rowOf, rowsOf}
 use Rattle.meaning.specs.Forms.{noMark, formed, pointed, toPoint, degreesText, sizeText, latitudeOf, longitudeOf, digitText, choiceOf, isChoice, shapes, shape}
-use Rattle.meaning.specs.Tables.{Feed, fileOf, feedOf, refer, stopIds, stopName, stopLat, stopLon, locationType, parentStation, degrees, oneIf, kindOf, inner, placed, widths, widthOf}
-use Rattle.meaning.specs.Refusals.{rule3, rule9, rule12, slack, blank}
+use Rattle.meaning.specs.Tables.{Feed, fileOf, feedOf, refer, stopIds, stopId, stopName, stopLat, stopLon, locationType, parentStation, degrees, oneIf, kindOf, inner, placed, widths, widthOf}
+use Rattle.meaning.specs.Refusals.{rule3, rule9, rule12, slack, blank, leftmost}
 use Rattle.meaning.specs.Rules.{row, rule21·stops, otherKind, parentKind, rule22}
 use Rattle.meaning.specs.Outcome.{outcome}
 use Rattle.meaning.specs.Promises.{lineOrder, turn}
 use Rattle.meaning.specs.Held.{lineCount}
 use Rattle.meaning.specs.Demands.{Reads}
-use Rattle.meaning.specs.Nodes.{OneDigit, Unfit, none, other, base22, Filled, PlaceTold, Nodes}
+use Rattle.meaning.specs.Nodes.{OneDigit, Unfit, none, other, base22, Filled, Alone, PlaceTold, Nodes}
 use Rattle.meaning.proofs.ListLaws.{both, and-both, nothing}
 use Rattle.meaning.proofs.Tests.{either, or-left, or-right}
 use Rattle.meaning.proofs.References.{dangling-refer}
 use Rattle.meaning.proofs.FirstBroken.{readable-exactly}
-use Rattle.meaning.proofs.Columns.{blank-always, kept-12}
+use Rattle.meaning.proofs.Columns.{row-at, least-only, blank-always, kept-12}
 use Rattle.meaning.proofs.Readable.{values-kept}
 use Rattle.meaning.proofs.Records.{rows-count}
 use Rattle.meaning.proofs.Held.{tables-held}
@@ -219,6 +220,63 @@ needs header l lacks =
     let r = rowOf (places 1 header) l in
     (λ e. kept-filled r (kept .0 e), λ f. kept .1 (filled-kept r f))
 
+-- ---- one coordinate alone
+
+-- where one value alone is blank, rule 12 says its column
+only-blank :
+    (ps l : List ℕ) (k : ℕ)
+    → k < 6
+    → blank (slack 1 (rowOf ps l)) (columnOf 1 k) (getD (rowOf ps l) k []) ≡ true
+    → ((j : ℕ) → j < 6 → (j ≡ k → ⊥) → blank (slack 1 (rowOf ps l)) (columnOf 1 j) (getD (rowOf ps l) j []) ≡ false)
+    → rule12 1 ps l ≡ getD ps k 0
+unfolding rule12 leftmost countOf schema schemas stopsColumns
+only-blank ps l k h here others = least-only _ 6 k h (λ j i e. rw (← row-at ps l j, others j i e)) ∙ rw (← row-at ps l k, here)
+
+module _ (r : Row) (id : empty (stopId r) ≡ false) (within : inner r ≡ true) (b c : Bool) (lat : empty (stopLat r) ≡ b) (lon : empty (stopLon r) ≡ c) where
+  -- with a coordinate there is a place
+  lat-blank : (b && c) ≡ false → blank (slack 1 r) (columnOf 1 2) (stopLat r) ≡ b
+  unfolding placed columnOf knownAt schema schemas stopsColumns
+  lat-blank e = blank-place r _ _ refl ∙ rw (within, lat, lon, e)
+
+  lon-blank : (b && c) ≡ false → blank (slack 1 r) (columnOf 1 3) (stopLon r) ≡ c
+  unfolding placed columnOf knownAt schema schemas stopsColumns
+  lon-blank e = blank-place r _ _ refl ∙ rw (within, lat, lon, e)
+
+  -- and nothing else is blank
+  others-kept : (j : ℕ) → (j ≡ 2 → ⊥) → (j ≡ 3 → ⊥) → j < 6 → blank (slack 1 r) (columnOf 1 j) (getD r j []) ≡ false
+  unfolding columnOf knownAt schema schemas stopsColumns
+  others-kept zero x y h = blank-always _ 1 r _ refl ∙ id
+  others-kept (suc zero) x y h = blank-name r _ _ refl ∙ rw within
+  others-kept (suc (suc zero)) x y h = absurd (x refl)
+  others-kept (suc (suc (suc zero))) x y h = absurd (y refl)
+  others-kept (suc (suc (suc (suc zero)))) x y h = blank-never r _ _ refl
+  others-kept (suc (suc (suc (suc (suc zero))))) x y h = blank-never r _ _ refl
+  others-kept (suc (suc (suc (suc (suc (suc j)))))) x y h = absurd (omega arith)
+
+latitude-alone : (ps l : List ℕ) → Alone stopLat stopLon (rowOf ps l) → rule12 1 ps l ≡ getD ps 2 0
+latitude-alone ps l a = only-blank ps l 2 (omega arith) (lat-blank r (a .id) (a .within) true false (a .none) (a .other) refl) (λ j h e. go j h e (ℕ-discrete j 3))
+  where
+    r : Row
+    r = rowOf ps l
+
+    go : (j : ℕ) → j < 6 → (j ≡ 2 → ⊥) → Dec (j ≡ 3) → blank (slack 1 r) (columnOf 1 j) (getD r j []) ≡ false
+    go j h e (yes z) = rw z (lon-blank r (a .id) (a .within) true false (a .none) (a .other) refl)
+    go j h e (no z) = others-kept r (a .id) (a .within) true false (a .none) (a .other) j e z h
+
+longitude-alone : (ps l : List ℕ) → Alone stopLon stopLat (rowOf ps l) → rule12 1 ps l ≡ getD ps 3 0
+longitude-alone ps l a = only-blank ps l 3 (omega arith) (lon-blank r (a .id) (a .within) false true (a .other) (a .none) refl) (λ j h e. go j h e (ℕ-discrete j 2))
+  where
+    r : Row
+    r = rowOf ps l
+
+    go : (j : ℕ) → j < 6 → (j ≡ 3 → ⊥) → Dec (j ≡ 2) → blank (slack 1 r) (columnOf 1 j) (getD r j []) ≡ false
+    go j h e (yes z) = rw z (lat-blank r (a .id) (a .within) false true (a .other) (a .none) refl)
+    go j h e (no z) = others-kept r (a .id) (a .within) false true (a .other) (a .none) j z e h
+
+elsewhere : (f : ℕ) (r : Row) → (f ≡ 1 → ⊥) → slack f r ≡ 0
+unfolding slack
+elsewhere f r h = rw (ne-eqb f 1 h)
+
 before : turn 12 < turn 13
 unfolding turn place lineOrder
 before = omega arith
@@ -283,6 +341,9 @@ module _ (files : List (List ℕ)) (tables : List (List ℤ)) (list : List ℤ) 
     unresolved = unresolved;
     others = others;
     needs = needs;
+    latitude-alone = latitude-alone;
+    longitude-alone = longitude-alone;
+    elsewhere = elsewhere;
     unread = unread;
     before = before;
     seventh = seventh;

@@ -56,11 +56,11 @@ upTo4 = 11
 abbrev pub never : ℕ
 never = 0
 
-abbrev pub unlessInner : ℕ
-unlessInner = 1
+abbrev pub allButInner : ℕ
+allButInner = 1
 
-abbrev pub unlessPlaceless : ℕ
-unlessPlaceless = 2
+abbrev pub allButPlaceless : ℕ
+allButPlaceless = 2
 
 abbrev pub always : ℕ
 always = 3
@@ -94,9 +94,9 @@ unknown = record { name = []; column = record { must = false; need = never; iden
 unfoldable pub stopsColumns : List Known
 stopsColumns =
     neededId "stop_id"
-    ∷ neededOn unlessInner "stop_name" anyText
-    ∷ neededOn unlessPlaceless "stop_lat" aLatitude
-    ∷ neededOn unlessPlaceless "stop_lon" aLongitude
+    ∷ neededOn allButInner "stop_name" anyText
+    ∷ neededOn allButPlaceless "stop_lat" aLatitude
+    ∷ neededOn allButPlaceless "stop_lon" aLongitude
     ∷ optional "location_type" upTo4
     ∷ optionalId "parent_station" anyText
     ∷ []

@@ -12,7 +12,7 @@ use Rattle.meaning.specs.Bytes.{countLf}
 use Rattle.meaning.specs.Columns.{Row, columnOf, places, rowOf}
 use Rattle.meaning.specs.Forms.{shape}
 use Rattle.meaning.specs.Tables.{Feed, feedOf, refer, stopIds, stopId, stopName, stopLat, stopLon, locationType, parentStation, kindOf, inner, placed}
-use Rattle.meaning.specs.Refusals.{rule3, rule9, rule12}
+use Rattle.meaning.specs.Refusals.{rule3, rule9, slack, rule12}
 use Rattle.meaning.specs.Rules.{row, otherKind, rule21·stops, rule22}
 use Rattle.meaning.specs.Outcome.{Outcome}
 use Rattle.meaning.specs.Promises.{turn}
@@ -48,6 +48,13 @@ pub record Filled (r : Row) : Type 0 where
   -- .. the coordinates together: one alone is refusal 12
   pub together : inner r ≡ true → empty (stopLat r) ≡ empty (stopLon r)
 
+-- of a node or a boarding area that has an id one coordinate is empty, and the other isn't
+pub record Alone (lacks has : Row → List ℕ) (r : Row) : Type 0 where
+  pub within : inner r ≡ true
+  pub id : empty (stopId r) ≡ false
+  pub none : empty (lacks r) ≡ true
+  pub other : empty (has r) ≡ false
+
 -- what a record n says of the place of its row
 pub record PlaceTold (r : Row) (n : ℕ → ℤ) : Type 0 where
   -- 1 with a place, which has both coordinates
@@ -69,6 +76,11 @@ pub record Nodes (files : List (List ℕ)) (tables : List (List ℤ)) (o : Outco
   pub others : (w : Feed) (i : ℕ) → inner (row (w .stops) i) ≡ false → rule22 w i ≡ base22 w i
   -- what rule 12 needs of a line, under a header that lacks nothing
   pub needs : (header : List (List ℕ)) (l : List ℕ) → rule9 1 header ≡ false → rule12 1 (places 1 header) l ≡ 0 ↔ Filled (rowOf (places 1 header) l)
+  -- one coordinate alone is refused in the column of the empty one
+  pub latitude-alone : (ps l : List ℕ) → Alone stopLat stopLon (rowOf ps l) → rule12 1 ps l ≡ getD ps 2 0
+  pub longitude-alone : (ps l : List ℕ) → Alone stopLon stopLat (rowOf ps l) → rule12 1 ps l ≡ getD ps 3 0
+  -- no line of another file may leave anything open that it needed before
+  pub elsewhere : (f : ℕ) (r : Row) → (f ≡ 1 → ⊥) → slack f r ≡ 0
   -- a location_type not of its form counts as 0 for rule 12
   pub unread : (r : Row) → shape (columnOf 1 4 .form) (locationType r) ≡ false → kindOf r ≡ 0
   -- which then speaks before 13

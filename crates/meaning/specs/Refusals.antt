@@ -11,7 +11,7 @@ use Rattle.meaning.specs.declared.Verdict.the-variants.{Readable, Unread
 use Rattle.meaning.specs.Lists.{empty, some, findAgain, least}
 use Rattle.meaning.specs.Bytes.{Line, linesOf, countLf, good, fields, values}
 use Rattle.meaning.specs.Characters.{wellFormed}
-use Rattle.meaning.specs.Columns.{Row, never, unlessInner, unlessPlaceless, nameOf, columnOf, countOf, places, cell, rowOf}
+use Rattle.meaning.specs.Columns.{Row, never, allButInner, allButPlaceless, nameOf, columnOf, countOf, places, cell, rowOf}
 use Rattle.meaning.specs.Forms.{shape}
 use Rattle.meaning.specs.Tables.{fileOf, widthOf, inner, placed}
 
@@ -110,9 +110,9 @@ rule10 count l = not (eqb (length (fields l)) count)
 unfoldable pub long : Column → List ℕ → Bool
 long c v = c .ident && ltb 64 (length v)
 
--- what a line may leave open: a node or a boarding area its name, and without a coordinate its place; any other line nothing
+-- up to which need a line may leave values empty: a node or a boarding area its name, one without a coordinate its place too, any other line none
 unfoldable pub slack : ℕ → Row → ℕ
-slack f r = cond (eqb f 1 && inner r) (cond (placed r) unlessInner unlessPlaceless) never
+slack f r = cond (eqb f 1 && inner r) (cond (placed r) allButInner allButPlaceless) never
 
 -- an empty value where a line with this slack needs one
 unfoldable pub blank : ℕ → Column → List ℕ → Bool
