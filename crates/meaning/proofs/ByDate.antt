@@ -9,6 +9,7 @@ use lib.IntN.{ℤ}
 use lib.ListN.{length, getD, length-map}
 use borrow.Author.Tests.{eq-eqb, ne-eqb, eqb-true}
 use Rattle.meaning.specs.declared.Place.{Place}
+use Rattle.meaning.specs.declared.Profile.{Profile}
 use Rattle.meaning.specs.declared.Verdict.{Verdict}
 use Rattle.meaning.specs.declared.Verdict.the-variants.{Readable, Unreadable}
 use Rattle.meaning.specs.Lists.{same, empty, any, place, find, stands}
@@ -123,17 +124,17 @@ neither w v h = (
 
 -- ---- the outcome
 
-module _ (files : List (List ℕ)) (tables : List (List ℤ)) (list : List ℤ) (p : Place) (six : length files ≡ 6) (lent : length tables ≡ 6) where
+module _ (files : List (List ℕ)) (tables : List (List ℤ)) (list : List ℤ) (p : Place) (asked : Profile) (six : length files ≡ 6) (lent : length tables ≡ 6) where
   -- a table whose file isn't supplied
-  table-left : (k : ℕ) → k < 6 → getD files k [] ≡ [] → getD (outcome files tables list p .tables) k [] ≡ getD tables k []
+  table-left : (k : ℕ) → k < 6 → getD files k [] ≡ [] → getD (outcome files tables list p asked .tables) k [] ≡ getD tables k []
   unfolding outcome readOutcome
   table-left k h e = go (verdictOf files (map length tables))
     where
-      go : (v : Verdict) → getD (refusedOr v (readOutcome files tables list p) tables list .tables) k [] ≡ getD tables k []
+      go : (v : Verdict) → getD (refusedOr v (readOutcome files tables list p asked) tables list .tables) k [] ≡ getD tables k []
       go Readable = filled-at 1 (feedOf files) files tables k (omega arith) (omega arith) ∙ rw e (unsupplied (1 + k) (feedOf files) (getD tables k []))
       go (Unreadable r) = refl
 
-  pub by-date : ByDate files tables (outcome files tables list p)
+  pub by-date : ByDate files tables (outcome files tables list p asked)
   unfolding fileOf
   by-date = record {
     passes = passes files;
@@ -146,5 +147,5 @@ module _ (files : List (List ℕ)) (tables : List (List ℤ)) (list : List ℤ) 
     none-in-6 = λ e v. none-named v (datedIds (feedOf files)) (no-dates files e);
     twice = twice (feedOf files);
     neither = neither (feedOf files);
-    eighth = λ reads i h. tables-held files tables list p six (readable-exactly files (map length tables) .1 reads) lent .trips .records i h .dated;
+    eighth = λ reads i h. tables-held files tables list p asked six (readable-exactly files (map length tables) .1 reads) lent .trips .records i h .dated;
   }

@@ -9,6 +9,7 @@ use lib.IntN.{ℤ}
 use lib.ListN.{length, getD, length-map}
 use borrow.Author.Tests.{le-ltb}
 use Rattle.meaning.specs.declared.Place.{Place}
+use Rattle.meaning.specs.declared.Profile.{Profile}
 use Rattle.meaning.specs.declared.Verdict.the-variants.{Readable}
 use Rattle.meaning.specs.Bytes.{countLf}
 use Rattle.meaning.specs.Tables.{fileOf, feedOf, widthOf}
@@ -57,17 +58,17 @@ module _ (files : List (List ℕ)) (tables others : List (List ℤ)) (count : le
 -- ---- one call
 
 -- a call that hands out findings, and calls one after the other
-abbrev FindingsCall : List (List ℕ) → Place → Outcome → Type 0
-FindingsCall files = Call findings-kind (findingsOf (feedOf files)) (list-ordered (feedOf files)) written writtenOf totalOf
+abbrev FindingsCall : Profile → List (List ℕ) → Place → Outcome → Type 0
+FindingsCall asked files = Call findings-kind (findingsOf asked (feedOf files)) (list-ordered asked (feedOf files)) written writtenOf totalOf
 
-abbrev FindingsChain : List (List ℕ) → Place → List Outcome → Type 0
-FindingsChain files = Chain findings-kind (findingsOf (feedOf files)) (list-ordered (feedOf files)) written writtenOf totalOf
+abbrev FindingsChain : Profile → List (List ℕ) → Place → List Outcome → Type 0
+FindingsChain asked files = Chain findings-kind (findingsOf asked (feedOf files)) (list-ordered asked (feedOf files)) written writtenOf totalOf
 
-module _ (files : List (List ℕ)) (tables : List (List ℤ)) (list : List ℤ) (p : Place) (read : verdictOf files (map length tables) ≡ Readable) where
+module _ (files : List (List ℕ)) (tables : List (List ℤ)) (list : List ℤ) (p : Place) (asked : Profile) (read : verdictOf files (map length tables) ≡ Readable) where
   abbrev found : List Finding
-  found = findingsOf (feedOf files)
+  found = findingsOf asked (feedOf files)
 
-  call-now : 3 ≤ length list → FindingsCall files p (outcome files tables list p)
+  call-now : 3 ≤ length list → FindingsCall asked files p (outcome files tables list p asked)
   unfolding written outcome readOutcome
   call-now room =
       let n : writtenIn (answerNumbers (answerOf p found list)) ≡ length (page p (roomOf list) found) = written-told p found list in
@@ -81,7 +82,7 @@ module _ (files : List (List ℕ)) (tables : List (List ℤ)) (list : List ℤ) 
 
 -- ---- calls one after the other
 
-module _ (files : List (List ℕ)) (six : length files ≡ 6) where
+module _ (asked : Profile) (files : List (List ℕ)) (six : length files ≡ 6) where
   -- what the calls from here on need: six tables with which the feed reads, and room for a finding
   record Ready (tables : List (List ℤ)) (list : List ℤ) : Type 0 where
     count : length tables ≡ length files
@@ -98,10 +99,10 @@ module _ (files : List (List ℕ)) (six : length files ≡ 6) where
   }
 
   -- after a call the next is ready: tables and list are as long as they were
-  next-ready : (tables : List (List ℤ)) (list : List ℤ) (p : Place) → Ready tables list → (o : Outcome) → outcome files tables list p ≡ o → Ready (o .tables) (o .list)
+  next-ready : (tables : List (List ℤ)) (list : List ℤ) (p : Place) → Ready tables list → (o : Outcome) → outcome files tables list p asked ≡ o → Ready (o .tables) (o .list)
   next-ready tables list p h o e =
-      let long : map length (o .tables) ≡ map length tables = rw (← e) (tables-long files tables list p six) in
-      let same : length (o .list) ≡ length list = rw (← e) (list-long files tables list p) in
+      let long : map length (o .tables) ≡ map length tables = rw (← e) (tables-long files tables list p asked six) in
+      let same : length (o .list) ≡ length list = rw (← e) (list-long files tables list p asked) in
       let n : length (o .tables) ≡ length tables = sym (length-map (o .tables) length) ∙ ap length long ∙ length-map tables length in
       record {
         count = n ∙ h .count;
@@ -110,22 +111,22 @@ module _ (files : List (List ℕ)) (six : length files ≡ 6) where
       }
 
   -- each call leaves off where the next begins
-  chain : (xs : List Lending) (tables : List (List ℤ)) (list : List ℤ) (p : Place) → Each (Enough files) xs → Ready tables list → FindingsChain files p (calls files tables list p xs)
+  chain : (xs : List Lending) (tables : List (List ℤ)) (list : List ℤ) (p : Place) → Each (Enough files) xs → Ready tables list → FindingsChain asked files p (calls asked files tables list p xs)
   unfolding calls
   chain [] tables list p enough h = tt
   chain (x ∷ xs) tables list p enough h =
       let now = lent-ready tables list x (enough x (List·Memᴰ·head refl)) h in
-      let o : Outcome = outcome files (lentTables x tables) (lentList x list) p in (
-        call-now files (lentTables x tables) (lentList x list) p (now .reads) (now .room),
+      let o : Outcome = outcome files (lentTables x tables) (lentList x list) p asked in (
+        call-now files (lentTables x tables) (lentList x list) p asked (now .reads) (now .room),
         chain xs (o .tables) (o .list) (lastPlace 3 p (written o)) (λ z m. enough z (List·Memᴰ·tail m)) (next-ready (lentTables x tables) (lentList x list) p now o refl),
       )
 
   -- Calls from the list's beginning until one hands out none together give the whole list; each tells the same total; they end.
   pub findings-join : (tables : List (List ℤ)) (list : List ℤ) → length tables ≡ 6 → verdictOf files (map length tables) ≡ Readable → 3 ≤ length list
-      → (xs : List Lending) → Each (Enough files) xs → CallsJoin files tables list xs
+      → (xs : List Lending) → Each (Enough files) xs → CallsJoin asked files tables list xs
   findings-join tables list count reads room xs enough =
-      calls-join findings-kind (findingsOf (feedOf files)) (list-ordered (feedOf files)) written writtenOf totalOf
+      calls-join findings-kind (findingsOf asked (feedOf files)) (list-ordered asked (feedOf files)) written writtenOf totalOf
       beginning
-      (findings-from-beginning (feedOf files))
-      (calls files tables list beginning xs)
+      (findings-from-beginning asked (feedOf files))
+      (calls asked files tables list beginning xs)
       (chain xs tables list beginning enough (record { count = count ∙ sym six; reads = reads; room = room }))

@@ -6,6 +6,7 @@ use mathlib.Core.List.{List, map}
 use lib.IntN.{ℤ}
 use lib.ListN.{length}
 use Rattle.meaning.specs.declared.Place.{Place}
+use Rattle.meaning.specs.declared.Profile.{Profile}
 use Rattle.meaning.specs.declared.Verdict.the-variants.{Readable}
 use Rattle.meaning.specs.Tables.{feedOf}
 use Rattle.meaning.specs.Refusals.{verdictOf}
@@ -20,42 +21,42 @@ use Rattle.meaning.proofs.TimesNeverFall.{accepted-times, accepted-sequ
 use Rattle.meaning.proofs.Held.{tables-held, tables-long, list-long}
 use Rattle.meaning.proofs.Calls.{findings-join}
 
-module _ (files : List (List ℕ)) (tables : List (List ℤ)) (list : List ℤ) (p : Place) where
+module _ (files : List (List ℕ)) (tables : List (List ℤ)) (list : List ℤ) (p : Place) (asked : Profile) where
   -- the verdict says whether the files can be read
   readable : Reads files tables → verdictOf files (map length tables) ≡ Readable
   readable = readable-exactly files (map length tables) .1
 
-  pub demand-1 : Demand1 files tables list (outcome files tables list p)
+  pub demand-1 : Demand1 files tables list (outcome files tables list p asked)
   demand-1 =
-      let refused = refused-answer files tables list p in
+      let refused = refused-answer files tables list p asked in
       let broken = first-broken files (map length tables) in
       record {
-        ends = answer-ends files tables list p;
+        ends = answer-ends files tables list p asked;
         first = λ r. (λ e. broken r .0 (refused r .0 e), λ b. refused r .1 (broken r .1 b));
         order = claims-ordered files (map length tables);
         all = claims-exactly files (map length tables);
-        untouched = refused-untouched files tables list p;
+        untouched = refused-untouched files tables list p asked;
       }
 
   module _ (six : length files ≡ 6) (lent : length tables ≡ 6) where
-    pub demand-2 : Demand2 files tables (outcome files tables list p)
+    pub demand-2 : Demand2 files tables asked (outcome files tables list p asked)
     demand-2 =
-        let exactly = accepted-exactly files tables list p in
+        let exactly = accepted-exactly files tables list p asked in
         let read = readable-exactly files (map length tables) in
         record {
           values = λ n f i k low high inside known. values-kept files (map length tables) (readable n) f low (omega arith) i inside k known;
-          held = λ n. tables-held files tables list p six (readable n) lent;
-          long = tables-long files tables list p six;
+          held = λ n. tables-held files tables list p asked six (readable n) lent;
+          long = tables-long files tables list p asked six;
           accepted = (λ e. let k = exactly .0 e in (read .0 (k .0), k .1), λ k. exactly .1 (read .1 (k .0), k .1));
-          times = accepted-times files tables list p;
-          sequences = accepted-sequences files tables list p;
+          times = accepted-times files tables list p asked;
+          sequences = accepted-sequences files tables list p asked;
         }
 
-    pub demand-3 : Demand3 files tables list p (outcome files tables list p)
+    pub demand-3 : Demand3 files tables list p asked (outcome files tables list p asked)
     demand-3 = record {
-      all = listed-exactly (feedOf files);
-      ordered = list-ordered (feedOf files);
-      handed-out = λ n. page-told files tables list p (readable n);
-      long = list-long files tables list p;
-      joins = λ n room. findings-join files six tables list lent (readable n) room;
+      all = listed-exactly asked (feedOf files);
+      ordered = list-ordered asked (feedOf files);
+      handed-out = λ n. page-told files tables list p asked (readable n);
+      long = list-long files tables list p asked;
+      joins = λ n room. findings-join asked files six tables list lent (readable n) room;
     }

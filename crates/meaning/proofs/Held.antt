@@ -8,6 +8,7 @@ use lib.IntN.{ℤ, pos}
 use lib.ListN.{length, getD, length-map}
 use lib.Dec.{eqb}
 use Rattle.meaning.specs.declared.Place.{Place}
+use Rattle.meaning.specs.declared.Profile.{Profile}
 use Rattle.meaning.specs.declared.Verdict.{Verdict}
 use Rattle.meaning.specs.declared.Verdict.the-variants.{Readable, Unreadable}
 use Rattle.meaning.specs.Bytes.{linesOf}
@@ -175,7 +176,7 @@ filled-long m w (s ∷ files) (t ∷ tables) each =
     ap₂ _∷_ (rw z at (each 0 (omega arith) (omega arith)))
     (filled-long (m + 1) w files tables (λ k h l. let y : m + 1 + k ≡ m + suc k = omega arith in rw y (each (suc k) (omega arith) (omega arith))))
 
-module _ (files : List (List ℕ)) (tables : List (List ℤ)) (list : List ℤ) (p : Place) (six : length files ≡ 6) where
+module _ (files : List (List ℕ)) (tables : List (List ℤ)) (list : List ℤ) (p : Place) (asked : Profile) (six : length files ≡ 6) where
   module _ (read : verdictOf files (map length tables) ≡ Readable) where
     kept : (k : ℕ) → k < length files → k < length tables → WholeKept files (1 + k) (getD files k []) (length (getD tables k []))
     unfolding fileOf
@@ -190,7 +191,7 @@ module _ (files : List (List ℕ)) (tables : List (List ℤ)) (list : List ℤ) 
         filled-long 1 (feedOf files) files tables
         (λ k h l. length-held (1 + k) (omega arith) (omega arith) (feedOf files) (getD files k []) (getD tables k []) (kept k h l .roomy))
 
-    pub tables-held : length tables ≡ 6 → TablesHeld files tables (outcome files tables list p .tables)
+    pub tables-held : length tables ≡ 6 → TablesHeld files tables (outcome files tables list p asked .tables)
     unfolding outcome readOutcome feedOf fileOf
     tables-held lent =
         let at = filled-at 1 (feedOf files) files tables in
@@ -205,19 +206,19 @@ module _ (files : List (List ℕ)) (tables : List (List ℤ)) (list : List ℤ) 
         })
 
   -- Every table is as long as it was lent.
-  pub tables-long : map length (outcome files tables list p .tables) ≡ map length tables
+  pub tables-long : map length (outcome files tables list p asked .tables) ≡ map length tables
   unfolding outcome readOutcome
   tables-long = go (verdictOf files (map length tables)) refl
     where
-      go : (v : Verdict) → verdictOf files (map length tables) ≡ v → map length (refusedOr v (readOutcome files tables list p) tables list .tables) ≡ map length tables
+      go : (v : Verdict) → verdictOf files (map length tables) ≡ v → map length (refusedOr v (readOutcome files tables list p asked) tables list .tables) ≡ map length tables
       go Readable e = read-long e
       go (Unreadable r) e = refl
 
 -- The list is as long as it was lent.
-pub list-long : (files : List (List ℕ)) (tables : List (List ℤ)) (list : List ℤ) (p : Place) → length (outcome files tables list p .list) ≡ length list
+pub list-long : (files : List (List ℕ)) (tables : List (List ℤ)) (list : List ℤ) (p : Place) (asked : Profile) → length (outcome files tables list p asked .list) ≡ length list
 unfolding outcome readOutcome
-list-long files tables list p = go (verdictOf files (map length tables))
+list-long files tables list p asked = go (verdictOf files (map length tables))
   where
-    go : (v : Verdict) → length (refusedOr v (readOutcome files tables list p) tables list .list) ≡ length list
-    go Readable = handed-long findings-kind (findingsOf (feedOf files)) p list
+    go : (v : Verdict) → length (refusedOr v (readOutcome files tables list p asked) tables list .list) ≡ length list
+    go Readable = handed-long findings-kind (findingsOf asked (feedOf files)) p list
     go (Unreadable r) = refl

@@ -14,6 +14,7 @@ use Rattle.meaning.specs.declared.Choice.{Choice}
 use Rattle.meaning.specs.declared.Choice.the-variants.{Picked, NoChoice}
 use Rattle.meaning.specs.declared.Column.{Column}
 use Rattle.meaning.specs.declared.Place.{Place}
+use Rattle.meaning.specs.declared.Profile.{Profile}
 use Rattle.meaning.specs.Lists.{empty, place}
 use Rattle.meaning.specs.Columns.{Row, stopsColumns, schemas, schema, knownAt, columnOf, countOf, places, rowOf, rowsOf}
 use Rattle.meaning.specs.Forms.{noMark, formed, pointed, toPoint, degreesText, sizeText, latitudeOf, longitudeOf, digitText, choiceOf, isChoice, shapes, shape}
@@ -317,22 +318,22 @@ module _ (r : Row) (f : Filled r) where
 
 -- ---- the outcome
 
-module _ (files : List (List ℕ)) (tables : List (List ℤ)) (list : List ℤ) (p : Place) (six : length files ≡ 6) (lent : length tables ≡ 6) where
+module _ (files : List (List ℕ)) (tables : List (List ℤ)) (list : List ℤ) (p : Place) (asked : Profile) (six : length files ≡ 6) (lent : length tables ≡ 6) where
   seventh :
       Reads files tables
       → (i : ℕ)
       → i + 1 < lineCount files 1
-      → PlaceTold (row (feedOf files .stops) i) (λ j. getD (getD (outcome files tables list p .tables) 0 []) ((i + 1) * 7 + j) (pos 0))
+      → PlaceTold (row (feedOf files .stops) i) (λ j. getD (getD (outcome files tables list p asked .tables) 0 []) ((i + 1) * 7 + j) (pos 0))
   unfolding feedOf
   seventh reads i h =
       let read = readable-exactly files (map length tables) .1 reads in
-      let held = tables-held files tables list p six read lent .stops .records i h in
+      let held = tables-held files tables list p asked six read lent .stops .records i h in
       let inside : i < length (rowsOf 1 (fileOf files 1)) = omega (arith, rows-count 1 (fileOf files 1)) in
       place-told _
       (kept-filled _ (λ k g. values-kept files (map length tables) read 1 (omega arith) (omega arith) i inside k g .there))
       _ (held .latitude) (held .longitude) (held .place)
 
-  pub nodes : Nodes files tables (outcome files tables list p)
+  pub nodes : Nodes files tables (outcome files tables list p asked)
   unfolding rule3 widthOf widths
   nodes = record {
     allowed = allowed;

@@ -11,6 +11,7 @@ use lib.Seq.{take-nil}
 use lib.Dec.{eqb}
 use borrow.Author.Tests.{ne-eqb}
 use Rattle.meaning.specs.declared.Place.{Place}
+use Rattle.meaning.specs.declared.Profile.{Profile}
 use Rattle.meaning.specs.declared.Verdict.{Verdict}
 use Rattle.meaning.specs.declared.Verdict.the-variants.{Readable, Unreadable}
 use Rattle.meaning.specs.declared.Answer.the-variants.{Accepted, Findings}
@@ -61,26 +62,26 @@ written-told p [] lent = sym (ap length (take-nil (roomOf lent)))
 written-told p (d ∷ r) lent = rw (ne-eqb (length (d ∷ r)) 0 (λ e. omega arith))
 
 -- A call on a readable feed hands out the earliest after its starting place, as many as fit, and tells their number and the total.
-pub page-told : (files : List (List ℕ)) (tables : List (List ℤ)) (lent : List ℤ) (p : Place)
+pub page-told : (files : List (List ℕ)) (tables : List (List ℤ)) (lent : List ℤ) (p : Place) (asked : Profile)
     → verdictOf files (map length tables) ≡ Readable
-    → PageTold (findingsOf (feedOf files)) p lent (outcome files tables lent p)
+    → PageTold (findingsOf asked (feedOf files)) p lent (outcome files tables lent p asked)
 unfolding outcome readOutcome
-page-told files tables lent p e =
+page-told files tables lent p asked e =
     rw e (record {
-      written = length (page p (roomOf lent) (findingsOf (feedOf files)));
-      page = page-given findings-kind (findingsOf (feedOf files)) p lent;
-      answer = told p (findingsOf (feedOf files)) lent;
+      written = length (page p (roomOf lent) (findingsOf asked (feedOf files)));
+      page = page-given findings-kind (findingsOf asked (feedOf files)) p lent;
+      answer = told p (findingsOf asked (feedOf files)) lent;
     })
 
 -- a feed is accepted exactly when it is readable and has no finding
-pub accepted-exactly : (files : List (List ℕ)) (tables : List (List ℤ)) (lent : List ℤ) (p : Place)
-    → answerNumbers (outcome files tables lent p .answer) ≡ saysAccepted ↔ (verdictOf files (map length tables) ≡ Readable) × (findingsOf (feedOf files) ≡ [])
+pub accepted-exactly : (files : List (List ℕ)) (tables : List (List ℤ)) (lent : List ℤ) (p : Place) (asked : Profile)
+    → answerNumbers (outcome files tables lent p asked .answer) ≡ saysAccepted ↔ (verdictOf files (map length tables) ≡ Readable) × (findingsOf asked (feedOf files) ≡ [])
 unfolding outcome readOutcome
-accepted-exactly files tables lent p = (there (verdictOf files (map length tables)), λ h. rw (h .0) (told p ds lent ∙ rw (h .1)))
+accepted-exactly files tables lent p asked = (there (verdictOf files (map length tables)), λ h. rw (h .0) (told p ds lent ∙ rw (h .1)))
   where
     ds : List Finding
-    ds = findingsOf (feedOf files)
+    ds = findingsOf asked (feedOf files)
 
-    there : (v : Verdict) → answerNumbers (refusedOr v (readOutcome files tables lent p) tables lent .answer) ≡ saysAccepted → (v ≡ Readable) × (ds ≡ [])
+    there : (v : Verdict) → answerNumbers (refusedOr v (readOutcome files tables lent p asked) tables lent .answer) ≡ saysAccepted → (v ≡ Readable) × (ds ≡ [])
     there Readable e = (refl, nothing ds (omega (arith, total-told p ds lent, ap totalIn e)))
     there (Unreadable r) e = let z : _≡_ {A = ℕ} 2 0 = unfold answerNumbers in ap (λ (ns : List ℕ). getD ns 0 0) e in absurd (omega arith)

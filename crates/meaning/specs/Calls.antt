@@ -1,4 +1,4 @@
--- Calls one after the other over unchanged files, each from the last finding handed out.
+-- Calls one after the other over unchanged files, each from the last finding handed out; all ask for the profile, or all don't.
 use Prim.Native.Nat.{ℕ, _*_, _-_, _≤_, _<_}
 use mathlib.Core.Path.{_≡_}
 use mathlib.Core.List.{List, [], _∷_, map}
@@ -7,6 +7,7 @@ use lib.IntN.{ℤ}
 use lib.ListN.{length, getD, take}
 use lib.Dec.{eqb}
 use Rattle.meaning.specs.declared.Place.{Place}
+use Rattle.meaning.specs.declared.Profile.{Profile}
 use Rattle.meaning.specs.Lists.{lastHas, flat}
 use Rattle.meaning.specs.Bytes.{countLf}
 use Rattle.meaning.specs.Tables.{feedOf, fileOf, widthOf}
@@ -41,11 +42,11 @@ written o = take (3 * writtenOf o) (o .list)
 
 -- The outcomes of calls, the first from p: the next starting place is read from the last three numbers written, and the tables and the
 -- list are those that the call before left, or others.
-unfoldable pub calls : List (List ℕ) → List (List ℤ) → List ℤ → Place → List Lending → List Outcome
-calls files tables list p [] = []
-calls files tables list p (x ∷ r) =
-    let o = outcome files (lentTables x tables) (lentList x list) p in
-    o ∷ calls files (o .tables) (o .list) (lastPlace 3 p (written o)) r
+unfoldable pub calls : Profile → List (List ℕ) → List (List ℤ) → List ℤ → Place → List Lending → List Outcome
+calls asked files tables list p [] = []
+calls asked files tables list p (x ∷ r) =
+    let o = outcome files (lentTables x tables) (lentList x list) p asked in
+    o ∷ calls asked files (o .tables) (o .list) (lastPlace 3 p (written o)) r
 
 -- there is a table for each file, long enough for it
 abbrev pub LongEnough : List (List ℕ) → List (List ℤ) → Type 0
@@ -65,10 +66,10 @@ pub record Join {O : Type 0} (wrote : O → List ℤ) (count total : O → ℕ) 
   pub totals : Each (λ o. total o ≡ n) os
   pub ends : n < length os → lastHas (λ o. eqb (count o) 0) os ≡ true
 
--- calls from the list's beginning
-abbrev pub CallsJoin : List (List ℕ) → List (List ℤ) → List ℤ → List Lending → Type 0
-CallsJoin files tables list lendings =
+-- calls from the beginning of the list so asked for
+abbrev pub CallsJoin : Profile → List (List ℕ) → List (List ℤ) → List ℤ → List Lending → Type 0
+CallsJoin asked files tables list lendings =
     Join written writtenOf totalOf
-    (triples (findingsOf (feedOf files)))
-    (length (findingsOf (feedOf files)))
-    (calls files tables list beginning lendings)
+    (triples (findingsOf asked (feedOf files)))
+    (length (findingsOf asked (feedOf files)))
+    (calls asked files tables list beginning lendings)

@@ -16,6 +16,8 @@ use Rattle.meaning.specs.declared.Verdict.{Verdict}
 use Rattle.meaning.specs.declared.Verdict.the-variants.{Readable, Unreadable}
 use Rattle.meaning.specs.declared.Refusal.{Refusal}
 use Rattle.meaning.specs.declared.Place.{Place}
+use Rattle.meaning.specs.declared.Profile.{Profile}
+use Rattle.meaning.specs.declared.Profile.the-variants.{Plain, Boards}
 use Rattle.meaning.specs.declared.Answer.{Answer}
 use Rattle.meaning.specs.declared.Answer.the-variants.{Accepted, Findings, Refused}
 use Rattle.meaning.specs.Lists.{ascii, any}
@@ -42,12 +44,12 @@ pub data Case : Type 0 where
   refusedLine : String → Case
   formed : List (List ℕ) → Case
   illFormed : List (List ℕ) → Case
-  found : List String → List Finding → Case
+  foundBy : Profile → List String → List Finding → Case
   read : List String → Verdict → Case
   records : ℕ → List String → List (List ℤ) → Case
   call : List String → List (List ℤ) → List ℤ → Place → Outcome → Case
-  handed : List String → List ℤ → Place → Answer → List ℤ → Case
-  called : List String → List ℤ → List Lending → List (List ℤ) → Case
+  handed : Profile → List String → List ℤ → Place → Answer → List ℤ → Case
+  called : Profile → List String → List ℤ → List Lending → List (List ℤ) → Case
 
 abbrev pub Holds : Case → Type 0
 Holds (time s t) = timeOf (ascii s) ≡ t
@@ -58,19 +60,23 @@ Holds (line s vs) = (good (ascii s) ≡ true) × (values (ascii s) ≡ map ascii
 Holds (refusedLine s) = good (ascii s) ≡ false
 Holds (formed ls) = any rule14 ls ≡ false
 Holds (illFormed ls) = any (λ l. not (rule14 l)) ls ≡ false
-Holds (found files ds) = findingsOf (feedOf (map ascii files)) ≡ ds
+Holds (foundBy asked files ds) = findingsOf asked (feedOf (map ascii files)) ≡ ds
 Holds (read files v) = verdictOf (map ascii files) (replicate 6 99) ≡ v
 Holds (records f files rs) = recordsOf f (feedOf (map ascii files)) (fileOf (map ascii files) f) ≡ rs
-Holds (call files tables list p o) = outcome (map ascii files) tables list p ≡ o
-Holds (handed files list p a after) =
-    let o = outcome (map ascii files) (replicate 6 (sevens 99)) list p in
+Holds (call files tables list p o) = outcome (map ascii files) tables list p Plain ≡ o
+Holds (handed asked files list p a after) =
+    let o = outcome (map ascii files) (replicate 6 (sevens 99)) list p asked in
     (o .answer ≡ a) × (o .list ≡ after)
-Holds (called files list lendings each) =
-    map written (calls (map ascii files) (replicate 6 (sevens 99)) list beginning lendings) ≡ each
+Holds (called asked files list lendings each) =
+    map written (calls asked (map ascii files) (replicate 6 (sevens 99)) list beginning lendings) ≡ each
 
 abbrev pub AllHold : List Case → Type 0
 AllHold [] = Unit {0}
 AllHold (c ∷ r) = Holds c × AllHold r
+
+-- a feed's findings where the profile isn't asked for
+abbrev pub found : List String → List Finding → Case
+found files ds = foundBy Plain files ds
 
 -- One feed in full, without calendar_dates.txt.
 abbrev pub example : List String
@@ -218,13 +224,13 @@ refusedCall =
 -- The feed in full, from its first finding on, with room for two: its second and its third, and the total of five.
 abbrev pub secondPage : Case
 secondPage =
-    handed example (sevens 8) (record { file = pos 4; line = pos 3; rule = pos 21 })
+    handed Plain example (sevens 8) (record { file = pos 4; line = pos 3; rule = pos 21 })
     (Findings 2 5) (pos 4 ∷ pos 3 ∷ pos 30 ∷ pos 5 ∷ pos 3 ∷ pos 29 ∷ pos 7 ∷ pos 7 ∷ [])
 
 -- The same feed in calls with room for four: four findings, then one, then none.
 abbrev pub threeCalls : Case
 threeCalls =
-    called example (sevens 12) (again ∷ again ∷ again ∷ [])
+    called Plain example (sevens 12) (again ∷ again ∷ again ∷ [])
     ((pos 4 ∷ pos 3 ∷ pos 21 ∷ pos 4 ∷ pos 3 ∷ pos 30 ∷ pos 5 ∷ pos 3 ∷ pos 29 ∷ pos 5 ∷ pos 4 ∷ pos 21 ∷ [])
     ∷ (pos 5 ∷ pos 4 ∷ pos 28 ∷ [])
     ∷ []
@@ -553,6 +559,39 @@ abbrev pub typeOnly : Case
 typeOnly =
     read (ofType "stop_id,stop_name,stop_lat,stop_lon,location_type\nN,Nut,1.5,2,5\n") (Unreadable (refusedIn 13 1 2 5))
 
+-- ---- a profile for boards, from document 02's words
+
+-- Line 3 has one time, line 4 none. Lines 5 to 7: 2 and 3 at either end, and at both. 47:59:59 is early enough, 48:00:00 isn't: line 9 by its
+-- departure alone, line 10 by its arrival, though it isn't timed. Line 11 breaks two rules.
+abbrev pub forBoards : List String
+forBoards =
+    around oneStop oneTrip
+    "trip_id,arrival_time,departure_time,stop_id,stop_sequence,pickup_type,drop_off_type\nT,8:00:00,8:00:00,A,1,,\nT,8:01:00,,A,2,0,1\nT,,,A,3,1,0\nT,8:05:00,8:05:00,A,4,2,0\nT,8:06:00,8:06:00,A,5,0,3\nT,8:07:00,8:07:00,A,6,3,2\nT,47:59:59,47:59:59,A,7,1,1\nT,47:59:59,48:00:00,A,8,,\nT,48:00:00,,A,9,,\nT,48:00:01,48:00:01,A,10,3,\n"
+
+abbrev pub asBoardsAsk : Case
+asBoardsAsk =
+    foundBy Boards forBoards
+    (finding 5 3 26 ∷ finding 5 3 60 ∷ finding 5 4 60 ∷ finding 5 5 61 ∷ finding 5 6 61 ∷ finding 5 7 61 ∷ finding 5 9 62
+    ∷ finding 5 10 26 ∷ finding 5 10 60 ∷ finding 5 10 62 ∷ finding 5 11 61 ∷ finding 5 11 62 ∷ [])
+
+-- without it, answers are those of before
+abbrev pub asAllAsk : Case
+asAllAsk = foundBy Plain forBoards (finding 5 3 26 ∷ finding 5 10 26 ∷ [])
+
+-- The same feed from (5, 3, 31) on, with room for two: 60 stands behind 31 on its line, and the total is the one of the list so asked for.
+abbrev pub boardsPage : Case
+boardsPage =
+    handed Boards forBoards (sevens 7) (record { file = pos 5; line = pos 3; rule = pos 31 })
+    (Findings 2 12) (pos 5 ∷ pos 3 ∷ pos 60 ∷ pos 5 ∷ pos 4 ∷ pos 60 ∷ pos 7 ∷ [])
+
+-- A feed that is accepted has a finding where the profile is asked for: calls that all ask give it, then none.
+abbrev pub boardsCalls : Case
+boardsCalls =
+    called Boards
+    (around oneStop oneTrip "trip_id,arrival_time,departure_time,stop_id,stop_sequence\nT,08:00:00,08:00:00,A,1\nT,,,A,2\nT,08:05:00,08:05:00,A,3\n")
+    (sevens 3) (again ∷ again ∷ [])
+    ((pos 5 ∷ pos 3 ∷ pos 60 ∷ []) ∷ [] ∷ [])
+
 abbrev pub worked : List Case
 worked =
     acceptedCall
@@ -608,4 +647,8 @@ worked =
     ∷ typeOnly
     ∷ longitude "180" (TenMillionths (pos 1800000000))
     ∷ time "9:60:00" NoTime
+    ∷ asBoardsAsk
+    ∷ asAllAsk
+    ∷ boardsPage
+    ∷ boardsCalls
     ∷ []

@@ -1,4 +1,4 @@
--- The three demands, sentence by sentence, of a call that was lent these files, tables, list and starting place, and ended with this outcome.
+-- The three demands, sentence by sentence, of a call that was lent these files, tables, list and starting place, asked for the profile or not, and ended with this outcome.
 use Prim.Native.Nat.{ℕ, _≤_, _<_}
 use mathlib.Core.Path.{_≡_}
 use mathlib.Core.Logic.{_↔_, _⊎_}
@@ -7,6 +7,7 @@ use lib.IntN.{ℤ}
 use lib.ListN.{length, getD}
 use Rattle.meaning.specs.declared.Refusal.{Refusal}
 use Rattle.meaning.specs.declared.Place.{Place}
+use Rattle.meaning.specs.declared.Profile.{Profile}
 use Rattle.meaning.specs.Columns.{columnOf, countOf, rowsOf}
 use Rattle.meaning.specs.Tables.{feedOf, fileOf}
 use Rattle.meaning.specs.Refusals.{Claim, claims, slack}
@@ -33,7 +34,7 @@ pub record Demand1 (files : List (List ℕ)) (tables : List (List ℤ)) (list : 
   -- and it changes nothing in the tables or the list
   pub untouched : (r : Refusal) → answerNumbers (o .answer) ≡ saysRefused r → (o .tables ≡ tables) × (o .list ≡ list)
 
-pub record Demand2 (files : List (List ℕ)) (tables : List (List ℤ)) (o : Outcome) : Type 0 where
+pub record Demand2 (files : List (List ℕ)) (tables : List (List ℤ)) (asked : Profile) (o : Outcome) : Type 0 where
   -- when the files can be read, every value of a known column is there where it is needed, short where it is an id, and of its form
   pub values :
       Reads files tables
@@ -47,27 +48,27 @@ pub record Demand2 (files : List (List ℕ)) (tables : List (List ℤ)) (o : Out
   pub held : Reads files tables → TablesHeld files tables (o .tables)
   -- every table is as long as it was lent
   pub long : map length (o .tables) ≡ map length tables
-  -- the feed is accepted exactly when no finding exists
-  pub accepted : answerNumbers (o .answer) ≡ saysAccepted ↔ Reads files tables × (findingsOf (feedOf files) ≡ [])
+  -- the feed is accepted exactly when no finding exists, of the list so asked for
+  pub accepted : answerNumbers (o .answer) ≡ saysAccepted ↔ Reads files tables × (findingsOf asked (feedOf files) ≡ [])
   -- in an accepted feed times never fall between any two timed lines of one trip, taken in trip order
   pub times : answerNumbers (o .answer) ≡ saysAccepted → TimesNeverFall (feedOf files)
   -- which is the order of sequences: no two lines of one trip share one
   pub sequences : answerNumbers (o .answer) ≡ saysAccepted → SequencesDiffer (feedOf files)
 
-pub record Demand3 (files : List (List ℕ)) (tables : List (List ℤ)) (list : List ℤ) (p : Place) (o : Outcome) : Type 0 where
-  -- the findings are all the places where a binding rule is broken
-  pub all : (f n r : ℕ) → List·Memᴰ (finding f n r) (findingsOf (feedOf files)) ↔ BrokenAt (feedOf files) f n r
+pub record Demand3 (files : List (List ℕ)) (tables : List (List ℤ)) (list : List ℤ) (p : Place) (asked : Profile) (o : Outcome) : Type 0 where
+  -- the findings are all the places where a binding rule, of those asked for, is broken
+  pub all : (f n r : ℕ) → List·Memᴰ (finding f n r) (findingsOf asked (feedOf files)) ↔ BrokenAt asked (feedOf files) f n r
   -- each once, ordered by file, line, rule
-  pub ordered : Ordered comesBefore (findingsOf (feedOf files))
+  pub ordered : Ordered comesBefore (findingsOf asked (feedOf files))
   -- a call hands out those after its starting place, the earliest first and none skipped, as many as fit, and the true total
-  pub handed-out : Reads files tables → PageTold (findingsOf (feedOf files)) p list o
+  pub handed-out : Reads files tables → PageTold (findingsOf asked (feedOf files)) p list o
   -- the list is as long as it was lent
   pub long : length (o .list) ≡ length list
   -- over unchanged files and long enough tables, calls with room for at least one finding, the first from the list's beginning and each
-  -- later one from the last finding handed out, until a call hands out none, together give the whole list
+  -- later one from the last finding handed out, until a call hands out none, together give the whole list; all ask for the profile, or all don't
   pub joins :
       Reads files tables
       → 3 ≤ length list
       → (lendings : List Lending)
       → Each (Enough files) lendings
-      → CallsJoin files tables list lendings
+      → CallsJoin asked files tables list lendings

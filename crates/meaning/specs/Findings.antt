@@ -6,6 +6,7 @@ use lib.IntN.{ℤ, pos}
 use lib.ListN.{length}
 use lib.Dec.{eqb}
 use Rattle.meaning.specs.declared.Place.{Place}
+use Rattle.meaning.specs.declared.Profile.{Profile}
 use Rattle.meaning.specs.declared.Answer.{Answer}
 use Rattle.meaning.specs.declared.Answer.the-variants.{Accepted, Findings, Refused}
 use Rattle.meaning.specs.Tables.{Feed}
@@ -29,9 +30,9 @@ listed (p ∷ r) =
     let k = listed r in
     cond (p .broken) (finding (p .file) (p .line) (p .number) ∷ k) k
 
--- all findings of a feed
-unfoldable pub findingsOf : Feed → List Finding
-findingsOf w = listed (bindings w)
+-- all findings of a feed, by the rules that are asked for
+unfoldable pub findingsOf : Profile → Feed → List Finding
+findingsOf asked w = listed (bindings asked w)
 
 -- its row
 abbrev pub triple : Finding → List ℤ

@@ -11,6 +11,8 @@ use Rattle.meaning.specs.declared.Column.{Column}
 use Rattle.meaning.specs.declared.Refusal.{Refusal}
 use Rattle.meaning.specs.declared.Verdict.the-variants.{Unreadable}
 use Rattle.meaning.specs.declared.Place.{Place}
+use Rattle.meaning.specs.declared.Profile.{Profile}
+use Rattle.meaning.specs.declared.Profile.the-variants.{Plain, Boards}
 use Rattle.meaning.specs.Lists.{same, keep, laid, place}
 use Rattle.meaning.specs.Bytes.{Line, linesOf, countLf, fields}
 use Rattle.meaning.specs.Columns.{places, headerOf}
@@ -207,17 +209,22 @@ SequencesDiffer w =
 
 -- ---- Demand 3
 
--- binding rule r is broken on line n of file f
-pub record BrokenAt (w : Feed) (f n r : ℕ) : Type 0 where
+-- binding rule r, of those asked for, is broken on line n of file f
+pub record BrokenAt (asked : Profile) (w : Feed) (f n r : ℕ) : Type 0 where
   pub from : 2 ≤ n
   pub to : n < recordCount w f + 2
-  pub rule : List·Memᴰ (test r true) (rulesOf w f (n - 2))
+  pub rule : List·Memᴰ (test r true) (rulesOf asked w f (n - 2))
 
--- the numbers of a finding: file 1 to 6, a line of that file's records, rule 20 to 31
-pub record Findable (w : Feed) (d : Finding) : Type 0 where
+-- the highest number of a rule that is asked for
+abbrev pub highest : Profile → ℕ
+highest Plain = 31
+highest Boards = 62
+
+-- the numbers of a finding: file 1 to 6, a line of that file's records, rule 20 to 31 or, for boards, to 62
+pub record Findable (asked : Profile) (w : Feed) (d : Finding) : Type 0 where
   pub file : (1 ≤ d .file) × (d .file ≤ 6)
   pub line : (2 ≤ d .line) × (d .line ≤ recordCount w (d .file) + 1)
-  pub rule : (20 ≤ d .rule) × (d .rule ≤ 31)
+  pub rule : (20 ≤ d .rule) × (d .rule ≤ highest asked)
 
 -- which of two findings comes first: by file, line, rule
 unfoldable pub comesBefore : Finding → Finding → Bool

@@ -12,10 +12,12 @@ use Rattle.meaning.specs.declared.Date.{Date}
 use Rattle.meaning.specs.declared.Date.the-variants.{Day, NoDate}
 use Rattle.meaning.specs.declared.Choice.{Choice}
 use Rattle.meaning.specs.declared.Choice.the-variants.{Picked, NoChoice}
+use Rattle.meaning.specs.declared.Profile.{Profile}
+use Rattle.meaning.specs.declared.Profile.the-variants.{Plain, Boards}
 use Rattle.meaning.specs.Lists.{same, empty, some, keep, flat, stands}
 use Rattle.meaning.specs.Columns.{Row}
 use Rattle.meaning.specs.Forms.{timeOf, dateOf, sequenceOf, choiceOf}
-use Rattle.meaning.specs.Tables.{Feed, rowsIn, stopIds, routeIds, serviceIds, tripIds, datedIds, refer, parentStation, routeShortName, routeLongName, startDate, endDate, tripRoute, tripService, tripId, timeTrip, arrivalTime, departureTime, timeStop, stopSequence, timepoint, exceptionService, exceptionDate, kindOf}
+use Rattle.meaning.specs.Tables.{Feed, rowsIn, stopIds, routeIds, serviceIds, tripIds, datedIds, refer, parentStation, routeShortName, routeLongName, startDate, endDate, tripRoute, tripService, tripId, timeTrip, arrivalTime, departureTime, timeStop, stopSequence, pickupType, dropOffType, timepoint, exceptionService, exceptionDate, kindOf}
 use Rattle.meaning.specs.Refusals.{Test, test, Claim, onLine}
 
 -- the row with index i
@@ -221,6 +223,42 @@ openEnded w v = someUntimed w (isFirst w v) || someUntimed w (isLast w v)
 unfoldable pub rule31 : Feed → ℕ → Bool
 rule31 w i = firstOfTrip w i && openEnded w (tripId (row (w .trips) i))
 
+-- Document 02's E13: boards add rules on file 5. 60 (5): a line isn't timed
+unfoldable pub rule60 : Feed → ℕ → Bool
+rule60 w i = untimed (timeRow w i)
+
+-- a choice is 2 or 3
+abbrev pub isTwoOrThree : Choice → Bool
+isTwoOrThree (Picked n) = eqb n 2 || eqb n 3
+isTwoOrThree NoChoice = false
+
+-- 61 (5): pickup or drop-off is 2 or 3
+unfoldable pub rule61 : Feed → ℕ → Bool
+rule61 w i =
+    let r = timeRow w i in
+    isTwoOrThree (choiceOf 3 (pickupType r)) || isTwoOrThree (choiceOf 3 (dropOffType r))
+
+-- two days, in seconds
+abbrev pub twoDays : ℕ
+twoDays = 172800
+
+-- a time of 172,800 seconds or more
+abbrev pub isLate : Time → Bool
+isLate (Seconds n) = not (ltb n twoDays)
+isLate Untimed = false
+isLate NoTime = false
+
+-- 62 (5): a time of 172,800 seconds or more
+unfoldable pub rule62 : Feed → ℕ → Bool
+rule62 w i =
+    let r = timeRow w i in
+    isLate (timeOf (arrivalTime r)) || isLate (timeOf (departureTime r))
+
+-- the rules that a profile adds to a line of file 5
+unfoldable pub addedRules : Profile → Feed → ℕ → List Test
+addedRules Plain w i = []
+addedRules Boards w i = test 60 (rule60 w i) ∷ test 61 (rule61 w i) ∷ test 62 (rule62 w i) ∷ []
+
 -- the rules of a line of each file, in the order of their numbers
 unfoldable pub stopRules : Feed → ℕ → List Test
 stopRules w i = test 20 (rule20 (stopIds w) i) ∷ test 21 (rule21·stops w i) ∷ test 22 (rule22 w i) ∷ []
@@ -239,15 +277,15 @@ tripRules w i =
     ∷ test 31 (rule31 w i)
     ∷ []
 
-unfoldable pub timeRules : Feed → ℕ → List Test
-timeRules w i =
+unfoldable pub timeRules : Profile → Feed → ℕ → List Test
+timeRules asked w i =
     test 21 (rule21·times w i)
     ∷ test 23 (rule23 w i)
     ∷ test 26 (rule26 w i)
     ∷ test 27 (rule27 w i)
     ∷ test 28 (rule28 w i)
     ∷ test 29 (rule29 w i)
-    ∷ []
+    ∷ addedRules asked w i
 
 unfoldable pub dateRules : Feed → ℕ → List Test
 dateRules w i = test 20 (rule20·dates w i) ∷ []
@@ -256,16 +294,16 @@ dateRules w i = test 20 (rule20·dates w i) ∷ []
 unfoldable pub recordCount : Feed → ℕ → ℕ
 recordCount w f = length (rowsIn w f)
 
--- the rules of file f
-unfoldable pub rulesOf : Feed → ℕ → ℕ → List Test
-rulesOf w f =
+-- the rules of file f, as they are asked for
+unfoldable pub rulesOf : Profile → Feed → ℕ → ℕ → List Test
+rulesOf asked w f =
     getD
     ((λ i. [])
     ∷ stopRules w
     ∷ routeRules w
     ∷ serviceRules w
     ∷ tripRules w
-    ∷ timeRules w
+    ∷ timeRules asked w
     ∷ dateRules w
     ∷ [])
     f
@@ -277,13 +315,13 @@ onRecords f rules i zero = []
 onRecords f rules i (suc n) = onLine f (i + 2) (rules i) ++ onRecords f rules (i + 1) n
 
 -- every rule of file f on every line
-unfoldable pub bindingsOf : Feed → ℕ → List Claim
-bindingsOf w f = onRecords f (rulesOf w f) 0 (recordCount w f)
+unfoldable pub bindingsOf : Profile → Feed → ℕ → List Claim
+bindingsOf asked w f = onRecords f (rulesOf asked w f) 0 (recordCount w f)
 
 -- the files
 abbrev pub fileNumbers : List ℕ
 fileNumbers = 1 ∷ 2 ∷ 3 ∷ 4 ∷ 5 ∷ 6 ∷ []
 
 -- every rule on every line of every file, in order of file, line, rule
-unfoldable pub bindings : Feed → List Claim
-bindings w = flat (map (bindingsOf w) fileNumbers)
+unfoldable pub bindings : Profile → Feed → List Claim
+bindings asked w = flat (map (bindingsOf asked w) fileNumbers)

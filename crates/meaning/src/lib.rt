@@ -65,6 +65,12 @@ pub enum Verdict {
     Unreadable(Refusal),
 }
 
+// Which rules bind: those of every feed, or those that boards add too.
+pub enum Profile {
+    Plain,
+    Boards,
+}
+
 // The starting place of a call: any three numbers.
 pub struct Place {
     pub file: i32,
