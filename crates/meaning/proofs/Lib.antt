@@ -23,4 +23,5 @@ pub mod Characters
 pub mod BadUtf8
 pub mod WhichColumn
 pub mod Nodes
+pub mod Boards
 pub mod Starred

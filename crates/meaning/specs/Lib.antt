@@ -18,4 +18,5 @@ pub mod ByDate
 pub mod BadUtf8
 pub mod WhichColumn
 pub mod Nodes
+pub mod Boards
 pub mod Cases
