@@ -12,7 +12,7 @@ use Rattle.rows.specs.Cells.{natAt, timeAt, timeIn}
 use Rattle.meaning.specs.Bytes.{Line, linesOf}
 use Rattle.meaning.specs.Columns.{Row, places, headerOf, rowOf, rowsOf}
 use Rattle.meaning.specs.Forms.{timeOf, dateOf}
-use Rattle.meaning.specs.Tables.{Feed, widths, widthOf, recordOf, numbersOf, idPlace, stopNumbers, serviceNumbers, tripNumbers, timeNumbers, seconds, day, orZero, orMinus, refer, stopIds, routeIds, serviceIds, tripIds, datedIds, locationType, parentStation, startDate, endDate, tripRoute, tripService, timeTrip, timeStop, arrivalTime, departureTime, timepoint}
+use Rattle.meaning.specs.Tables.{Feed, widths, widthOf, recordOf, numbersOf, idPlace, stopNumbers, serviceNumbers, tripNumbers, timeNumbers, seconds, day, orZero, orMinus, refer, stopIds, routeIds, serviceIds, tripIds, datedIds, locationType, parentStation, startDate, endDate, tripRoute, tripService, timeTrip, timeStop, arrivalTime, departureTime, pickupType, dropOffType, timepoint}
 use Rattle.meaning.specs.Rules.{row}
 use Rattle.meaning.specs.Promises.{noLine}
 use Rattle.meaning.proofs.Records.{number-held, row-held}
@@ -99,6 +99,14 @@ module _ (w : Feed) (s : List ℕ) (t : List ℤ) (i : ℕ) where
     pub time-departure : timeAt t ((i + 1) * 8 + 4) ≡ timeIn (seconds (timeOf (departureTime (row (w .stopTimes) i))))
     unfolding timeNumbers
     time-departure = ap timeIn (time-number 4 (omega arith))
+
+    pub time-pickup : natAt t ((i + 1) * 8 + 5) ≡ natOf (orZero 3 (pickupType (row (w .stopTimes) i)))
+    unfolding timeNumbers
+    time-pickup = ap natOf (time-number 5 (omega arith))
+
+    pub time-drop-off : natAt t ((i + 1) * 8 + 6) ≡ natOf (orZero 3 (dropOffType (row (w .stopTimes) i)))
+    unfolding timeNumbers
+    time-drop-off = ap natOf (time-number 6 (omega arith))
 
     pub time-point : natAt t ((i + 1) * 8 + 7) ≡ natOf (orMinus 1 (timepoint (row (w .stopTimes) i)))
     unfolding timeNumbers

@@ -1,20 +1,23 @@
 -- Laws: judged by what its tables hold, a line breaks exactly the rules that the definitions say.
 use Prim.Native.Nat.{ℕ, _-_}
-use mathlib.Core.Path.{_≡_, refl, sym, ap, _∙_}
-use mathlib.Core.List.{List, [], _∷_}
-use mathlib.Core.Bool.{Bool, true, false, not, _&&_}
+use mathlib.Core.Path.{_≡_, refl, sym, ap, ap₂, _∙_}
+use mathlib.Core.List.{List, [], _∷_, _++_}
+use mathlib.Core.Bool.{Bool, true, false, not, _&&_, _||_}
 use lib.ListN.{length}
-use lib.Dec.{ltb, eqb}
+use lib.Dec.{ltb, leb, eqb}
 use borrow.Author.Tests.{eqb-false}
 use Rattle.num.specs.Signs.{natOf}
 use Rattle.meaning.specs.declared.Time.{Time}
+use Rattle.meaning.specs.declared.Profile.{Profile}
+use Rattle.meaning.specs.declared.Profile.the-variants.{Plain, Boards}
 use Rattle.meaning.specs.Columns.{Row}
+use Rattle.meaning.specs.Refusals.{Test}
 use Rattle.meaning.specs.Forms.{timeOf, dateOf}
-use Rattle.meaning.specs.Tables.{Feed, stopIds, refer, parentStation, startDate, endDate, tripId, arrivalTime, departureTime, timeStop, timepoint, orMinus, kindOf}
-use Rattle.meaning.specs.Rules.{row, dangling, rule21·stops, inNeither, rule21·trips, rule21·times, otherKind, parentKind, rule22, rule23, rule24, given, secondsOf, timed, untimed, arrives, departs, rule26, rule27, ofTripLine, firstOfTrip, rule30, openEnded, rule31, stopRules, routeRules, serviceRules, tripRules, timeRules, dateRules}
+use Rattle.meaning.specs.Tables.{Feed, stopIds, refer, parentStation, startDate, endDate, tripId, arrivalTime, departureTime, timeStop, pickupType, dropOffType, timepoint, orZero, orMinus, kindOf}
+use Rattle.meaning.specs.Rules.{row, dangling, rule21·stops, inNeither, rule21·trips, rule21·times, otherKind, parentKind, rule22, rule23, rule24, given, secondsOf, timed, untimed, arrives, departs, rule26, rule27, ofTripLine, firstOfTrip, rule30, openEnded, rule31, twoDays, isLate, rule60, rule61, rule62, addedRules, stopRules, routeRules, serviceRules, tripRules, timeRules, dateRules}
 use Rattle.meaning.proofs.References.{dangling-refer}
-use Rattle.judging.specs.Judging.{loose, offKind, bothGiven, halfTimed, sooner, stopJudged, routeJudged, serviceJudged, tripJudged, timeJudged, dateJudged, testsFrom}
-use Rattle.judging.proofs.Stored.{kind-number, one-number}
+use Rattle.judging.specs.Judging.{loose, offKind, bothGiven, halfTimed, sooner, onRequest, filledUp, stopJudged, routeJudged, serviceJudged, tripJudged, timeJudged, timesAsked, dateJudged, testsFrom}
+use Rattle.judging.proofs.Stored.{kind-number, one-number, two-or-three-number, late-seconds}
 use Rattle.rows.proofs.Stored.{day-stored, given-stored, seconds-stored}
 use Rattle.judging.proofs.Seen.{Refers, KindAt, IsTime, StopSeen, RouteSeen, ServiceSeen, TripSeen, TimeSeen, DateSeen}
 
@@ -49,7 +52,10 @@ given-is v t e = rw e (sym (given-stored (timeOf v)))
 seconds-is : (v : List ℕ) (t : Time) → IsTime v t → secondsOf (timeOf v) ≡ secondsOf t
 seconds-is v t e = rw e (sym (seconds-stored (timeOf v)))
 
--- ---- rules 26 and 27
+late-is : (v : List ℕ) (t : Time) → IsTime v t → isLate (timeOf v) ≡ isLate t
+late-is v t e = late-seconds (timeOf v) ∙ ap (leb twoDays) (seconds-is v t e) ∙ sym (late-seconds t)
+
+-- ---- rules 26 and 27, and 60 to 62
 
 module _ (r : Row) (arrival departure : Time) (a : IsTime (arrivalTime r) arrival) (d : IsTime (departureTime r) departure) where
   timed-is : timed r ≡ bothGiven arrival departure
@@ -79,14 +85,29 @@ module _ (w : Feed) (i : ℕ) (arrival departure : Time) (a : IsTime (arrivalTim
         seconds-is (departureTime r) departure d,
       )
 
+  untimed-is : rule60 w i ≡ not (bothGiven arrival departure)
+  unfolding rule60 untimed
+  untimed-is = rw (timed-is (row (w .stopTimes) i) arrival departure a d)
+
+  late-times-is : rule62 w i ≡ (isLate arrival || isLate departure)
+  unfolding rule62
+  late-times-is = let r = row (w .stopTimes) i in rw (late-is (arrivalTime r) arrival a, late-is (departureTime r) departure d)
+
+request-is : (w : Feed) (i pickup dropOff : ℕ) → pickup ≡ natOf (orZero 3 (pickupType (row (w .stopTimes) i))) → dropOff ≡ natOf (orZero 3 (dropOffType (row (w .stopTimes) i)))
+    → rule61 w i ≡ onRequest pickup dropOff
+unfolding rule61
+request-is w i pickup dropOff a b =
+    let r = row (w .stopTimes) i in
+    rw (a, b, two-or-three-number 3 (pickupType r), two-or-three-number 3 (dropOffType r))
+
 -- ---- one line of each file
 
 module _ {w : Feed} {i : ℕ} where
   pub stop-judged :
       {repeats none : Bool} {parent kind has : ℕ}
       → StopSeen w i repeats none parent kind has
-      → stopRules w i ≡ testsFrom (20 ∷ 21 ∷ 22 ∷ 0 ∷ 0 ∷ 0 ∷ []) (stopJudged repeats none parent kind has) 3
-  unfolding stopRules testsFrom stopJudged rule21·stops rule22
+      → stopRules w i ≡ testsFrom (filledUp 0 (20 ∷ 21 ∷ 22 ∷ [])) (stopJudged repeats none parent kind has) 3
+  unfolding stopRules testsFrom filledUp stopJudged rule21·stops rule22
   stop-judged {repeats} {none} {parent} {kind} {has} s =
       let v = parentStation (row (w .stops) i) in
       let e : kindOf (row (w .stops) i) ≡ kind = sym (s .kinds ∙ kind-number (row (w .stops) i)) in
@@ -101,15 +122,15 @@ module _ {w : Feed} {i : ℕ} where
   pub route-judged :
       {repeats nameless : Bool}
       → RouteSeen w i repeats nameless
-      → routeRules w i ≡ testsFrom (20 ∷ 25 ∷ 0 ∷ 0 ∷ 0 ∷ 0 ∷ []) (routeJudged repeats nameless) 2
-  unfolding routeRules testsFrom routeJudged
+      → routeRules w i ≡ testsFrom (filledUp 0 (20 ∷ 25 ∷ [])) (routeJudged repeats nameless) 2
+  unfolding routeRules testsFrom filledUp routeJudged
   route-judged s = rw (← s .again, ← s .names)
 
   pub service-judged :
       {repeats : Bool} {start end : ℕ}
       → ServiceSeen w i repeats start end
-      → serviceRules w i ≡ testsFrom (20 ∷ 24 ∷ 0 ∷ 0 ∷ 0 ∷ 0 ∷ []) (serviceJudged repeats start end) 2
-  unfolding serviceRules testsFrom serviceJudged rule24
+      → serviceRules w i ≡ testsFrom (filledUp 0 (20 ∷ 24 ∷ [])) (serviceJudged repeats start end) 2
+  unfolding serviceRules testsFrom filledUp serviceJudged rule24
   service-judged {repeats} {start} {end} s =
       let r = row (w .calendar) i in
       rw (← s .again, s .starts, s .ends, day-stored (dateOf (startDate r)), day-stored (dateOf (endDate r)))
@@ -117,8 +138,8 @@ module _ {w : Feed} {i : ℕ} where
   pub trip-judged :
       {repeats : Bool} {route service dated : ℕ} {paired openEnd : Bool}
       → TripSeen w i repeats route service dated paired openEnd
-      → tripRules w i ≡ testsFrom (20 ∷ 21 ∷ 30 ∷ 31 ∷ 0 ∷ 0 ∷ []) (tripJudged repeats route service dated paired openEnd) 4
-  unfolding tripRules testsFrom tripJudged rule21·trips inNeither rule30 rule31 firstOfTrip
+      → tripRules w i ≡ testsFrom (filledUp 0 (20 ∷ 21 ∷ 30 ∷ 31 ∷ [])) (tripJudged repeats route service dated paired openEnd) 4
+  unfolding tripRules testsFrom filledUp tripJudged rule21·trips inNeither rule30 rule31 firstOfTrip
   trip-judged {repeats} {route} {service} {dated} {paired} {openEnd} s =
       let few = ltb (length (ofTripLine w i)) 2 in
       rw (
@@ -130,24 +151,39 @@ module _ {w : Feed} {i : ℕ} where
         unless repeats (openEnded w (tripId (row (w .trips) i))) openEnd (λ e. sym (s .ends e)),
       )
 
-  pub time-judged :
-      {trip stop stopKind : ℕ} {arrival departure : Time} {point : ℕ} {equal falling : Bool}
-      → TimeSeen w i trip stop stopKind arrival departure point equal falling
-      → timeRules w i ≡ testsFrom (21 ∷ 23 ∷ 26 ∷ 27 ∷ 28 ∷ 29 ∷ []) (timeJudged trip stop stopKind arrival departure point equal falling) 6
-  unfolding timeRules testsFrom timeJudged rule21·times rule23
-  time-judged {trip} {stop} {stopKind} {arrival} {departure} {point} {equal} {falling} s =
-      let r = row (w .stopTimes) i in
-      rw (
-        loose-is (s .trips),
-        loose-is (s .halts),
-        off-kind-is w 0 (timeStop r) stop stopKind (s .halts .resolves) (s .kinds),
-        half-is w i arrival departure (s .arrived) (s .departed) point (s .points),
-        backward-is w i arrival departure (s .arrived) (s .departed),
-        ← s .equals,
-        ← s .falls,
-      )
+  module _ {trip stop stopKind : ℕ} {arrival departure : Time} {pickup dropOff point : ℕ} {equal falling : Bool}
+      (s : TimeSeen w i trip stop stopKind arrival departure pickup dropOff point equal falling) where
+    abbrev judged : Profile → List Test
+    judged asked =
+        testsFrom (21 ∷ 23 ∷ 26 ∷ 27 ∷ 28 ∷ 29 ∷ 60 ∷ 61 ∷ 62 ∷ [])
+        (timeJudged trip stop stopKind arrival departure pickup dropOff point equal falling)
+        (timesAsked asked)
+
+    plain-judged : timeRules Plain w i ≡ judged Plain
+    unfolding timeRules addedRules testsFrom timeJudged rule21·times rule23
+    plain-judged =
+        rw (
+          loose-is (s .trips),
+          loose-is (s .halts),
+          off-kind-is w 0 (timeStop (row (w .stopTimes) i)) stop stopKind (s .halts .resolves) (s .kinds),
+          half-is w i arrival departure (s .arrived) (s .departed) point (s .points),
+          backward-is w i arrival departure (s .arrived) (s .departed),
+          ← s .equals,
+          ← s .falls,
+        )
+
+    pub time-judged : (asked : Profile) → timeRules asked w i ≡ judged asked
+    unfolding timeRules addedRules testsFrom timeJudged
+    time-judged Plain = plain-judged
+    time-judged Boards =
+        ap₂ _++_ plain-judged
+        (rw (
+          untimed-is w i arrival departure (s .arrived) (s .departed),
+          request-is w i pickup dropOff (s .boards) (s .alights),
+          late-times-is w i arrival departure (s .arrived) (s .departed),
+        ))
 
   pub date-judged :
-      {repeats : Bool} → DateSeen w i repeats → dateRules w i ≡ testsFrom (20 ∷ 0 ∷ 0 ∷ 0 ∷ 0 ∷ 0 ∷ []) (dateJudged repeats) 1
-  unfolding dateRules testsFrom dateJudged
+      {repeats : Bool} → DateSeen w i repeats → dateRules w i ≡ testsFrom (filledUp 0 (20 ∷ [])) (dateJudged repeats) 1
+  unfolding dateRules testsFrom filledUp dateJudged
   date-judged s = rw (← s .again)

@@ -9,7 +9,7 @@ use Rattle.num.specs.Signs.{natOf}
 use Rattle.meaning.specs.declared.Time.{Time}
 use Rattle.meaning.specs.Lists.{empty}
 use Rattle.meaning.specs.Forms.{timeOf, dateOf}
-use Rattle.meaning.specs.Tables.{Feed, stopIds, routeIds, serviceIds, tripIds, datedIds, refer, locationType, parentStation, startDate, endDate, tripRoute, tripService, tripId, timeTrip, arrivalTime, departureTime, timeStop, timepoint, orZero, orMinus, day, seconds}
+use Rattle.meaning.specs.Tables.{Feed, stopIds, routeIds, serviceIds, tripIds, datedIds, refer, locationType, parentStation, startDate, endDate, tripRoute, tripService, tripId, timeTrip, arrivalTime, departureTime, timeStop, pickupType, dropOffType, timepoint, orZero, orMinus, day, seconds}
 use Rattle.meaning.specs.Rules.{row, rule20, rule20·dates, rule25, rule28, rule29, ofTripLine, openEnded}
 use Rattle.rows.specs.Cells.{timeIn}
 
@@ -51,12 +51,14 @@ pub record TripSeen (w : Feed) (i : ℕ) (repeats : Bool) (route service dated :
   pub ends : repeats ≡ false → openEnd ≡ openEnded w (tripId (row (w .trips) i))
 
 -- nor is one of a line of stop_times
-pub record TimeSeen (w : Feed) (i trip stop stopKind : ℕ) (arrival departure : Time) (point : ℕ) (equal falling : Bool) : Type 0 where
+pub record TimeSeen (w : Feed) (i trip stop stopKind : ℕ) (arrival departure : Time) (pickup dropOff point : ℕ) (equal falling : Bool) : Type 0 where
   pub trips : Refers (timeTrip (row (w .stopTimes) i)) (tripIds w) false trip
   pub halts : Refers (timeStop (row (w .stopTimes) i)) (stopIds w) false stop
   pub kinds : KindAt w stop stopKind
   pub arrived : IsTime (arrivalTime (row (w .stopTimes) i)) arrival
   pub departed : IsTime (departureTime (row (w .stopTimes) i)) departure
+  pub boards : pickup ≡ natOf (orZero 3 (pickupType (row (w .stopTimes) i)))
+  pub alights : dropOff ≡ natOf (orZero 3 (dropOffType (row (w .stopTimes) i)))
   pub points : point ≡ natOf (orMinus 1 (timepoint (row (w .stopTimes) i)))
   pub equals : equal ≡ rule28 w i
   pub falls : falling ≡ rule29 w i

@@ -2,19 +2,21 @@
 use Prim.Native.Nat.{ℕ}
 use mathlib.Core.Path.{_≡_, refl}
 use mathlib.Core.List.{List}
-use mathlib.Core.Bool.{Bool, true, false, cond}
+use mathlib.Core.Bool.{Bool, true, false, cond, _||_}
 use lib.ListN.{length}
-use lib.Dec.{eqb}
+use lib.Dec.{eqb, leb}
 use lib.IntN.{ℤ}
 use borrow.Author.Tests.{eqb-true}
 use Rattle.num.specs.Signs.{natOf}
+use Rattle.meaning.specs.declared.Time.{Time}
+use Rattle.meaning.specs.declared.Time.the-variants.{Seconds, Untimed, NoTime}
 use Rattle.meaning.specs.declared.Choice.{Choice}
 use Rattle.meaning.specs.declared.Choice.the-variants.{Picked, NoChoice}
 use Rattle.meaning.specs.Lists.{empty}
 use Rattle.meaning.specs.Columns.{Row}
 use Rattle.meaning.specs.Forms.{noMark, formed, digitText, choiceOf}
 use Rattle.meaning.specs.Tables.{locationType, picked, choiceOr, orZero, orMinus, oneIf, kindOf}
-use Rattle.meaning.specs.Rules.{isOne}
+use Rattle.meaning.specs.Rules.{secondsOf, isOne, isTwoOrThree, twoDays, isLate}
 
 -- ---- choices
 
@@ -62,3 +64,20 @@ one-number m v = stored _ m v (λ z. eqb (natOf z) 1) isOne go refl
     go : (c : Choice) → eqb (natOf (picked c)) 1 ≡ isOne c
     go (Picked n) = refl
     go NoChoice = refl
+
+-- 0, which stands for an empty value, isn't 2 or 3
+pub two-or-three-number : (m : ℕ) (v : List ℕ) → (eqb (natOf (orZero m v)) 2 || eqb (natOf (orZero m v)) 3) ≡ isTwoOrThree (choiceOf m v)
+unfolding orZero
+two-or-three-number m v = stored _ m v (λ z. eqb (natOf z) 2 || eqb (natOf z) 3) isTwoOrThree go refl
+  where
+    go : (c : Choice) → (eqb (natOf (picked c)) 2 || eqb (natOf (picked c)) 3) ≡ isTwoOrThree c
+    go (Picked n) = refl
+    go NoChoice = refl
+
+-- ---- times
+
+-- where none is given, its seconds are 0, and not late
+pub late-seconds : (t : Time) → isLate t ≡ leb twoDays (secondsOf t)
+late-seconds (Seconds n) = refl
+late-seconds Untimed = refl
+late-seconds NoTime = refl

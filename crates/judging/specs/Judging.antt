@@ -1,12 +1,14 @@
 -- What the stored numbers of one line, and a few tests of its values, say of each binding rule.
-use Prim.Native.Nat.{ℕ, zero, suc}
+use Prim.Native.Nat.{ℕ, zero, suc, _-_}
 use mathlib.Core.List.{List, [], _∷_, _++_}
 use mathlib.Core.Bool.{Bool, false, not, _&&_, _||_}
-use lib.ListN.{getD}
+use lib.ListN.{length, getD, replicate}
 use lib.Dec.{ltb, eqb}
 use Rattle.meaning.specs.declared.Time.{Time}
+use Rattle.meaning.specs.declared.Profile.{Profile}
+use Rattle.meaning.specs.declared.Profile.the-variants.{Plain, Boards}
 use Rattle.meaning.specs.Refusals.{Test, test}
-use Rattle.meaning.specs.Rules.{parentKind, given, secondsOf}
+use Rattle.meaning.specs.Rules.{parentKind, given, secondsOf, isLate}
 
 -- ---- one rule
 
@@ -36,49 +38,58 @@ halfTimed arrival departure timepoint =
 abbrev pub sooner : Time → Time → Bool
 sooner a b = ltb (secondsOf a) (secondsOf b)
 
--- ---- the rules of a line of each file, in the order of their numbers; unused places are false
+-- 61: one of two choices is 2 or 3
+abbrev pub onRequest : ℕ → ℕ → Bool
+onRequest pickup dropOff = (eqb pickup 2 || eqb pickup 3) || (eqb dropOff 2 || eqb dropOff 3)
+
+-- ---- the rules of a line of each file, in the order of their numbers, nine at most
+
+-- what fills up nine places
+unfoldable pub filledUp : {A : Type 0} → A → List A → List A
+filledUp d l = l ++ replicate (9 - length l) d
 
 -- 20 is judged by the mark that the id repeats an earlier line's, 25 by the mark that the route is nameless
 unfoldable pub stopJudged : Bool → Bool → ℕ → ℕ → ℕ → List Bool
 stopJudged repeats noParent parent kind parentKind =
-    repeats
-    ∷ loose noParent parent
-    ∷ misplaced noParent parent kind parentKind
-    ∷ false
-    ∷ false
-    ∷ false
-    ∷ []
+    filledUp false (repeats ∷ loose noParent parent ∷ misplaced noParent parent kind parentKind ∷ [])
 
 unfoldable pub routeJudged : Bool → Bool → List Bool
-routeJudged repeats nameless = repeats ∷ nameless ∷ false ∷ false ∷ false ∷ false ∷ []
+routeJudged repeats nameless = filledUp false (repeats ∷ nameless ∷ [])
 
 unfoldable pub serviceJudged : Bool → ℕ → ℕ → List Bool
-serviceJudged repeats start end = repeats ∷ ltb end start ∷ false ∷ false ∷ false ∷ false ∷ []
+serviceJudged repeats start end = filledUp false (repeats ∷ ltb end start ∷ [])
 
 -- neither reference of a line of trips or of stop_times is empty, by rule 12; 28 to 31 are judged by marks: equal, falling, paired, open-ended
 unfoldable pub tripJudged : Bool → ℕ → ℕ → ℕ → Bool → Bool → List Bool
 tripJudged repeats route service dated paired openEnded =
-    repeats
+    filledUp false
+    (repeats
     ∷ (loose false route || (loose false service && loose false dated))
     ∷ (not repeats && not paired)
     ∷ (not repeats && openEnded)
-    ∷ false
-    ∷ false
-    ∷ []
+    ∷ [])
 
-unfoldable pub timeJudged : ℕ → ℕ → ℕ → Time → Time → ℕ → Bool → Bool → List Bool
-timeJudged trip stop stopKind arrival departure timepoint equal falling =
+unfoldable pub timeJudged : ℕ → ℕ → ℕ → Time → Time → ℕ → ℕ → ℕ → Bool → Bool → List Bool
+timeJudged trip stop stopKind arrival departure pickup dropOff timepoint equal falling =
     (loose false trip || loose false stop)
     ∷ offKind 0 stop stopKind
     ∷ halfTimed arrival departure timepoint
     ∷ (bothGiven arrival departure && sooner departure arrival)
     ∷ equal
     ∷ falling
+    ∷ not (bothGiven arrival departure)
+    ∷ onRequest pickup dropOff
+    ∷ (isLate arrival || isLate departure)
     ∷ []
+
+-- how many of the rules of a line of stop_times are asked for
+abbrev pub timesAsked : Profile → ℕ
+timesAsked Plain = 6
+timesAsked Boards = 9
 
 -- 20 is judged by the mark that the service and the date repeat an earlier line's
 unfoldable pub dateJudged : Bool → List Bool
-dateJudged repeats = repeats ∷ false ∷ false ∷ false ∷ false ∷ false ∷ []
+dateJudged repeats = filledUp false (repeats ∷ [])
 
 -- the first n rules of a line, by their numbers, with what was judged of them
 unfoldable pub testsFrom : List ℕ → List Bool → ℕ → List Test

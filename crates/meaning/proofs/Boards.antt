@@ -10,7 +10,7 @@ use mathlib.Core.List.{List, [], _∷_, _++_, map, List·Memᴰ, List·Memᴰ·h
 use lib.IntN.{ℤ}
 use lib.ListN.{length}
 use lib.Dec.{eqb}
-use borrow.Author.Tests.{eqb-true, ltb-false, le-ltb, not-true, not-false}
+use borrow.Author.Tests.{eqb-true, leb-true, le-leb, not-true, not-false}
 use Rattle.meaning.specs.declared.Time.{Time}
 use Rattle.meaning.specs.declared.Time.the-variants.{Seconds, Untimed, NoTime}
 use Rattle.meaning.specs.declared.Choice.{Choice}
@@ -173,10 +173,10 @@ two-or-three v = (go (choiceOf 3 v), ⊎-elim (λ e. rw e) (λ e. rw e))
     go NoChoice e = both false e refl
 
 late-exactly : (v : List ℕ) → isLate (timeOf v) ≡ true ↔ Late v
-late-exactly v = (go (timeOf v) refl, λ l. rw (l .is, le-ltb (l .time) twoDays (l .late)))
+late-exactly v = (go (timeOf v) refl, λ l. rw (l .is, le-leb twoDays (l .time) (l .late)))
   where
     go : (t : Time) → timeOf v ≡ t → isLate t ≡ true → Late v
-    go (Seconds n) q e = record { time = n; is = q; late = ltb-false n twoDays (not-true _ e) }
+    go (Seconds n) q e = record { time = n; is = q; late = leb-true twoDays n e }
     go Untimed q e = both false e refl
     go NoTime q e = both false e refl
 

@@ -3,7 +3,7 @@ use Prim.Native.Nat.{ℕ, zero, suc, _+_, _-_}
 use mathlib.Core.List.{List, [], _∷_, _++_, map}
 use mathlib.Core.Bool.{Bool, true, false, cond, not, _&&_, _||_}
 use lib.ListN.{length, getD, take}
-use lib.Dec.{ltb, eqb}
+use lib.Dec.{ltb, leb, eqb}
 use Rattle.meaning.specs.declared.Number.{Number}
 use Rattle.meaning.specs.declared.Number.the-variants.{Value, NoNumber}
 use Rattle.meaning.specs.declared.Time.{Time}
@@ -244,7 +244,7 @@ twoDays = 172800
 
 -- a time of 172,800 seconds or more
 abbrev pub isLate : Time → Bool
-isLate (Seconds n) = not (ltb n twoDays)
+isLate (Seconds n) = leb twoDays n
 isLate Untimed = false
 isLate NoTime = false
 

@@ -5,12 +5,13 @@ ghost use lib.ListN.{getD};
 ghost use Rattle.meaning.specs.Refusals.{onLine};
 ghost use Rattle.listing.specs.Handing.{state, noting};
 ghost use Rattle.judging.specs.Judging.{testsFrom};
+use judging::MOST_RULES;
 use listing::Sink;
 use meaning::Place;
 
 // The number of rule i of a line.
-fn number_at(numbers: [u8; 6], i: usize) -> u8
-    requires { ⌜ i < 6 ⌝ }
+fn number_at(numbers: [u8; MOST_RULES], i: usize) -> u8
+    requires { ⌜ i < 9 ⌝ }
     ensures { λ r. ⌜ r ≡ getD numbers i 0 ⌝ }
 {
     numbers[i]
@@ -23,12 +24,12 @@ pub fn note_line(
     p: Place,
     file: usize,
     line: usize,
-    numbers: [u8; 6],
-    broken: [bool; 6],
+    numbers: [u8; MOST_RULES],
+    broken: [bool; MOST_RULES],
     count: usize,
 ) -> Sink
     requires { ⌜ (file < 2 ^ 31) × (line < 2 ^ 31) ⌝ }
-    requires { ⌜ (count ≤ 6) × (k .total + count ≤ 2 ^ 62) ⌝ }
+    requires { ⌜ (count ≤ 9) × (k .total + count ≤ 2 ^ 62) ⌝ }
     ensures { λ r. ⌜ state (now (out .exit)) r ≡ noting p (onLine file line (testsFrom numbers broken count)) (state (now (out .entry)) k) ⌝ }
     ensures { λ r. ⌜ r .total ≤ k .total + count ⌝ }
 {

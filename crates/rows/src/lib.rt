@@ -386,6 +386,18 @@ impl StopTimes {
         cells::time_of(t, row.0, StopTimes::WIDTH, 4)
     }
 
+    pub fn pickup_at(t: &[i32], row: TimeRow) -> usize
+        ensures { λ r. ⌜ r ≡ natAt (now (t .entry)) (row .0 * 8 + 5) ⌝ }
+    {
+        cells::nat_of(t, row.0, StopTimes::WIDTH, 5)
+    }
+
+    pub fn drop_off_at(t: &[i32], row: TimeRow) -> usize
+        ensures { λ r. ⌜ r ≡ natAt (now (t .entry)) (row .0 * 8 + 6) ⌝ }
+    {
+        cells::nat_of(t, row.0, StopTimes::WIDTH, 6)
+    }
+
     // 0 or 1; a number past both where it is empty.
     pub fn timepoint_at(t: &[i32], row: TimeRow) -> usize
         ensures { λ r. ⌜ r ≡ natAt (now (t .entry)) (row .0 * 8 + 7) ⌝ }

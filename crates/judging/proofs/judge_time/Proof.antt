@@ -22,6 +22,15 @@ is-timed-requires c κs = search needs
 is-sooner-requires : tie.Need-is-sooner-requires
 is-sooner-requires c κs = search needs
 
+is-timed-requires-2 : tie.Need-is-timed-requires-2
+is-timed-requires-2 c κs = search needs
+
+is-on-request-requires : tie.Need-is-on-request-requires
+is-on-request-requires c κs = search needs
+
+is-either-late-requires : tie.Need-is-either-late-requires
+is-either-late-requires c κs = search needs
+
 returns : tie.Need-returns
 unfolding timeJudged
 returns c = cc
@@ -36,4 +45,7 @@ judge-time-spec =
     is-half-timed-requires
     is-timed-requires
     is-sooner-requires
+    is-timed-requires-2
+    is-on-request-requires
+    is-either-late-requires
     returns)
