@@ -15,8 +15,8 @@ use Rattle.marks.specs.Marks.{marked, parentMark, namelessMark, equalMark, fall
 use Rattle.marks.specs.Noted.{idsIn}
 use Rattle.rows.specs.Cells.{natAt, timeAt}
 use Rattle.held.specs.Held.{Filled}
-use Rattle.held.proofs.Numbers.{stop-kind, stop-parent, service-start, service-end, trip-route, trip-service, trip-dated, time-trip, time-stop, time-arrival, time-departure, time-point}
-use Rattle.judging.specs.Judging.{stopJudged, routeJudged, serviceJudged, tripJudged, timeJudged, dateJudged}
+use Rattle.held.proofs.Numbers.{stop-kind, stop-parent, service-start, service-end, trip-route, trip-service, trip-dated, time-trip, time-stop, time-arrival, time-departure, time-pickup, time-drop-off, time-point}
+use Rattle.judging.specs.Judging.{filledUp, stopJudged, routeJudged, serviceJudged, tripJudged, timeJudged, dateJudged}
 use Rattle.judging.proofs.Seen.{KindAt}
 use Rattle.judging.proofs.Judged.{twice-not, stop-judged, route-judged, service-judged, trip-judged, time-judged, date-judged}
 use Rattle.file_rules.specs.Lines.{ruleNumbers, ruleCount, Judges, Ready}
@@ -42,13 +42,13 @@ module _ {w : Feed} {n : ℕ} {t stops : List ℤ} {marks : List ℕ} {i : ℕ} 
       → parentKind ≡ natAt t (parent * 7 + 4)
       → r ≡ stopJudged repeats (not parented) parent kind parentKind
       → Judges 1 w i r
-  unfolding ruleNumbers ruleCount rowsIn recordCount idsIn rulesOf
+  unfolding filledUp ruleNumbers ruleCount rowsIn recordCount idsIn rulesOf
   stop-line-is h below {repeats} {parented} {parent} {kind} {parentKind} a b p k pk e =
       let s = h .file in
       let inside : i < length (w .stops) = rw (h .all) at below in
       let v = parentStation (row (w .stops) i) in
       let is : parent ≡ refer v (stopIds w) = p ∙ stop-parent w s t i (h .table) inside in
-      rw e (sym (stop-judged (record {
+      λ asked. rw e (sym (stop-judged (record {
         again = a ∙ h .noted .repeats 1 i (omega arith) (omega arith) inside;
         parents = record { bare = ap not (b ∙ h .noted .parents i inside) ∙ twice-not (empty v); resolves = is };
         kinds = k ∙ stop-kind w s t i (h .table) inside;
@@ -63,10 +63,10 @@ module _ {w : Feed} {n : ℕ} {t stops : List ℤ} {marks : List ℕ} {i : ℕ} 
       → nameless ≡ marked marks namelessMark (i + 1)
       → r ≡ routeJudged repeats nameless
       → Judges 2 w i r
-  unfolding ruleNumbers ruleCount rowsIn recordCount idsIn rulesOf
+  unfolding filledUp ruleNumbers ruleCount rowsIn recordCount idsIn rulesOf
   route-line-is h below a b e =
       let inside : i < length (w .routes) = rw (h .all) at below in
-      rw e (sym (route-judged (record {
+      λ asked. rw e (sym (route-judged (record {
         again = a ∙ h .noted .repeats 2 i (omega arith) (omega arith) inside;
         names = b ∙ h .noted .nameless i inside;
       })))
@@ -80,10 +80,10 @@ module _ {w : Feed} {n : ℕ} {t stops : List ℤ} {marks : List ℕ} {i : ℕ} 
       → end ≡ natAt t ((i + 1) * 5 + 4)
       → r ≡ serviceJudged repeats start end
       → Judges 3 w i r
-  unfolding ruleNumbers ruleCount rowsIn recordCount idsIn rulesOf
+  unfolding filledUp ruleNumbers ruleCount rowsIn recordCount idsIn rulesOf
   service-line-is h below a b d e =
       let inside : i < length (w .calendar) = rw (h .all) at below in
-      rw e (sym (service-judged (record {
+      λ asked. rw e (sym (service-judged (record {
         again = a ∙ h .noted .repeats 3 i (omega arith) (omega arith) inside;
         starts = b ∙ service-start w (h .file) t i (h .table) inside;
         ends = d ∙ service-end w (h .file) t i (h .table) inside;
@@ -101,13 +101,13 @@ module _ {w : Feed} {n : ℕ} {t stops : List ℤ} {marks : List ℕ} {i : ℕ} 
       → openEnd ≡ marked marks openMark (i + 1)
       → r ≡ tripJudged repeats route service dated paired openEnd
       → Judges 4 w i r
-  unfolding ruleNumbers ruleCount rowsIn recordCount idsIn rulesOf firstOfTrip
+  unfolding filledUp ruleNumbers ruleCount rowsIn recordCount idsIn rulesOf firstOfTrip
   trip-line-is h below a b d g x y e =
       let s = h .file in
       let inside : i < length (w .trips) = rw (h .all) at below in
       let own = h .named .ids i inside in
       let again = a ∙ h .noted .repeats 4 i (omega arith) (omega arith) inside in
-      rw e (sym (trip-judged (record {
+      λ asked. rw e (sym (trip-judged (record {
         again = again;
         routed = record { bare = sym (h .named .routes i inside); resolves = b ∙ trip-route w s t i (h .table) inside };
         served = record { bare = sym (h .named .services i inside); resolves = d ∙ trip-service w s t i (h .table) inside };
@@ -119,33 +119,37 @@ module _ {w : Feed} {n : ℕ} {t stops : List ℤ} {marks : List ℕ} {i : ℕ} 
   pub time-line-is :
       Ready 5 n w t stops marks
       → i < n
-      → {trip stop stopKind : ℕ} {arrival departure : Time} {point : ℕ} {equal falling : Bool} {r : List Bool}
+      → {trip stop stopKind : ℕ} {arrival departure : Time} {pickup dropOff point : ℕ} {equal falling : Bool} {r : List Bool}
       → trip ≡ natAt t ((i + 1) * 8)
       → stop ≡ natAt t ((i + 1) * 8 + 1)
       → stopKind ≡ natAt stops (stop * 7 + 4)
       → arrival ≡ timeAt t ((i + 1) * 8 + 3)
       → departure ≡ timeAt t ((i + 1) * 8 + 4)
+      → pickup ≡ natAt t ((i + 1) * 8 + 5)
+      → dropOff ≡ natAt t ((i + 1) * 8 + 6)
       → point ≡ natAt t ((i + 1) * 8 + 7)
       → equal ≡ marked marks equalMark (i + 1)
       → falling ≡ marked marks fallingMark (i + 1)
-      → r ≡ timeJudged trip stop stopKind arrival departure point equal falling
+      → r ≡ timeJudged trip stop stopKind arrival departure pickup dropOff point equal falling
       → Judges 5 w i r
-  unfolding ruleNumbers ruleCount rowsIn recordCount rulesOf
-  time-line-is h below {trip} {stop} {stopKind} a b k x y p q f e =
+  unfolding filledUp ruleNumbers ruleCount rowsIn recordCount rulesOf
+  time-line-is h below {trip} {stop} {stopKind} a b k x y u d p q f e =
       let s = h .file in
       let inside : i < length (w .stopTimes) = rw (h .all) at below in
       let v = timeStop (row (w .stopTimes) i) in
       let is : stop ≡ refer v (stopIds w) = b ∙ time-stop w s t i (h .table) inside in
-      rw e (sym (time-judged (record {
+      λ asked. rw e (sym (time-judged (record {
         trips = record { bare = sym (h .named .trips i inside); resolves = a ∙ time-trip w s t i (h .table) inside };
         halts = record { bare = sym (h .named .stops i inside); resolves = is };
         kinds = kind-referred w (h .stops-file) stops v stop stopKind (h .stops-table) is k;
         arrived = x ∙ time-arrival w s t i (h .table) inside;
         departed = y ∙ time-departure w s t i (h .table) inside;
+        boards = u ∙ time-pickup w s t i (h .table) inside;
+        alights = d ∙ time-drop-off w s t i (h .table) inside;
         points = p ∙ time-point w s t i (h .table) inside;
         equals = q ∙ h .trips-noted .equal i inside;
         falls = f ∙ h .trips-noted .falling i inside;
-      })))
+      }) asked))
 
   pub date-line-is :
       Ready 6 n w t stops marks
@@ -154,10 +158,10 @@ module _ {w : Feed} {n : ℕ} {t stops : List ℤ} {marks : List ℕ} {i : ℕ} 
       → repeats ≡ marked marks 6 (i + 1)
       → r ≡ dateJudged repeats
       → Judges 6 w i r
-  unfolding ruleNumbers ruleCount rowsIn recordCount rulesOf
+  unfolding filledUp ruleNumbers ruleCount rowsIn recordCount rulesOf
   date-line-is h below a e =
       let inside : i < length (w .dates) = rw (h .all) at below in
-      rw e (sym (date-judged (record { again = a ∙ h .noted .dates i inside })))
+      λ asked. rw e (sym (date-judged (record { again = a ∙ h .noted .dates i inside })))
 
 -- what holds of one file holds of the file whose number that is
 pub in-file :

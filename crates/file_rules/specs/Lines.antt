@@ -5,34 +5,36 @@ use mathlib.Core.List.{List, [], _∷_}
 use mathlib.Core.Bool.{Bool, false}
 use lib.IntN.{ℤ}
 use lib.ListN.{length, getD}
+use Rattle.meaning.specs.declared.Profile.{Profile}
 use Rattle.meaning.specs.Lists.{empty}
 use Rattle.meaning.specs.Tables.{Feed, rowsIn, tripRoute, tripService, tripId, timeTrip, timeStop}
 use Rattle.meaning.specs.Rules.{row, recordCount, rulesOf}
 use Rattle.marks.specs.Noted.{Noted, TripsNoted}
 use Rattle.held.specs.Held.{Filled}
-use Rattle.judging.specs.Judging.{testsFrom}
+use Rattle.judging.specs.Judging.{filledUp, timesAsked, testsFrom}
 
--- the numbers of the rules of a line of file f, filled up by 0, and how many they are
+-- the numbers of the rules of a line of file f, filled up by 0, and how many of them are asked for
 unfoldable pub ruleNumbers : ℕ → List ℕ
 ruleNumbers f =
-    getD
+    filledUp 0
+    (getD
     ([]
-    ∷ (20 ∷ 21 ∷ 22 ∷ 0 ∷ 0 ∷ 0 ∷ [])
-    ∷ (20 ∷ 25 ∷ 0 ∷ 0 ∷ 0 ∷ 0 ∷ [])
-    ∷ (20 ∷ 24 ∷ 0 ∷ 0 ∷ 0 ∷ 0 ∷ [])
-    ∷ (20 ∷ 21 ∷ 30 ∷ 31 ∷ 0 ∷ 0 ∷ [])
-    ∷ (21 ∷ 23 ∷ 26 ∷ 27 ∷ 28 ∷ 29 ∷ [])
-    ∷ (20 ∷ 0 ∷ 0 ∷ 0 ∷ 0 ∷ 0 ∷ [])
+    ∷ (20 ∷ 21 ∷ 22 ∷ [])
+    ∷ (20 ∷ 25 ∷ [])
+    ∷ (20 ∷ 24 ∷ [])
+    ∷ (20 ∷ 21 ∷ 30 ∷ 31 ∷ [])
+    ∷ (21 ∷ 23 ∷ 26 ∷ 27 ∷ 28 ∷ 29 ∷ 60 ∷ 61 ∷ 62 ∷ [])
+    ∷ (20 ∷ [])
     ∷ [])
     f
-    []
+    [])
 
-unfoldable pub ruleCount : ℕ → ℕ
-ruleCount f = getD (0 ∷ 3 ∷ 2 ∷ 2 ∷ 4 ∷ 6 ∷ 1 ∷ []) f 0
+unfoldable pub ruleCount : Profile → ℕ → ℕ
+ruleCount asked f = getD (0 ∷ 3 ∷ 2 ∷ 2 ∷ 4 ∷ timesAsked asked ∷ 1 ∷ []) f 0
 
--- what was judged of the line with index i of file f is what its rules say
+-- what was judged of the line with index i of file f is what its rules say, whichever are asked for
 abbrev pub Judges : ℕ → Feed → ℕ → List Bool → Type 0
-Judges f w i broken = testsFrom (ruleNumbers f) broken (ruleCount f) ≡ rulesOf w f i
+Judges f w i broken = (asked : Profile) → testsFrom (ruleNumbers f) broken (ruleCount asked f) ≡ rulesOf asked w f i
 
 -- no line of trips leaves its route, its service or its own id empty, no line of stop_times its trip or its stop
 pub record Named (w : Feed) : Type 0 where

@@ -6,9 +6,12 @@ ghost use lib.IntN.{ℤ};
 ghost use Rattle.meaning.specs.Tables.{Feed};
 ghost use Rattle.meaning.specs.Rules.{bindingsOf};
 ghost use Rattle.listing.specs.Handing.{state, noting};
+ghost use Rattle.judging.specs.Judging.{timesAsked};
 ghost use Rattle.file_rules.specs.Lines.{ruleNumbers, ruleCount, Judges, Ready};
+use judging::MOST_RULES;
 use listing::Sink;
 use meaning::Place;
+use meaning::Profile;
 use rows::Calendar;
 use rows::Dates;
 use rows::Routes;
@@ -21,7 +24,7 @@ use rows::TripRow;
 use rows::Trips;
 
 // What the line with index i of stops.txt breaks.
-fn stop_line(t: &[i32], marks: &[u16], i: usize) -> [bool; 6]
+fn stop_line(t: &[i32], marks: &[u16], i: usize) -> [bool; MOST_RULES]
     requires { ⌜ i < 2 ^ 31 ⌝ }
     ensures { λ r. ⌜ ((w : Feed) (n : ℕ) (stops : List ℤ) → Ready 1 n w (now (t .entry)) stops (now (marks .entry)) → i < n → Judges 1 w i r) ⌝ }
 {
@@ -39,7 +42,7 @@ fn stop_line(t: &[i32], marks: &[u16], i: usize) -> [bool; 6]
 }
 
 // What a line of routes.txt breaks.
-fn route_line(marks: &[u16], i: usize) -> [bool; 6]
+fn route_line(marks: &[u16], i: usize) -> [bool; MOST_RULES]
     requires { ⌜ i < 2 ^ 31 ⌝ }
     ensures { λ r. ⌜ ((w : Feed) (n : ℕ) (t stops : List ℤ) → Ready 2 n w t stops (now (marks .entry)) → i < n → Judges 2 w i r) ⌝ }
 {
@@ -51,7 +54,7 @@ fn route_line(marks: &[u16], i: usize) -> [bool; 6]
 }
 
 // What a line of calendar.txt breaks.
-fn service_line(t: &[i32], marks: &[u16], i: usize) -> [bool; 6]
+fn service_line(t: &[i32], marks: &[u16], i: usize) -> [bool; MOST_RULES]
     requires { ⌜ i < 2 ^ 31 ⌝ }
     ensures { λ r. ⌜ ((w : Feed) (n : ℕ) (stops : List ℤ) → Ready 3 n w (now (t .entry)) stops (now (marks .entry)) → i < n → Judges 3 w i r) ⌝ }
 {
@@ -64,7 +67,7 @@ fn service_line(t: &[i32], marks: &[u16], i: usize) -> [bool; 6]
 }
 
 // What a line of trips.txt breaks.
-fn trip_line(t: &[i32], marks: &[u16], i: usize) -> [bool; 6]
+fn trip_line(t: &[i32], marks: &[u16], i: usize) -> [bool; MOST_RULES]
     requires { ⌜ i < 2 ^ 31 ⌝ }
     ensures { λ r. ⌜ ((w : Feed) (n : ℕ) (stops : List ℤ) → Ready 4 n w (now (t .entry)) stops (now (marks .entry)) → i < n → Judges 4 w i r) ⌝ }
 {
@@ -80,7 +83,7 @@ fn trip_line(t: &[i32], marks: &[u16], i: usize) -> [bool; 6]
 }
 
 // What a line of stop_times.txt breaks; rule 23 asks the table of stops.
-fn time_line(t: &[i32], stops: &[i32], marks: &[u16], i: usize) -> [bool; 6]
+fn time_line(t: &[i32], stops: &[i32], marks: &[u16], i: usize) -> [bool; MOST_RULES]
     requires { ⌜ i < 2 ^ 31 ⌝ }
     ensures { λ r. ⌜ ((w : Feed) (n : ℕ) → Ready 5 n w (now (t .entry)) (now (stops .entry)) (now (marks .entry)) → i < n → Judges 5 w i r) ⌝ }
 {
@@ -92,6 +95,8 @@ fn time_line(t: &[i32], stops: &[i32], marks: &[u16], i: usize) -> [bool; 6]
         Stops::kind_at(stops, StopRow(stop)),
         StopTimes::arrival_at(t, TimeRow(row)),
         StopTimes::departure_at(t, TimeRow(row)),
+        StopTimes::pickup_at(t, TimeRow(row)),
+        StopTimes::drop_off_at(t, TimeRow(row)),
         StopTimes::timepoint_at(t, TimeRow(row)),
         marks::is_marked(marks, marks::EQUAL, row),
         marks::is_marked(marks, marks::FALLING, row),
@@ -99,7 +104,7 @@ fn time_line(t: &[i32], stops: &[i32], marks: &[u16], i: usize) -> [bool; 6]
 }
 
 // What a line of calendar_dates.txt breaks.
-fn date_line(marks: &[u16], i: usize) -> [bool; 6]
+fn date_line(marks: &[u16], i: usize) -> [bool; MOST_RULES]
     requires { ⌜ i < 2 ^ 31 ⌝ }
     ensures { λ r. ⌜ ((w : Feed) (n : ℕ) (t stops : List ℤ) → Ready 6 n w t stops (now (marks .entry)) → i < n → Judges 6 w i r) ⌝ }
 {
@@ -107,37 +112,47 @@ fn date_line(marks: &[u16], i: usize) -> [bool; 6]
 }
 
 // The numbers of a file's rules, filled up by 0.
-fn numbers_of(f: usize) -> [u8; 6]
+fn numbers_of(f: usize) -> [u8; MOST_RULES]
     requires { ⌜ (1 ≤ f) × (f ≤ 6) ⌝ }
     ensures { λ r. ⌜ r ≡ ruleNumbers f ⌝ }
 {
     match f {
-        Stops::FILE => [20, 21, 22, 0, 0, 0],
-        Routes::FILE => [20, 25, 0, 0, 0, 0],
-        Calendar::FILE => [20, 24, 0, 0, 0, 0],
-        Trips::FILE => [20, 21, 30, 31, 0, 0],
-        StopTimes::FILE => [21, 23, 26, 27, 28, 29],
-        _ => [20, 0, 0, 0, 0, 0],
+        Stops::FILE => [20, 21, 22, 0, 0, 0, 0, 0, 0],
+        Routes::FILE => [20, 25, 0, 0, 0, 0, 0, 0, 0],
+        Calendar::FILE => [20, 24, 0, 0, 0, 0, 0, 0, 0],
+        Trips::FILE => [20, 21, 30, 31, 0, 0, 0, 0, 0],
+        StopTimes::FILE => [21, 23, 26, 27, 28, 29, 60, 61, 62],
+        _ => [20, 0, 0, 0, 0, 0, 0, 0, 0],
     }
 }
 
-// How many rules a line of a file has.
-fn count_of(f: usize) -> usize
+// How many rules of a line of stop_times.txt are asked for.
+fn times_asked(asked: Profile) -> usize
+    ensures { λ r. ⌜ (r ≡ timesAsked asked) × (r ≤ 9) ⌝ }
+{
+    match asked {
+        Profile::Plain => 6,
+        Profile::Boards => 9,
+    }
+}
+
+// How many rules of a line of a file are asked for; boards ask for the most.
+fn count_of(f: usize, asked: Profile) -> usize
     requires { ⌜ (1 ≤ f) × (f ≤ 6) ⌝ }
-    ensures { λ r. ⌜ (r ≡ ruleCount f) × (r ≤ 6) ⌝ }
+    ensures { λ r. ⌜ (r ≡ ruleCount asked f) × ((r ≤ ruleCount Profile.Boards f) × (r ≤ 9)) ⌝ }
 {
     match f {
         Stops::FILE => 3,
         Routes::FILE => 2,
         Calendar::FILE => 2,
         Trips::FILE => 4,
-        StopTimes::FILE => 6,
+        StopTimes::FILE => times_asked(asked),
         _ => 1,
     }
 }
 
 // What a line of a file breaks.
-fn judge_line(f: usize, t: &[i32], stops: &[i32], marks: &[u16], i: usize) -> [bool; 6]
+fn judge_line(f: usize, t: &[i32], stops: &[i32], marks: &[u16], i: usize) -> [bool; MOST_RULES]
     requires { ⌜ (1 ≤ f) × ((f ≤ 6) × (i < 2 ^ 31)) ⌝ }
     ensures { λ r. ⌜ ((w : Feed) (n : ℕ) → Ready f n w (now (t .entry)) (now (stops .entry)) (now (marks .entry)) → i < n → Judges f w i r) ⌝ }
 {
@@ -151,7 +166,7 @@ fn judge_line(f: usize, t: &[i32], stops: &[i32], marks: &[u16], i: usize) -> [b
     }
 }
 
-// The findings of a file that has n records, in the order of its lines and rules; `stops` is the table of stops.
+// The findings of a file that has n records, by the rules asked for, in the order of its lines and rules; `stops` is the table of stops.
 pub fn list_file(
     f: usize,
     n: usize,
@@ -161,14 +176,15 @@ pub fn list_file(
     out: &mut [i32],
     k: Sink,
     p: Place,
+    asked: Profile,
 ) -> Sink
     requires { ⌜ (1 ≤ f) × ((f ≤ 6) × ((n < 2 ^ 30) × (k .total ≤ 2 ^ 61))) ⌝ }
     ensures { λ r. ⌜ ((w : Feed) → Ready f n w (now (t .entry)) (now (stops .entry)) (now (marks .entry))
-        → state (now (out .exit)) r ≡ noting p (bindingsOf w f) (state (now (out .entry)) k)) ⌝ }
-    ensures { λ r. ⌜ r .total ≤ k .total + ruleCount f * n ⌝ }
+        → state (now (out .exit)) r ≡ noting p (bindingsOf asked w f) (state (now (out .entry)) k)) ⌝ }
+    ensures { λ r. ⌜ r .total ≤ k .total + ruleCount Profile.Boards f * n ⌝ }
 {
     let numbers = numbers_of(f);
-    let rules = count_of(f);
+    let rules = count_of(f, asked);
     let mut sink = k;
     let mut i = 0;
     while i < n {

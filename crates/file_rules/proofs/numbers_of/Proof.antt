@@ -1,37 +1,38 @@
 -- `file_rules::numbers_of` meets its contract.
 use mathlib.Core.Path.{_≡_, sym, ap}
 use native.Mathlib.Omega.{arith}
+use Rattle.judging.specs.Judging.{filledUp}
 use Rattle.file_rules.specs.Lines.{ruleNumbers}
 use Rattle.file_rules.proofs.numbers_of.Statement.{statement}
 use Rattle.file_rules.proofs.numbers_of.Tie as tie
 
 returns : tie.Need-returns
-unfolding ruleNumbers
+unfolding filledUp ruleNumbers
 returns c =
     let e : c .before .args .f ≡ 1 = omega arith in ap ruleNumbers (sym e)
 
 returns-2 : tie.Need-returns-2
-unfolding ruleNumbers
+unfolding filledUp ruleNumbers
 returns-2 c =
     let e : c .before .args .f ≡ 2 = omega arith in ap ruleNumbers (sym e)
 
 returns-3 : tie.Need-returns-3
-unfolding ruleNumbers
+unfolding filledUp ruleNumbers
 returns-3 c =
     let e : c .before .args .f ≡ 3 = omega arith in ap ruleNumbers (sym e)
 
 returns-4 : tie.Need-returns-4
-unfolding ruleNumbers
+unfolding filledUp ruleNumbers
 returns-4 c =
     let e : c .before .args .f ≡ 4 = omega arith in ap ruleNumbers (sym e)
 
 returns-5 : tie.Need-returns-5
-unfolding ruleNumbers
+unfolding filledUp ruleNumbers
 returns-5 c =
     let e : c .before .args .f ≡ 5 = omega arith in ap ruleNumbers (sym e)
 
 returns-6 : tie.Need-returns-6
-unfolding ruleNumbers
+unfolding filledUp ruleNumbers
 returns-6 c =
     let e : c .before .args .f ≡ 6 = omega arith in ap ruleNumbers (sym e)
 

@@ -22,6 +22,12 @@ arrival-at-requires c κs = search needs
 departure-at-requires : tie.Need-departure-at-requires
 departure-at-requires c κs = search needs
 
+pickup-at-requires : tie.Need-pickup-at-requires
+pickup-at-requires c κs = search needs
+
+drop-off-at-requires : tie.Need-drop-off-at-requires
+drop-off-at-requires c κs = search needs
+
 timepoint-at-requires : tie.Need-timepoint-at-requires
 timepoint-at-requires c κs = search needs
 
@@ -36,7 +42,7 @@ judge-time-requires c κs = search needs
 
 returns : tie.Need-returns
 returns c =
-    λ w n h inside. time-line-is h inside (c .before .before .before .before .before .before .before .trip-at .ensures) (c .before .before .before .before .before .before .before .before .stop-at .ensures) (c .before .before .before .before .before .before .kind-at .ensures) (c .before .before .before .before .before .arrival-at .ensures) (c .before .before .before .before .departure-at .ensures) (c .before .before .before .timepoint-at .ensures) (c .before .before .is-marked .ensures) (c .before .is-marked2 .ensures) (c .judge-time .ensures)
+    λ w n h inside. time-line-is h inside (c .before .before .before .before .before .before .before .before .before .trip-at .ensures) (c .before .before .before .before .before .before .before .before .before .before .stop-at .ensures) (c .before .before .before .before .before .before .before .before .kind-at .ensures) (c .before .before .before .before .before .before .before .arrival-at .ensures) (c .before .before .before .before .before .before .departure-at .ensures) (c .before .before .before .before .before .pickup-at .ensures) (c .before .before .before .before .drop-off-at .ensures) (c .before .before .before .timepoint-at .ensures) (c .before .before .is-marked .ensures) (c .before .is-marked2 .ensures) (c .judge-time .ensures)
 
 pub time-line-spec : {M : Type 1} → statement M
 time-line-spec =
@@ -48,6 +54,8 @@ time-line-spec =
     kind-at-requires
     arrival-at-requires
     departure-at-requires
+    pickup-at-requires
+    drop-off-at-requires
     timepoint-at-requires
     is-marked-requires
     is-marked-requires-2
