@@ -7,6 +7,8 @@ use native.Mathlib.Nat.{mul-le-mul-left}
 use lib.IntN.{ℤ}
 use lib.ListN.{length}
 use Rattle.meaning.specs.declared.Place.{Place}
+use Rattle.meaning.specs.declared.Profile.{Profile}
+use Rattle.meaning.specs.declared.Profile.the-variants.{Boards}
 use Rattle.meaning.specs.Lists.{flat}
 use Rattle.meaning.specs.Bytes.{countLf}
 use Rattle.meaning.specs.Tables.{Feed, fileOf, rowsIn}
@@ -43,25 +45,25 @@ ready f low high w files tables marks h =
     }
 
 -- states of a list, each from the one before by the findings of one file after the other
-pub data Steps (w : Feed) (p : Place) : List ℕ → State → State → Type 0 where
-  done : {x : State} → Steps w p [] x x
-  step : {f : ℕ} {fs : List ℕ} {x y z : State} → y ≡ noting p (bindingsOf w f) x → Steps w p fs y z → Steps w p (f ∷ fs) x z
+pub data Steps (asked : Profile) (w : Feed) (p : Place) : List ℕ → State → State → Type 0 where
+  done : {x : State} → Steps asked w p [] x x
+  step : {f : ℕ} {fs : List ℕ} {x y z : State} → y ≡ noting p (bindingsOf asked w f) x → Steps asked w p fs y z → Steps asked w p (f ∷ fs) x z
 
-steps-noted : (w : Feed) (p : Place) (fs : List ℕ) (x z : State) → Steps w p fs x z → z ≡ noting p (flat (map (bindingsOf w) fs)) x
+steps-noted : (asked : Profile) (w : Feed) (p : Place) (fs : List ℕ) (x z : State) → Steps asked w p fs x z → z ≡ noting p (flat (map (bindingsOf asked w) fs)) x
 unfolding flat noting
-steps-noted w p [] x z done = refl
-steps-noted w p (f ∷ fs) x z (step {y = y} e r) =
-    steps-noted w p fs y z r
-    ∙ ap (noting p (flat (map (bindingsOf w) fs))) e
-    ∙ sym (noting-append p (bindingsOf w f) (flat (map (bindingsOf w) fs)) x)
+steps-noted asked w p [] x z done = refl
+steps-noted asked w p (f ∷ fs) x z (step {y = y} e r) =
+    steps-noted asked w p fs y z r
+    ∙ ap (noting p (flat (map (bindingsOf asked w) fs))) e
+    ∙ sym (noting-append p (bindingsOf asked w f) (flat (map (bindingsOf asked w) fs)) x)
 
 -- the findings of all files
-pub all-noted : (w : Feed) (p : Place) (lent : List ℤ) (z : State) → Steps w p fileNumbers (lentOnly lent) z → z ≡ handedOut p (findingsOf w) lent
+pub all-noted : (asked : Profile) (w : Feed) (p : Place) (lent : List ℤ) (z : State) → Steps asked w p fileNumbers (lentOnly lent) z → z ≡ handedOut p (findingsOf asked w) lent
 unfolding findingsOf bindings
-all-noted w p lent z r = steps-noted w p fileNumbers (lentOnly lent) z r ∙ noting-all p (bindings w) lent
+all-noted asked w p lent z r = steps-noted asked w p fileNumbers (lentOnly lent) z r ∙ noting-all p (bindings asked w) lent
 
 -- a file of at most 65,536 lines has at most so many findings
-pub total-most : (f r k n l : ℕ) → r ≤ k + ruleCount f * n → n ≡ l - 1 → l ≤ maxLines → r ≤ k + ruleCount f * maxLines
+pub total-most : (f r k n l : ℕ) → r ≤ k + ruleCount Boards f * n → n ≡ l - 1 → l ≤ maxLines → r ≤ k + ruleCount Boards f * maxLines
 total-most f r k n l h e g =
-    let m : ruleCount f * n ≤ ruleCount f * maxLines = mul-le-mul-left {m = n} {n = maxLines} (ruleCount f) (omega arith) in
+    let m : ruleCount Boards f * n ≤ ruleCount Boards f * maxLines = mul-le-mul-left {m = n} {n = maxLines} (ruleCount Boards f) (omega arith) in
     omega arith

@@ -13,6 +13,7 @@ ghost use Rattle.file_rules.specs.Lines.{ruleCount, Ready};
 ghost use Rattle.rules.specs.Tabled.{Tabled};
 use listing::Sink;
 use meaning::Place;
+use meaning::Profile;
 
 // How many records a file has: a line each, but for the header.
 fn records_of(s: &[u8]) -> usize
@@ -25,7 +26,7 @@ fn records_of(s: &[u8]) -> usize
     lines - 1
 }
 
-// The findings of a file, whose bytes tell how many records it has.
+// The findings of a file, by the rules asked for; its bytes tell how many records it has.
 fn list_counted(
     f: usize,
     s: &[u8],
@@ -35,16 +36,17 @@ fn list_counted(
     out: &mut [i32],
     k: Sink,
     p: Place,
+    asked: Profile,
 ) -> Sink
     requires { ⌜ (1 ≤ f) × ((f ≤ 6) × ((countLf (now s) ≤ maxLines) × (k .total ≤ 2 ^ 61))) ⌝ }
     ensures { λ r. ⌜ ((w : Feed) → Ready f (countLf (now (s .entry)) - 1) w (now (t .entry)) (now (stops .entry)) (now (marks .entry))
-        → state (now (out .exit)) r ≡ noting p (bindingsOf w f) (state (now (out .entry)) k)) ⌝ }
-    ensures { λ r. ⌜ r .total ≤ k .total + ruleCount f * maxLines ⌝ }
+        → state (now (out .exit)) r ≡ noting p (bindingsOf asked w f) (state (now (out .entry)) k)) ⌝ }
+    ensures { λ r. ⌜ r .total ≤ k .total + ruleCount Profile.Boards f * maxLines ⌝ }
 {
-    file_rules::list_file(f, records_of(s), t, stops, marks, out, k, p)
+    file_rules::list_file(f, records_of(s), t, stops, marks, out, k, p, asked)
 }
 
-// All findings: those after the starting place are written, as many as fit; the rest of the list stays.
+// All findings by the rules asked for: those after the starting place are written, as many as fit; the rest of the list stays.
 pub fn list_findings(
     stops: &[u8],
     routes: &[u8],
@@ -61,6 +63,7 @@ pub fn list_findings(
     marks: &[u16],
     out: &mut [i32],
     p: Place,
+    asked: Profile,
 ) -> Sink
     requires { ⌜ (countLf (now stops) ≤ maxLines) × ((countLf (now routes) ≤ maxLines) × ((countLf (now calendar) ≤ maxLines) × ((countLf (now trips) ≤ maxLines) × ((countLf (now «stop_times») ≤ maxLines) × (countLf (now dates) ≤ maxLines))))) ⌝ }
     ensures { λ r. ⌜ ((w : Feed)
@@ -68,17 +71,17 @@ pub fn list_findings(
         (now (stops .entry) ∷ now (routes .entry) ∷ now (calendar .entry) ∷ now (trips .entry) ∷ now («stop_times» .entry) ∷ now (dates .entry) ∷ [])
         (now («stops_table» .entry) ∷ now («routes_table» .entry) ∷ now («calendar_table» .entry) ∷ now («trips_table» .entry) ∷ now («times_table» .entry) ∷ now («dates_table» .entry) ∷ [])
         (now (marks .entry))
-        → state (now (out .exit)) r ≡ handedOut p (findingsOf w) (now (out .entry))) ⌝ }
-    ensures { λ r. ⌜ r .total ≤ 18 * maxLines ⌝ }
+        → state (now (out .exit)) r ≡ handedOut p (findingsOf asked w) (now (out .entry))) ⌝ }
+    ensures { λ r. ⌜ r .total ≤ 21 * maxLines ⌝ }
 {
     let none = Sink {
         written: 0,
         total: 0,
     };
-    let k = list_counted(1, stops, stops_table, stops_table, marks, out, none, p);
-    let k = list_counted(2, routes, routes_table, stops_table, marks, out, k, p);
-    let k = list_counted(3, calendar, calendar_table, stops_table, marks, out, k, p);
-    let k = list_counted(4, trips, trips_table, stops_table, marks, out, k, p);
-    let k = list_counted(5, stop_times, times_table, stops_table, marks, out, k, p);
-    list_counted(6, dates, dates_table, stops_table, marks, out, k, p)
+    let k = list_counted(1, stops, stops_table, stops_table, marks, out, none, p, asked);
+    let k = list_counted(2, routes, routes_table, stops_table, marks, out, k, p, asked);
+    let k = list_counted(3, calendar, calendar_table, stops_table, marks, out, k, p, asked);
+    let k = list_counted(4, trips, trips_table, stops_table, marks, out, k, p, asked);
+    let k = list_counted(5, stop_times, times_table, stops_table, marks, out, k, p, asked);
+    list_counted(6, dates, dates_table, stops_table, marks, out, k, p, asked)
 }

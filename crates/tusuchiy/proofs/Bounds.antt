@@ -55,7 +55,7 @@ module _ (files : List (List ℕ)) (rooms : List ℕ) (r : Refusal) (e : verdict
 pub small-findings :
     (p : Place) (ds : List Finding) (lent list : List ℤ) (k : Sink) (r : Answer)
     → state list k ≡ handedOut p ds lent
-    → k .total ≤ 18 * maxLines
+    → k .total ≤ 21 * maxLines
     → r ≡ cond (eqb (k .total) 0) Accepted (Findings (k .written) (k .total))
     → Small r
 small-findings p ds lent list k r g h e =
@@ -63,6 +63,6 @@ small-findings p ds lent list k r g h e =
     let m : k .total ≡ length ds = ap (λ (z : State). z .total) g in
     rw e (go (eqb (k .total) 0) (omega (arith, page-within triple p (roomOf lent) ds)))
   where
-    go : (b : Bool) → k .written ≤ 18 * maxLines → Small (cond b Accepted (Findings (k .written) (k .total)))
+    go : (b : Bool) → k .written ≤ 21 * maxLines → Small (cond b Accepted (Findings (k .written) (k .total)))
     go true w = tt
     go false w = (w, h)

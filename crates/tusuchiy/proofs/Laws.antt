@@ -10,6 +10,7 @@ use lib.Dec.{eqb}
 use Rattle.meaning.specs.declared.Refusal.{Refusal}
 use Rattle.meaning.specs.declared.Verdict.the-variants.{Readable, Unreadable}
 use Rattle.meaning.specs.declared.Place.{Place}
+use Rattle.meaning.specs.declared.Profile.{Profile}
 use Rattle.meaning.specs.declared.Answer.{Answer}
 use Rattle.meaning.specs.declared.Answer.the-variants.{Accepted, Findings, Refused}
 use Rattle.meaning.specs.Bytes.{countLf}
@@ -106,22 +107,22 @@ module _ (files : List (List ℕ)) (tables : List (List ℤ)) (six : length file
 
     -- and the outcome is what is answered and held
     pub outcome-read :
-        (lent list : List ℤ) (p : Place) (k : Sink) (r : Answer)
-        → state list k ≡ handedOut p (findingsOf (feedOf files)) lent
+        (lent list : List ℤ) (p : Place) (asked : Profile) (k : Sink) (r : Answer)
+        → state list k ≡ handedOut p (findingsOf asked (feedOf files)) lent
         → r ≡ cond (eqb (k .total) 0) Accepted (Findings (k .written) (k .total))
-        → readOutcome files tables lent p ≡ record { answer = r; tables = held; list = list }
+        → readOutcome files tables lent p asked ≡ record { answer = r; tables = held; list = list }
     unfolding readOutcome answerOf
-    outcome-read lent list p k r g h =
-        let o : list ≡ handed p (findingsOf (feedOf files)) lent = ap (λ (z : State). z .out) g in
-        let n : k .written ≡ length (page p (roomOf lent) (findingsOf (feedOf files))) = ap (λ (z : State). z .written) g in
-        let m : k .total ≡ length (findingsOf (feedOf files)) = ap (λ (z : State). z .total) g in
+    outcome-read lent list p asked k r g h =
+        let o : list ≡ handed p (findingsOf asked (feedOf files)) lent = ap (λ (z : State). z .out) g in
+        let n : k .written ≡ length (page p (roomOf lent) (findingsOf asked (feedOf files))) = ap (λ (z : State). z .written) g in
+        let m : k .total ≡ length (findingsOf asked (feedOf files)) = ap (λ (z : State). z .total) g in
         rw (h, n, m, o, all)
 
-module _ (files : List (List ℕ)) (tables : List (List ℤ)) (list : List ℤ) (p : Place) where
-  pub outcome-readable : (o : Outcome) → verdictOf files (map length tables) ≡ Readable → readOutcome files tables list p ≡ o → outcome files tables list p ≡ o
+module _ (files : List (List ℕ)) (tables : List (List ℤ)) (list : List ℤ) (p : Place) (asked : Profile) where
+  pub outcome-readable : (o : Outcome) → verdictOf files (map length tables) ≡ Readable → readOutcome files tables list p asked ≡ o → outcome files tables list p asked ≡ o
   unfolding outcome
   outcome-readable o e h = rw e h
 
-  pub outcome-refused : (r : Refusal) → verdictOf files (map length tables) ≡ Unreadable r → outcome files tables list p ≡ record { answer = Refused r; tables = tables; list = list }
+  pub outcome-refused : (r : Refusal) → verdictOf files (map length tables) ≡ Unreadable r → outcome files tables list p asked ≡ record { answer = Refused r; tables = tables; list = list }
   unfolding outcome
   outcome-refused r e = rw e

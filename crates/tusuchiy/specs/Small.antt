@@ -6,5 +6,5 @@ use Rattle.meaning.specs.Refusals.{maxLines}
 
 abbrev pub Small : Answer → Type 0
 Small Accepted = Unit {0}
-Small (Findings written total) = (written ≤ 18 * maxLines) × (total ≤ 18 * maxLines)
+Small (Findings written total) = (written ≤ 21 * maxLines) × (total ≤ 21 * maxLines)
 Small (Refused r) = (r .number ≤ 14) × ((r .file ≤ 6) × ((r .line ≤ maxLines) × (r .column ≤ 32)))

@@ -13,6 +13,7 @@ ghost use Rattle.tusuchiy.specs.Small.{Small};
 use listing::Sink;
 use meaning::Answer;
 use meaning::Place;
+use meaning::Profile;
 use meaning::Verdict;
 
 // Accepted exactly when there is no finding; else how many are written, and how many there are.
@@ -44,13 +45,14 @@ fn checked(
     calendar_dates_table: &mut [i32],
     findings: &mut [i32],
     from: Place,
+    asked: Profile,
 ) -> Answer
     requires { ⌜ verdictOf (now stops ∷ now routes ∷ now calendar ∷ now trips ∷ now «stop_times» ∷ now «calendar_dates» ∷ [])
         (length (now «stops_table») ∷ length (now «routes_table») ∷ length (now «calendar_table») ∷ length (now «trips_table») ∷ length (now «stop_times_table») ∷ length (now «calendar_dates_table») ∷ []) ≡ Verdict.Readable ⌝ }
     ensures { λ r. ⌜ readOutcome
         (now (stops .entry) ∷ now (routes .entry) ∷ now (calendar .entry) ∷ now (trips .entry) ∷ now («stop_times» .entry) ∷ now («calendar_dates» .entry) ∷ [])
         (now («stops_table» .entry) ∷ now («routes_table» .entry) ∷ now («calendar_table» .entry) ∷ now («trips_table» .entry) ∷ now («stop_times_table» .entry) ∷ now («calendar_dates_table» .entry) ∷ [])
-        (now (findings .entry)) from
+        (now (findings .entry)) from asked
         ≡ record { answer = r; tables = now («stops_table» .exit) ∷ now («routes_table» .exit) ∷ now («calendar_table» .exit) ∷ now («trips_table» .exit) ∷ now («stop_times_table» .exit) ∷ now («calendar_dates_table» .exit) ∷ []; list = now (findings .exit) } ⌝ }
     ensures { λ r. ⌜ Small r ⌝ }
 {
@@ -86,11 +88,12 @@ fn checked(
         &marks,
         findings,
         from,
+        asked,
     );
     answer_of(k)
 }
 
-// The check: from six files, six tables and a list as lent, and a starting place, to the answer and what all seven hold.
+// The check: from six files, six tables and a list as lent, a starting place and the rules asked for, to the answer and what all seven hold.
 pub fn check(
     stops: &[u8],
     routes: &[u8],
@@ -106,11 +109,12 @@ pub fn check(
     calendar_dates_table: &mut [i32],
     findings: &mut [i32],
     from: Place,
+    asked: Profile,
 ) -> Answer
     ensures { λ r. ⌜ outcome
         (now (stops .entry) ∷ now (routes .entry) ∷ now (calendar .entry) ∷ now (trips .entry) ∷ now («stop_times» .entry) ∷ now («calendar_dates» .entry) ∷ [])
         (now («stops_table» .entry) ∷ now («routes_table» .entry) ∷ now («calendar_table» .entry) ∷ now («trips_table» .entry) ∷ now («stop_times_table» .entry) ∷ now («calendar_dates_table» .entry) ∷ [])
-        (now (findings .entry)) from
+        (now (findings .entry)) from asked
         ≡ record { answer = r; tables = now («stops_table» .exit) ∷ now («routes_table» .exit) ∷ now («calendar_table» .exit) ∷ now («trips_table» .exit) ∷ now («stop_times_table» .exit) ∷ now («calendar_dates_table» .exit) ∷ []; list = now (findings .exit) } ⌝ }
     ensures { λ r. ⌜ Small r ⌝ }
 {
@@ -146,6 +150,7 @@ pub fn check(
             calendar_dates_table,
             findings,
             from,
+            asked,
         ),
         Verdict::Unreadable(r) => Answer::Refused(r),
     }

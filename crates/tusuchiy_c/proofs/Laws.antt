@@ -1,11 +1,15 @@
--- Laws: the outcome from a starting place, part by part; calls for faults; answers about an index.
-use Prim.Native.Nat.{ℕ}
-use mathlib.Core.Path.{_≡_, ap, sym, _∙_}
+-- Laws: the profile that a number asks for; the outcome from a starting place, part by part; calls for faults; answers about an index.
+use Prim.Native.Nat.{ℕ, zero, suc}
+use mathlib.Core.Path.{_≡_, refl, ap, ap₂, sym, _∙_}
 use mathlib.Core.List.{List}
-use lib.IntN.{ℤ, pos}
+use native.Mathlib.Omega.{arith}
+use lib.IntN.{ℤ, pos, negsuc, natAbs}
 use Rattle.meaning.specs.declared.Place.{Place}
+use Rattle.meaning.specs.declared.Profile.{Profile}
+use Rattle.meaning.specs.declared.Profile.the-variants.{Plain, Boards}
 use Rattle.meaning.specs.Outcome.{Outcome, outcome}
 use Rattle.tusuchiy_c.specs.declared.TusuchiyAnswer.{TusuchiyAnswer}
+use Rattle.tusuchiy_c.specs.Asked.{profileOf}
 use Rattle.tusuchiy_c.specs.Told.{Told}
 use Rattle.listing.specs.declared.Sink.{Sink}
 use Rattle.listing.specs.Handing.{State, state}
@@ -17,17 +21,30 @@ use Rattle.indexes.specs.Index.{checked, wrote, written}
 use Rattle.tusuchiy_c.specs.declared.TusuchiyIndexAnswer.{TusuchiyIndexAnswer}
 use Rattle.tusuchiy_c.specs.ToldIndex.{ToldIndex}
 
-module _ (files : List (List ℕ)) (tables : List (List ℤ)) (list : List ℤ) (p q : Place) (o : Outcome) (is : q ≡ p) (e : outcome files tables list q ≡ o) where
-  from-p : outcome files tables list p ≡ o
-  from-p = ap (outcome files tables list) (sym is) ∙ e
+-- a number asks for none where it is 0
+pub none-asked : (z : ℤ) → natAbs z ≡ 0 → Plain ≡ profileOf z
+none-asked (pos zero) e = refl
+none-asked (pos (suc n)) e = absurd (omega arith)
+none-asked (negsuc n) e = absurd (omega arith)
 
-  pub told-answer : (r : TusuchiyAnswer) → Told (o .answer) r → Told (outcome files tables list p .answer) r
+pub boards-asked : (z : ℤ) → (natAbs z ≡ 0 → ⊥) → Boards ≡ profileOf z
+boards-asked (pos zero) h = absurd (h refl)
+boards-asked (pos (suc n)) h = refl
+boards-asked (negsuc n) h = refl
+
+-- an outcome from one starting place and profile is told of others that are the same
+module _ (files : List (List ℕ)) (tables : List (List ℤ)) (list : List ℤ) (p q : Place) (asked given : Profile) (o : Outcome)
+    (is : q ≡ p) (same : given ≡ asked) (e : outcome files tables list q given ≡ o) where
+  from-p : outcome files tables list p asked ≡ o
+  from-p = ap₂ (outcome files tables list) (sym is) (sym same) ∙ e
+
+  pub told-answer : (r : TusuchiyAnswer) → Told (o .answer) r → Told (outcome files tables list p asked .answer) r
   told-answer r t = rw (ap (λ (x : Outcome). x .answer) from-p) t
 
-  pub told-tables : outcome files tables list p .tables ≡ o .tables
+  pub told-tables : outcome files tables list p asked .tables ≡ o .tables
   told-tables = ap (λ (x : Outcome). x .tables) from-p
 
-  pub told-list : outcome files tables list p .list ≡ o .list
+  pub told-list : outcome files tables list p asked .list ≡ o .list
   told-list = ap (λ (x : Outcome). x .list) from-p
 
 -- a call for faults from one starting place is told of another that is the same

@@ -11,6 +11,7 @@ ghost use Rattle.num.specs.Signs.{natOf};
 ghost use Rattle.faults.specs.Told.{told as faultsTold};
 ghost use Rattle.indexes.specs.Index.{checked, wrote, written};
 ghost use Rattle.indexes.specs.Small.{Small as SmallIndex};
+ghost use Rattle.tusuchiy_c.specs.Asked.{profileOf};
 ghost use Rattle.tusuchiy_c.specs.Told.{Told};
 ghost use Rattle.tusuchiy_c.specs.ToldFaults.{ToldFaults};
 ghost use Rattle.tusuchiy_c.specs.ToldIndex.{ToldIndex};
@@ -18,6 +19,7 @@ use indexes::IndexAnswer;
 use listing::Sink;
 use meaning::Answer;
 use meaning::Place;
+use meaning::Profile;
 use meaning::Refusal;
 
 // The answer: verdict 0 accepted, 1 findings, 2 refused; the refusal's number, file, line and column; findings written and in all.
@@ -91,7 +93,18 @@ fn place_of(file: i32, line: i32, rule: i32) -> Place
     Place { file, line, rule }
 }
 
-// The check over six files, six lent tables and a lent list, from a starting place. An empty slice of file 3 or 6 means: not supplied.
+// The profile that a number asks for: 0 none, any other that for boards.
+fn profile_of(number: i32) -> Profile
+    ensures { λ r. ⌜ r ≡ profileOf number ⌝ }
+{
+    if num::size(number) == 0 {
+        return Profile::Plain;
+    }
+    Profile::Boards
+}
+
+// The check over six files, six lent tables and a lent list, from a starting place, for boards where `profile` isn't 0. An empty slice of file 3 or 6
+// means: not supplied.
 #[no_mangle]
 pub extern "C" fn tusuchiy_check(
     stops: &[u8],
@@ -110,23 +123,25 @@ pub extern "C" fn tusuchiy_check(
     after_file: i32,
     after_line: i32,
     after_rule: i32,
+    profile: i32,
 ) -> TusuchiyAnswer
     ensures { λ r. ⌜ Told (outcome
         (now (stops .entry) ∷ now (routes .entry) ∷ now (calendar .entry) ∷ now (trips .entry) ∷ now («stop_times» .entry) ∷ now («calendar_dates» .entry) ∷ [])
         (now («stops_table» .entry) ∷ now («routes_table» .entry) ∷ now («calendar_table» .entry) ∷ now («trips_table» .entry) ∷ now («stop_times_table» .entry) ∷ now («calendar_dates_table» .entry) ∷ [])
-        (now (findings .entry)) (record { file = «after_file»; line = «after_line»; rule = «after_rule» }) .answer) r ⌝ }
+        (now (findings .entry)) (record { file = «after_file»; line = «after_line»; rule = «after_rule» }) (profileOf profile) .answer) r ⌝ }
     ensures { λ _. ⌜ outcome
         (now (stops .entry) ∷ now (routes .entry) ∷ now (calendar .entry) ∷ now (trips .entry) ∷ now («stop_times» .entry) ∷ now («calendar_dates» .entry) ∷ [])
         (now («stops_table» .entry) ∷ now («routes_table» .entry) ∷ now («calendar_table» .entry) ∷ now («trips_table» .entry) ∷ now («stop_times_table» .entry) ∷ now («calendar_dates_table» .entry) ∷ [])
-        (now (findings .entry)) (record { file = «after_file»; line = «after_line»; rule = «after_rule» }) .tables
+        (now (findings .entry)) (record { file = «after_file»; line = «after_line»; rule = «after_rule» }) (profileOf profile) .tables
         ≡ now («stops_table» .exit) ∷ now («routes_table» .exit) ∷ now («calendar_table» .exit) ∷ now («trips_table» .exit) ∷ now («stop_times_table» .exit) ∷ now («calendar_dates_table» .exit) ∷ [] ⌝ }
     ensures { λ _. ⌜ outcome
         (now (stops .entry) ∷ now (routes .entry) ∷ now (calendar .entry) ∷ now (trips .entry) ∷ now («stop_times» .entry) ∷ now («calendar_dates» .entry) ∷ [])
         (now («stops_table» .entry) ∷ now («routes_table» .entry) ∷ now («calendar_table» .entry) ∷ now («trips_table» .entry) ∷ now («stop_times_table» .entry) ∷ now («calendar_dates_table» .entry) ∷ [])
-        (now (findings .entry)) (record { file = «after_file»; line = «after_line»; rule = «after_rule» }) .list
+        (now (findings .entry)) (record { file = «after_file»; line = «after_line»; rule = «after_rule» }) (profileOf profile) .list
         ≡ now (findings .exit) ⌝ }
 {
     let from = place_of(after_file, after_line, after_rule);
+    let asked = profile_of(profile);
     told(tusuchiy::check(
         stops,
         routes,
@@ -142,6 +157,7 @@ pub extern "C" fn tusuchiy_check(
         calendar_dates_table,
         findings,
         from,
+        asked,
     ))
 }
 

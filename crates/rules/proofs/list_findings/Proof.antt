@@ -51,7 +51,7 @@ returns c =
     let l₅ = c .before .before .before .before .list-counted5 .ensures in
     let l₆ = c .before .list-counted6 .ensures in (
       λ w h.
-          all-noted w (z .args .p) _ _
+          all-noted (z .args .asked) w (z .args .p) _ _
           (step (l₁ .0 w (ready 1 (omega arith) (omega arith) w _ _ _ h))
           (step (l₂ .0 w (ready 2 (omega arith) (omega arith) w _ _ _ h))
           (step (l₃ .0 w (ready 3 (omega arith) (omega arith) w _ _ _ h))

@@ -44,12 +44,12 @@ returns : tie.Need-returns
 returns c =
     let read = sym (c .before .before .before .before .before .before .before .before .before .before .before .before .before .before .before .before .before .verdict .ensures) ∙ c .before .before .before .before .before .before .before .before .before .before .before .before .before .before .before .enum-told .given .1 in
     let k = c .before .before .before .before .before .before .before .checked .ensures in
-    (outcome-readable _ _ _ _ _ read (k .0), k .1)
+    (outcome-readable _ _ _ _ _ _ read (k .0), k .1)
 
 returns-2 : tie.Need-returns-2
 returns-2 c =
     let e = sym (c .before .before .before .verdict .ensures) ∙ c .before .r .given .1 in
-    (outcome-refused _ _ _ _ _ e, small-refusal _ _ _ e (omega arith) (omega arith))
+    (outcome-refused _ _ _ _ _ _ e, small-refusal _ _ _ e (omega arith) (omega arith))
 
 pub check-spec : {M : Type 1} → statement M
 check-spec =

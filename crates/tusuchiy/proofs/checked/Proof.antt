@@ -100,7 +100,7 @@ returns c =
     let all = all-filled (feedOf files) _ _ _ _ _ _ (z .args .stops-table .now) (z .args .routes-table .now) (z .args .calendar-table .now) (z .args .trips-table .now) (z .args .stop-times-table .now) (z .args .calendar-dates-table .now) _ _ _ _ _ _ (f .0) (f .1 .0) (f .1 .1 .0) (f .1 .1 .1 .0) (f .1 .1 .1 .1 .0) (f .1 .1 .1 .1 .1 .0) in
     let k = c .before .before .list-findings .ensures in
     let h = k .0 _ (tabled files tables refl refl (z .pre) _ all _ (f .1 .1 .1 .1 .1 .1 .0) (f .1 .1 .1 .1 .1 .1 .1)) in (
-      outcome-read files tables refl refl (z .pre) _ all (z .args .findings .now) _ (z .args .from) (c .before .before .list-findings .result) _ h (c .answer-of .ensures),
+      outcome-read files tables refl refl (z .pre) _ all (z .args .findings .now) _ (z .args .from) (z .args .asked) (c .before .before .list-findings .result) _ h (c .answer-of .ensures),
       small-findings (z .args .from) _ (z .args .findings .now) _ (c .before .before .list-findings .result) _ h (k .1) (c .answer-of .ensures),
     )
 
