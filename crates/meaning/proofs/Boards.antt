@@ -6,7 +6,7 @@ use native.Mathlib.Decide.{ℕ-discrete}
 use mathlib.Core.Path.{_≡_, refl, sym, ap, ap₂, _∙_}
 use mathlib.Core.Logic.{_↔_, _⊎_, inl, inr, ⊎-elim}
 use mathlib.Core.Bool.{Bool, true, false, not, _||_}
-use mathlib.Core.List.{List, [], _∷_, _++_, map, List·Memᴰ, List·Memᴰ·head, List·Memᴰ·tail, List·Memᴰ·not-nil, List·Memᴰ·cases-cons, List·Memᴰ·append-cases, Memᴰ·append-left, Memᴰ·append-right}
+use mathlib.Core.List.{List, [], _∷_, _++_, map, List·Memᴰ, List·Memᴰ·head, List·Memᴰ·tail, List·Memᴰ·not-nil, List·Memᴰ·cases-cons, List·Memᴰ·append-cases, Memᴰ·append-right}
 use lib.IntN.{ℤ}
 use lib.ListN.{length}
 use lib.Dec.{eqb}
@@ -18,13 +18,12 @@ use Rattle.meaning.specs.declared.Choice.the-variants.{Picked, NoChoice}
 use Rattle.meaning.specs.declared.Verdict.{Verdict}
 use Rattle.meaning.specs.declared.Verdict.the-variants.{Readable, Unreadable}
 use Rattle.meaning.specs.declared.Place.{Place}
-use Rattle.meaning.specs.declared.Profile.{Profile}
 use Rattle.meaning.specs.declared.Profile.the-variants.{Plain, Boards}
 use Rattle.meaning.specs.Lists.{keep, flat}
 use Rattle.meaning.specs.Columns.{Row}
 use Rattle.meaning.specs.Forms.{timeOf, choiceOf}
 use Rattle.meaning.specs.Tables.{Feed, feedOf, rowsIn, arrivalTime, departureTime, pickupType, dropOffType}
-use Rattle.meaning.specs.Refusals.{Test, test, Claim, claimOf, onLine, verdictOf}
+use Rattle.meaning.specs.Refusals.{Test, test, Claim, onLine, verdictOf}
 use Rattle.meaning.specs.Rules.{row, timed, untimed, isTwoOrThree, twoDays, isLate, rule60, rule61, rule62, stopRules, routeRules, serviceRules, tripRules, addedRules, timeRules, dateRules, recordCount, rulesOf, onRecords, bindingsOf, bindings, fileNumbers}
 use Rattle.meaning.specs.Findings.{Finding, finding, listed, findingsOf, answerNumbers}
 use Rattle.meaning.specs.Outcome.{outcome, readOutcome, refusedOr}
@@ -34,7 +33,6 @@ use Rattle.meaning.proofs.ListLaws.{both, keep-append}
 use Rattle.meaning.proofs.Tests.{either, or-left, or-right}
 use Rattle.meaning.proofs.TheList.{listed-exactly, finding-numbers, refused-answer}
 use Rattle.meaning.proofs.Pages.{accepted-exactly}
-use Rattle.meaning.proofs.TimesNeverFall.{unbroken}
 
 -- ---- the profile's list, with 60 to 62 taken out
 

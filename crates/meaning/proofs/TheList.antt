@@ -1,13 +1,13 @@
 -- Demand 3: the list has each broken binding rule once, in the order of file, line, rule; and what the answer says of it.
-use Prim.Native.Nat.{ℕ, zero, suc, _+_, _*_, _-_, _≤_, _<_}
+use Prim.Native.Nat.{ℕ, zero, suc, _+_, _-_, _≤_, _<_}
 use native.Mathlib.Omega.{arith}
-use native.Mathlib.Nat.{add-sub-cancel, mul-suc}
+use native.Mathlib.Nat.{add-sub-cancel}
 use mathlib.Core.Path.{_≡_, refl, sym, ap, _∙_}
 use mathlib.Core.Logic.{_↔_, ⊎-elim}
 use mathlib.Core.Bool.{Bool, true, false, cond}
 use mathlib.Core.List.{List, [], _∷_, map, List·Memᴰ, List·Memᴰ·head, List·Memᴰ·tail, List·Memᴰ·not-nil, List·Memᴰ·cases-cons}
 use lib.IntN.{ℤ}
-use lib.ListN.{length, getD, replicate, length-replicate, length-append, List·getD-eq-default}
+use lib.ListN.{length, getD, replicate, length-replicate, List·getD-eq-default}
 use lib.Dec.{T, ltb, eqb}
 use borrow.Author.Tests.{eqb-true, lt-ltb, ltb-true, ltb-false}
 use Rattle.meaning.specs.declared.Refusal.{Refusal}
@@ -19,7 +19,7 @@ use Rattle.meaning.specs.declared.Verdict.the-variants.{Readable, Unread
 use Rattle.meaning.specs.declared.Answer.the-variants.{Accepted, Findings}
 use Rattle.meaning.specs.Lists.{flat}
 use Rattle.meaning.specs.Tables.{Feed, feedOf, rowsIn}
-use Rattle.meaning.specs.Refusals.{Test, test, Claim, claimOf, claim, onLine, verdictOf}
+use Rattle.meaning.specs.Refusals.{Test, test, Claim, claimOf, claim, verdictOf}
 use Rattle.meaning.specs.Rules.{stopRules, routeRules, serviceRules, tripRules, addedRules, timeRules, dateRules, recordCount, rulesOf, onRecords, bindingsOf, bindings}
 use Rattle.meaning.specs.Pages.{above, behind}
 use Rattle.meaning.specs.Findings.{Finding, finding, listed, findingsOf, after, page, roomOf, answerOf, answerNumbers}

@@ -11,7 +11,6 @@ use Rattle.meaning.specs.declared.Time.the-variants.{Seconds}
 use Rattle.meaning.specs.declared.Choice.the-variants.{Picked}
 use Rattle.meaning.specs.declared.Refusal.{Refusal}
 use Rattle.meaning.specs.declared.Place.{Place}
-use Rattle.meaning.specs.declared.Profile.{Profile}
 use Rattle.meaning.specs.declared.Profile.the-variants.{Plain, Boards}
 use Rattle.meaning.specs.Lists.{keep}
 use Rattle.meaning.specs.Columns.{Row}
