@@ -91,7 +91,7 @@ pub fn on_the_benchmarks_feeds(check: Checks, sizes: &[(usize, usize)]) -> Compa
         let files = (family.feed)(lines);
         let tables = large::tables(&files, -1);
         let name = format!("{}, {lines} lines", family.name);
-        with_model(check, &Case { name, files, tables, list: vec![-1; room], start: [0, 0, 0] });
+        with_model(check, &Case { name, files, tables, list: vec![-1; room], ..Case::default() });
     })
 }
 

@@ -276,7 +276,7 @@ pub fn base() -> Files {
 pub fn exact(name: String, files: Files) -> Case {
     let mut tables = large::tables(&files, -7);
     tables.iter_mut().filter(|table| table.is_empty()).for_each(|table| table.extend([-7; 5]));
-    Case { name, files, tables, list: vec![-9; 100], start: [0, 0, 0] }
+    Case { name, files, tables, list: vec![-9; 100], ..Case::default() }
 }
 
 /// The base feed with other files 3 and 6, and trips of services that stand in one of them, in both or in none.

@@ -8,7 +8,7 @@ use crate::render::{arrange, write};
 use crate::Case;
 use model::columns::{COLUMNS, WIDTHS};
 use model::fields::line_ends;
-use model::{Files, Tables, FILES};
+use model::{Files, Profile, Tables, FILES};
 
 /// What a seed's case is about.
 #[derive(Clone, Copy, Debug, PartialEq, Eq)]
@@ -74,7 +74,7 @@ pub fn case(seed: u64) -> Case {
     }
     let list = list(&mut random);
     let start = start(&mut random);
-    Case { name: format!("seed {seed}, {kind:?}"), files, tables, list, start }
+    Case { name: format!("seed {seed}, {kind:?}"), files, tables, list, start, profile: Profile::Plain }
 }
 
 /// The bytes of the feed, with what its kind asks for done to one file.

@@ -1,6 +1,6 @@
 //! The cases of the program crates/check_cases, and what the model makes of them in that program's words.
 
-use model::{Answer, Files, FILES};
+use model::{Answer, Files, Profile, FILES};
 
 /// The feed without a finding whose files = stands for.
 const STANDARD: [&str; FILES] = [
@@ -34,7 +34,7 @@ fn outcome(case: &str) -> String {
     let files: Files = STANDARD.map(&mut file);
     let mut tables = std::array::from_fn(|_| vec![LENT[0]; 256]);
     let mut list = vec![LENT[1]; head[..2].parse().expect("a case begins with the list's length")];
-    let answer = model::check(&files, &mut tables, &mut list, start);
+    let answer = model::check(&files, &mut tables, &mut list, start, Profile::Plain);
     let table = head[20..].parse().map_or(String::new(), |file: usize| used(TABLES[file - 1], &tables[file - 1]));
     format!("{table}{}:{}\n", words(answer), numbers(&list))
 }

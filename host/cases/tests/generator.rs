@@ -8,7 +8,7 @@ use model::characters::first_character;
 use model::columns::COLUMNS;
 use model::fields::{fields, lines};
 use model::reading::read;
-use model::{Answer, FILES};
+use model::{Answer, Profile, FILES};
 use std::collections::{BTreeMap, BTreeSet};
 
 const SEEDS: u64 = 6000;
@@ -16,7 +16,7 @@ const SEEDS: u64 = 6000;
 /// File and rule of all findings of a case, whatever its list and start.
 fn rules(case: &Case) -> Vec<(i32, i32)> {
     let mut whole = Case { list: vec![0; 30_000], start: [0, 0, 0], ..case.clone() };
-    match model::check(&case.files, &mut whole.tables, &mut whole.list, whole.start) {
+    match model::check(&case.files, &mut whole.tables, &mut whole.list, whole.start, whole.profile) {
         Answer::Findings { written, .. } => {
             whole.list[..written * 3].chunks(3).map(|found| (found[0], found[2])).collect()
         }
@@ -216,6 +216,6 @@ fn large_feeds_are_accepted() {
     for calls in [2, 21, 41, 1000] {
         let files = cases::large::feed(calls);
         let mut tables = cases::large::tables(&files, 9);
-        assert_eq!(model::check(&files, &mut tables, &mut [0; 30], [0, 0, 0]), Answer::Accepted);
+        assert_eq!(model::check(&files, &mut tables, &mut [0; 30], [0, 0, 0], Profile::Plain), Answer::Accepted);
     }
 }

@@ -234,7 +234,7 @@ fn by_model(case: &Case, feed: Option<&Feed>) -> Outcome {
         _ => None,
     };
     let Some(feed) = feed else { return (refused, Vec::new(), Vec::new()) };
-    let mut found = findings(feed);
+    let mut found = findings(feed, case.profile);
     found.retain(|found| matches!(found[2], 22 | 23));
     let mut filled = tables(&case.files, 0);
     fill(feed, &mut filled);

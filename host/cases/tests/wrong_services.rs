@@ -7,7 +7,7 @@ use model::page::hand_out;
 use model::reading::{read, Feed, Row};
 use model::records::fill;
 use model::rules::findings;
-use model::{Answer, Files, FILES};
+use model::{Answer, Files, Profile, FILES};
 
 /// How many seeds are looked at.
 const SEEDS: u64 = 2000;
@@ -182,8 +182,8 @@ fn sooner(files: &Files, room: [usize; FILES], behind: &[usize]) -> Option<Answe
 }
 
 /// The findings of rule 20 and 21 that a reading changes, beside those of the model that it doesn't.
-fn found_by(reading: &Reading, feed: &Feed) -> Vec<[i32; 3]> {
-    let mut found: Vec<[i32; 3]> = findings(feed).into_iter().filter(|finding| finding[0] != 6).collect();
+fn found_by(reading: &Reading, feed: &Feed, profile: Profile) -> Vec<[i32; 3]> {
+    let mut found: Vec<[i32; 3]> = findings(feed, profile).into_iter().filter(|finding| finding[0] != 6).collect();
     found.retain(|finding| (finding[0], finding[2]) != (4, 21));
     for (place, trip) in feed[3].rows().enumerate() {
         let no_route = !feed[1].rows().any(|route| route.value("route_id") == trip.value("route_id"));
@@ -216,7 +216,7 @@ fn by(reading: &Reading, case: &Case) -> Outcome {
     for file in (0..FILES).filter(|&file| reading.zeros && !feed[file].supplied) {
         outcome.tables[file].iter_mut().take(model::columns::WIDTHS[file]).for_each(|number| *number = 0);
     }
-    let found = found_by(reading, &feed);
+    let found = found_by(reading, &feed, case.profile);
     let written = hand_out(&found, &mut outcome.list, case.start);
     if !found.is_empty() {
         outcome.answer = Answer::Findings { written, total: found.len() };

@@ -126,7 +126,7 @@ fn case_of_dates(lines: usize) -> Case {
 /// A feed with tables of the exact length.
 fn case_of(name: String, files: Files) -> Case {
     let tables = cases::large::tables(&files, 5);
-    Case { name, files, tables, list: vec![3; 10], start: [0, 0, 0] }
+    Case { name, files, tables, list: vec![3; 10], ..Case::default() }
 }
 
 /// The feeds at the limit, then those over it, which this rule refuses.
