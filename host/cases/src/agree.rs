@@ -5,7 +5,7 @@ use crate::large::{self, families::FAMILIES};
 use crate::listing::mend::{mendable, only_what_was_hidden, rounds};
 use crate::{by_model, difference, edges, generate, index, listing, vectors, Case, Outcome};
 use model::faults::{faults, Fault};
-use model::Files;
+use model::{Files, Profile};
 use std::{panic, thread};
 
 /// So many cases, each compared by its number.
@@ -83,15 +83,18 @@ pub fn on_generated_feeds(check: Checks, seeds: usize) -> Comparison<'static> {
     Comparison::new(seeds, move |seed| with_model(check, &generate::case(seed as u64)))
 }
 
-/// The benchmark's feeds, with so many lines and so long a list.
+/// The benchmark's feeds, with so many lines and so long a list, each without a profile and for boards.
 pub fn on_the_benchmarks_feeds(check: Checks, sizes: &[(usize, usize)]) -> Comparison<'_> {
     // The families of one size after the other, so that parts are alike.
-    Comparison::new(FAMILIES.len() * sizes.len(), move |number| {
+    let feeds = FAMILIES.len() * sizes.len();
+    Comparison::new(feeds * 2, move |number| {
+        let profile = if number < feeds { Profile::Plain } else { Profile::Boards };
+        let number = number % feeds;
         let (family, (lines, room)) = (&FAMILIES[number % FAMILIES.len()], sizes[number / FAMILIES.len()]);
         let files = (family.feed)(lines);
         let tables = large::tables(&files, -1);
-        let name = format!("{}, {lines} lines", family.name);
-        with_model(check, &Case { name, files, tables, list: vec![-1; room], ..Case::default() });
+        let name = format!("{}, {lines} lines, {profile:?}", family.name);
+        with_model(check, &Case { name, files, tables, list: vec![-1; room], profile, ..Case::default() });
     })
 }
 
