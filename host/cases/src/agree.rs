@@ -246,6 +246,29 @@ mod tests {
         on_generated_feeds(without_columns, 100).on_threads();
     }
 
+    /// The model's outcome without the profile, whatever is asked for.
+    fn plainly(case: &Case) -> Outcome {
+        by_model(&Case { profile: Profile::Plain, ..case.clone() })
+    }
+
+    #[test]
+    #[should_panic(expected = "wanted Findings")]
+    fn a_check_without_the_profile_fails_on_vectors() {
+        on_every_vector(plainly).on_threads();
+    }
+
+    #[test]
+    #[should_panic(expected = "wanted Findings")]
+    fn a_check_without_the_profile_fails_on_edge_cases() {
+        on_every_edge_case(plainly).on_threads();
+    }
+
+    #[test]
+    #[should_panic(expected = "wanted Findings")]
+    fn a_check_without_the_profile_fails_on_generated_feeds() {
+        on_generated_feeds(plainly, 100).on_threads();
+    }
+
     /// The model's outcome, but where the writer is refused its buffer's last byte is lost, the only thing that differs.
     fn losing_a_byte(case: &index::Case) -> index::Outcome {
         let mut outcome = index::by_model(case);
