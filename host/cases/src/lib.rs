@@ -2,6 +2,7 @@
 #![forbid(unsafe_code)]
 
 pub mod agree;
+pub mod boards;
 pub mod characters;
 pub mod columns;
 pub mod damage;
@@ -22,7 +23,7 @@ pub mod render;
 pub mod services;
 pub mod vectors;
 
-use model::{Answer, Files, Tables, FILES};
+use model::{Answer, Files, Profile, Tables, FILES};
 
 /// Everything that goes into one check.
 #[derive(Clone, Debug, Default, PartialEq, Eq)]
@@ -32,6 +33,7 @@ pub struct Case {
     pub tables: Tables,
     pub list: Vec<i32>,
     pub start: [i32; 3],
+    pub profile: Profile,
 }
 
 /// Everything that comes out of one check: the answer, and tables and list whole.
@@ -46,7 +48,7 @@ pub struct Outcome {
 pub fn by_model(case: &Case) -> Outcome {
     let mut tables = case.tables.clone();
     let mut list = case.list.clone();
-    let answer = model::check(&case.files, &mut tables, &mut list, case.start);
+    let answer = model::check(&case.files, &mut tables, &mut list, case.start, case.profile);
     Outcome { answer, tables, list }
 }
 

@@ -5,7 +5,7 @@ mod common;
 use cases::edges::BASE;
 use cases::large::tables;
 use common::{check, feed, findings, refusal, refused};
-use model::Answer;
+use model::{Answer, Profile};
 
 /// The files of a base feed with lines added or one line put in the place of another.
 fn more(file: usize, lines: &str) -> String {
@@ -71,11 +71,11 @@ fn whole_files_go_rule_by_rule() {
     let files = feed(&[(3, &BASE[2][..BASE[2].len() - 1]), (1, "x")]);
     let mut tables = tables(&files, 0);
     tables[2].pop();
-    let answer = model::check(&files, &mut tables, &mut [], [0, 0, 0]);
+    let answer = model::check(&files, &mut tables, &mut [], [0, 0, 0], Profile::Plain);
     assert_eq!(answer, refusal([3, 3, 0, 0]));
     tables[2].push(0);
     tables[0].clear();
-    let answer = model::check(&files, &mut tables, &mut [], [0, 0, 0]);
+    let answer = model::check(&files, &mut tables, &mut [], [0, 0, 0], Profile::Plain);
     assert_eq!(answer, refusal([4, 1, 0, 0]));
 }
 
@@ -265,7 +265,7 @@ fn the_list_and_its_start() {
     assert_eq!(check(&files, &mut tables(&files, 0)).1, whole);
     let page = |start, length| {
         let mut list = vec![-1; length];
-        let answer = model::check(&files, &mut tables(&files, 0), &mut list, start);
+        let answer = model::check(&files, &mut tables(&files, 0), &mut list, start, Profile::Plain);
         (answer, list)
     };
     let told = |written| Answer::Findings { written, total: 4 };

@@ -4,7 +4,7 @@ mod common;
 
 use cases::large::tables;
 use common::{check, feed, findings, refusal, refused};
-use model::Answer;
+use model::{Answer, Profile};
 
 const ROUTES: &[u8] = b"route_id,route_type,route_short_name,route_long_name\nR,3,7,Seven\n";
 
@@ -266,7 +266,7 @@ fn refused_leaves_all_as_lent() {
     files[5].extend(b"\xED\xA0\x80,20240704,1\n");
     let lent = tables(&files, 77);
     let (mut held, mut list) = (lent.clone(), [5; 9]);
-    let answer = model::check(&files, &mut held, &mut list, [0, 0, 0]);
+    let answer = model::check(&files, &mut held, &mut list, [0, 0, 0], Profile::Plain);
     assert_eq!(answer, refusal([14, 6, 4, 0]));
     assert_eq!((held, list), (lent, [5; 9]));
 }

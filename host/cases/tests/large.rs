@@ -4,7 +4,7 @@ use cases::large::families::{Family, Kind, FAMILIES};
 use cases::large::tables;
 use model::columns::WIDTHS;
 use model::fields::line_ends;
-use model::{Answer, Files, FILES};
+use model::{Answer, Files, Profile, FILES};
 use std::collections::BTreeSet;
 
 /// How many findings each feed of 64 lines has, counted by hand.
@@ -36,7 +36,7 @@ fn small_ones_find_what_was_meant() {
     for family in &FAMILIES {
         let files = (family.feed)(64);
         assert_eq!(files.iter().map(|file| line_ends(file)).max(), Some(64), "{}", family.name);
-        let answer = model::check(&files, &mut tables(&files, 0), &mut [], [0, 0, 0]);
+        let answer = model::check(&files, &mut tables(&files, 0), &mut [], [0, 0, 0], Profile::Plain);
         let total = match answer {
             Answer::Accepted => 0,
             Answer::Findings { total, .. } => total,
@@ -72,7 +72,7 @@ fn filled(name: &str) -> (Files, [Vec<Vec<i32>>; FILES]) {
     let family = FAMILIES.iter().find(|family| family.name == name).expect("a family of this name");
     let files = (family.feed)(64);
     let mut filled = tables(&files, -1);
-    model::check(&files, &mut filled, &mut [], [0, 0, 0]);
+    model::check(&files, &mut filled, &mut [], [0, 0, 0], Profile::Plain);
     let records = |file: usize| filled[file].chunks(WIDTHS[file]).skip(1).map(<[i32]>::to_vec).collect();
     (files, std::array::from_fn(records))
 }

@@ -4,7 +4,7 @@ mod common;
 
 use cases::large::tables;
 use common::{check, feed, findings, refusal, refused};
-use model::Answer;
+use model::{Answer, Profile};
 
 const CALENDAR: &str = "service_id,monday,tuesday,wednesday,thursday,friday,saturday,sunday,start_date,end_date\n";
 const DATES: &str = "service_id,date,exception_type\n";
@@ -237,7 +237,7 @@ fn file_6_comes_last() {
     assert_eq!(check(&files, &mut tables(&files, 0)).1, whole);
     let page = |start| {
         let mut list = vec![-1; 4];
-        let answer = model::check(&files, &mut tables(&files, 0), &mut list, start);
+        let answer = model::check(&files, &mut tables(&files, 0), &mut list, start, Profile::Plain);
         (answer, list)
     };
     let told = |written| Answer::Findings { written, total: 3 };

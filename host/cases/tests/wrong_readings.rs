@@ -124,7 +124,7 @@ fn told_apart(cases: impl Iterator<Item = Case>) {
     for case in cases {
         let Ok(feed) = read(&case.files, case.tables.each_ref().map(Vec::len)) else { continue };
         let of_order = |finding: &[i32; 3]| [28, 29, 31].contains(&finding[2]);
-        let wanted: BTreeSet<[i32; 3]> = findings(&feed).into_iter().filter(of_order).collect();
+        let wanted: BTreeSet<[i32; 3]> = findings(&feed, case.profile).into_iter().filter(of_order).collect();
         missed.try_case(&case.name, &wanted, |reading| by(reading, &feed));
     }
     missed.are(&[]);

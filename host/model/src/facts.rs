@@ -90,11 +90,13 @@ pub fn of_finding(feed: &Feed, finding: Finding) -> Facts {
         24 => ["start_date", "end_date"].map(|column| (column, text(own.value(column)))).to_vec(),
         25 => vec![("columns", Fact::List(["route_short_name", "route_long_name"].map(text).to_vec()))],
         26 => times_given(own),
-        27 => ["arrival_time", "departure_time"].map(|column| (column, time(own, column))).to_vec(),
+        27 => times(own),
         28 => same_sequence(feed, line, own),
         29 => late_departure(feed, line, own),
         30 => few_lines(feed, own),
         31 => ends(feed, own),
+        60 | 62 => times(own),
+        61 => ["pickup_type", "drop_off_type"].map(|column| (column, stored(own, column))).to_vec(),
         _ => panic!("no rule {rule}"),
     }
 }
@@ -152,6 +154,11 @@ fn parent(feed: &Feed, own: Row) -> Facts {
         ("parent_line", line.map_or(Fact::None, count)),
         ("parent_location_type", kind),
     ]
+}
+
+/// Rules 27, 60 and 62: both times, none where one is empty.
+fn times(own: Row) -> Facts {
+    ["arrival_time", "departure_time"].map(|column| (column, time(own, column))).to_vec()
 }
 
 /// Rule 26, clause by clause.

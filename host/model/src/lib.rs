@@ -1,5 +1,5 @@
-//! The whole check of document 01 with requests E2, E1, E6, E7 and E10, written naively from the documents: files in, tables, list and answer out;
-//! request E4's index, and issue 19's list of all faults.
+//! The whole check of document 01 with requests E2, E1, E6, E7, E10 and E13, written naively from the documents: files in, tables, list and
+//! answer out; request E4's index, and issue 19's list of all faults.
 #![forbid(unsafe_code)]
 
 pub mod characters;
@@ -35,14 +35,24 @@ pub enum Answer {
     Refused { number: usize, file: usize, line: usize, column: usize },
 }
 
+/// What a call asks for beside the rules that are always tested.
+#[derive(Clone, Copy, Debug, Default, PartialEq, Eq)]
+pub enum Profile {
+    /// Nothing more.
+    #[default]
+    Plain,
+    /// The profile for boards: rules 60 to 62 too.
+    Boards,
+}
+
 /// One check over six files: refused leaves everything as lent, else list and tables are overwritten.
-pub fn check(files: &Files, tables: &mut Tables, list: &mut [i32], start: [i32; 3]) -> Answer {
+pub fn check(files: &Files, tables: &mut Tables, list: &mut [i32], start: [i32; 3], profile: Profile) -> Answer {
     let feed = match reading::read(files, tables.each_ref().map(Vec::len)) {
         Ok(feed) => feed,
         Err(refusal) => return refusal,
     };
     records::fill(&feed, tables);
-    let findings = rules::findings(&feed);
+    let findings = rules::findings(&feed, profile);
     let written = page::hand_out(&findings, list, start);
     match findings.len() {
         0 => Answer::Accepted,

@@ -1,15 +1,15 @@
-//! The binding rules 20 to 31 over a feed that was read: all findings, in order.
+//! The binding rules 20 to 31, and the profile's 60 to 62, over a feed that was read: all findings, in order.
 
 use crate::reading::{Feed, Row};
 use crate::records::{First, Named, KEYS};
 use crate::trips::{by_trip, first_call, last_call, leaves_after, repeats};
-use crate::FILES;
+use crate::{Profile, FILES};
 
 /// A finding: file, line, rule.
 pub type Finding = [i32; 3];
 
 /// All findings of a feed, ordered by file, line and rule.
-pub fn findings(feed: &Feed) -> Vec<Finding> {
+pub fn findings(feed: &Feed, profile: Profile) -> Vec<Finding> {
     let named = Named::new(feed);
     let mut findings = Vec::new();
     repeated_keys(feed, &mut findings);
@@ -18,6 +18,9 @@ pub fn findings(feed: &Feed) -> Vec<Finding> {
     trips(feed, &named, &mut findings);
     stop_times(feed, &named, &mut findings);
     trip_order(feed, &mut findings);
+    if profile == Profile::Boards {
+        boards(feed, &mut findings);
+    }
     findings.sort();
     findings
 }
@@ -129,5 +132,19 @@ fn trip_order(feed: &Feed, findings: &mut Vec<Finding>) {
             add(findings, 5, call.place, 28, calls.iter().any(|other| repeats(call, other)));
             add(findings, 5, call.place, 29, calls.iter().any(|other| leaves_after(other, call)));
         }
+    }
+}
+
+/// Two days in seconds: 48:00:00.
+const TWO_DAYS: i32 = 172_800;
+
+/// Rules 60 to 62 on stop_times, the profile for boards: each line as it stands, whatever its trip and stop. An empty time is no time.
+fn boards(feed: &Feed, findings: &mut Vec<Finding>) {
+    for (place, row) in feed[4].rows().enumerate() {
+        add(findings, 5, place, 60, !timed(row));
+        let arranged = ["pickup_type", "drop_off_type"].map(|name| [2, 3].contains(&row.number(name)));
+        add(findings, 5, place, 61, arranged[0] || arranged[1]);
+        let late = ["arrival_time", "departure_time"].map(|name| row.number(name) >= TWO_DAYS);
+        add(findings, 5, place, 62, late[0] || late[1]);
     }
 }

@@ -5,11 +5,14 @@ use crate::ids::Ids;
 use crate::reading::{Feed, WIDTHS};
 use crate::records::{Call, Route, Service, ServiceDate, Stop, Trip};
 use crate::trips::Trips;
-use model::FILES;
+use model::{Profile, FILES};
 use std::collections::HashSet;
 
-/// Fills the tables of the files supplied and finds what rules 20 to 31 find.
-pub fn fill(feed: &Feed, tables: [&mut [i32]; FILES]) -> Findings {
+/// 48:00:00 in seconds.
+const TWO_DAYS: i32 = 172_800;
+
+/// Fills the tables of the files supplied and finds what rules 20 to 31 find, and 60 to 62 for boards.
+pub fn fill(feed: &Feed, tables: [&mut [i32]; FILES], profile: Profile) -> Findings {
     let [stops_table, routes_table, services_table, trips_table, calls_table, dates_table] = tables;
     let mut found = Findings::default();
     let stop_ids = Ids::new(feed.stops.iter().map(|stop| stop.id.value));
@@ -25,7 +28,7 @@ pub fn fill(feed: &Feed, tables: [&mut [i32]; FILES]) -> Findings {
     // Rules 30 and 31 stand on lines of trips.txt, and only the lines of stop_times tell them.
     let seen = Trips::new(&mut trip_ids, &feed.calls);
     trips(&feed.trips, [&route_ids, &service_ids, &dated_ids], (&trip_ids, &seen), trips_table, &mut found);
-    calls(feed, &seen, &stop_ids, calls_table, &mut found);
+    calls(feed, &seen, &stop_ids, calls_table, profile, &mut found);
     if feed.supplied[5] {
         dates(&feed.dates, &dated_ids, dates_table, &mut found);
     }
@@ -98,7 +101,7 @@ fn trips(
     }
 }
 
-fn calls(feed: &Feed, trips: &Trips, stops: &Ids, table: &mut [i32], found: &mut Findings) {
+fn calls(feed: &Feed, trips: &Trips, stops: &Ids, table: &mut [i32], profile: Profile, found: &mut Findings) {
     for (record, call, room) in records(&feed.calls, table, 5) {
         let (trip, [repeated, early]) = trips.call(record - 1);
         let stop = stops.record(call.stop);
@@ -112,6 +115,11 @@ fn calls(feed: &Feed, trips: &Trips, stops: &Ids, table: &mut [i32], found: &mut
         found.add(5, record, 27, call.timed() && departure < arrival);
         found.add(5, record, 28, repeated);
         found.add(5, record, 29, early);
+        if profile == Profile::Boards {
+            found.add(5, record, 60, !call.timed());
+            found.add(5, record, 61, pickup.max(drop_off) > 1);
+            found.add(5, record, 62, arrival.max(departure) >= TWO_DAYS);
+        }
     }
 }
 

@@ -3,7 +3,7 @@
 use cases::large::{self, families::FAMILIES};
 use cases::{agree, Case, Outcome};
 use model::fields::line_ends;
-use model::{Answer, Files};
+use model::{Answer, Files, Profile};
 
 /// How many seeds it is compared with the model on.
 const SEEDS: usize = 4000;
@@ -11,7 +11,7 @@ const SEEDS: usize = 4000;
 fn by_quick(case: &Case) -> Outcome {
     let mut tables = case.tables.clone();
     let mut list = case.list.clone();
-    let answer = quick::check(&case.files, &mut tables, &mut list, case.start);
+    let answer = quick::check(&case.files, &mut tables, &mut list, case.start, case.profile);
     Outcome { answer, tables, list }
 }
 
@@ -42,7 +42,7 @@ fn the_benchmarks_largest_feeds_can_be_read() {
     for family in &FAMILIES {
         let files = (family.feed)(65_536);
         assert_eq!(files.iter().map(|file| line_ends(file)).max(), Some(65_536), "{}", family.name);
-        let answer = quick::check(&files, &mut large::tables(&files, 0), &mut [], [0, 0, 0]);
+        let answer = quick::check(&files, &mut large::tables(&files, 0), &mut [], [0, 0, 0], Profile::Plain);
         assert!(!matches!(answer, Answer::Refused { .. }), "{}: {answer:?}", family.name);
     }
 }
@@ -50,7 +50,7 @@ fn the_benchmarks_largest_feeds_can_be_read() {
 /// A feed with tables of just the length that rule 3 asks for, compared with the model.
 fn compare_files(name: &str, files: Files) {
     let tables = large::tables(&files, -1);
-    let case = Case { name: name.to_string(), files, tables, list: vec![-1; 10], start: [0, 0, 0] };
+    let case = Case { name: name.to_string(), files, tables, list: vec![-1; 10], ..Case::default() };
     agree::with_model(by_quick, &case);
 }
 
