@@ -78,10 +78,50 @@ pub fn list_findings(
         written: 0,
         total: 0,
     };
-    let k = list_counted(1, stops, stops_table, stops_table, marks, out, none, p, asked);
-    let k = list_counted(2, routes, routes_table, stops_table, marks, out, k, p, asked);
-    let k = list_counted(3, calendar, calendar_table, stops_table, marks, out, k, p, asked);
+    let k = list_counted(
+        1,
+        stops,
+        stops_table,
+        stops_table,
+        marks,
+        out,
+        none,
+        p,
+        asked,
+    );
+    let k = list_counted(
+        2,
+        routes,
+        routes_table,
+        stops_table,
+        marks,
+        out,
+        k,
+        p,
+        asked,
+    );
+    let k = list_counted(
+        3,
+        calendar,
+        calendar_table,
+        stops_table,
+        marks,
+        out,
+        k,
+        p,
+        asked,
+    );
     let k = list_counted(4, trips, trips_table, stops_table, marks, out, k, p, asked);
-    let k = list_counted(5, stop_times, times_table, stops_table, marks, out, k, p, asked);
+    let k = list_counted(
+        5,
+        stop_times,
+        times_table,
+        stops_table,
+        marks,
+        out,
+        k,
+        p,
+        asked,
+    );
     list_counted(6, dates, dates_table, stops_table, marks, out, k, p, asked)
 }
