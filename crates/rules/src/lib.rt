@@ -15,6 +15,12 @@ use listing::Sink;
 use meaning::Place;
 use meaning::Profile;
 
+// What a call wants of the list: the findings after a place, by the rules asked for.
+struct Wanted {
+    from: Place,
+    asked: Profile,
+}
+
 // How many records a file has: a line each, but for the header.
 fn records_of(s: &[u8]) -> usize
     ensures { λ r. ⌜ (r ≡ countLf (now (s .entry)) - 1) × (r ≤ length (now (s .entry))) ⌝ }
@@ -26,7 +32,7 @@ fn records_of(s: &[u8]) -> usize
     lines - 1
 }
 
-// The findings of a file, by the rules asked for; its bytes tell how many records it has.
+// What is wanted of the findings of a file, whose bytes tell how many records it has.
 fn list_counted(
     f: usize,
     s: &[u8],
@@ -35,15 +41,16 @@ fn list_counted(
     marks: &[u16],
     out: &mut [i32],
     k: Sink,
-    p: Place,
-    asked: Profile,
+    a: Wanted,
 ) -> Sink
     requires { ⌜ (1 ≤ f) × ((f ≤ 6) × ((countLf (now s) ≤ maxLines) × (k .total ≤ 2 ^ 61))) ⌝ }
     ensures { λ r. ⌜ ((w : Feed) → Ready f (countLf (now (s .entry)) - 1) w (now (t .entry)) (now (stops .entry)) (now (marks .entry))
-        → state (now (out .exit)) r ≡ noting p (bindingsOf asked w f) (state (now (out .entry)) k)) ⌝ }
+        → state (now (out .exit)) r ≡ noting (a .from) (bindingsOf (a .asked) w f) (state (now (out .entry)) k)) ⌝ }
     ensures { λ r. ⌜ r .total ≤ k .total + ruleCount Profile.Boards f * maxLines ⌝ }
 {
-    file_rules::list_file(f, records_of(s), t, stops, marks, out, k, p, asked)
+    let from = a.from;
+    let asked = a.asked;
+    file_rules::list_file(f, records_of(s), t, stops, marks, out, k, from, asked)
 }
 
 // All findings by the rules asked for: those after the starting place are written, as many as fit; the rest of the list stays.
@@ -78,50 +85,11 @@ pub fn list_findings(
         written: 0,
         total: 0,
     };
-    let k = list_counted(
-        1,
-        stops,
-        stops_table,
-        stops_table,
-        marks,
-        out,
-        none,
-        p,
-        asked,
-    );
-    let k = list_counted(
-        2,
-        routes,
-        routes_table,
-        stops_table,
-        marks,
-        out,
-        k,
-        p,
-        asked,
-    );
-    let k = list_counted(
-        3,
-        calendar,
-        calendar_table,
-        stops_table,
-        marks,
-        out,
-        k,
-        p,
-        asked,
-    );
-    let k = list_counted(4, trips, trips_table, stops_table, marks, out, k, p, asked);
-    let k = list_counted(
-        5,
-        stop_times,
-        times_table,
-        stops_table,
-        marks,
-        out,
-        k,
-        p,
-        asked,
-    );
-    list_counted(6, dates, dates_table, stops_table, marks, out, k, p, asked)
+    let a = Wanted { from: p, asked };
+    let k = list_counted(1, stops, stops_table, stops_table, marks, out, none, a);
+    let k = list_counted(2, routes, routes_table, stops_table, marks, out, k, a);
+    let k = list_counted(3, calendar, calendar_table, stops_table, marks, out, k, a);
+    let k = list_counted(4, trips, trips_table, stops_table, marks, out, k, a);
+    let k = list_counted(5, stop_times, times_table, stops_table, marks, out, k, a);
+    list_counted(6, dates, dates_table, stops_table, marks, out, k, a)
 }
