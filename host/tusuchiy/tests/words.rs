@@ -8,10 +8,10 @@ use common::{document, example_files, json, out, run, status, Folder};
 use model::columns::{Column, COLUMNS};
 use model::facts::{of_finding, of_refusal, Fact, Facts};
 use model::forms::Form;
-use model::Answer;
+use model::{Answer, Profile};
 use std::collections::{BTreeMap, BTreeSet};
 
-/// How many seeds the command and the model are compared on, and how many feeds one run checks.
+/// How many seeds the command and the model are compared on, each with both profiles, and how many feeds one run checks.
 const SEEDS: u64 = 384;
 const AT_A_TIME: u64 = 64;
 
@@ -54,12 +54,21 @@ fn members(facts: &Facts) -> Json {
 /// Names of members.
 type Names = BTreeSet<String>;
 
+/// The profile that a document was asked for.
+fn profile(report: &Json) -> Profile {
+    match report.get("profile").text() {
+        "plain" => Profile::Plain,
+        "boards" => Profile::Boards,
+        other => panic!("no profile: {other}"),
+    }
+}
+
 /// Fails where the document of a feed differs from the model's answer and facts; gives the rules that were seen, each
 /// with the names of what it is about.
 fn compare(name: &str, files: &model::Files, report: &Json) -> Vec<(i64, Names)> {
     let mut tables = cases::large::tables(files, 0);
     let mut list = vec![0; 30_000];
-    match model::check(files, &mut tables, &mut list, [0, 0, 0]) {
+    match model::check(files, &mut tables, &mut list, [0, 0, 0], profile(report)) {
         Answer::Accepted => {
             assert_eq!(report.get("verdict").text(), "accepted", "{name}");
             Vec::new()
@@ -115,17 +124,38 @@ fn compare_faults(name: &str, files: &model::Files, report: &Json) {
     }
 }
 
-/// The documents of feeds, all by one run.
-fn documents(feeds: &[String]) -> Vec<Json> {
-    let words: Vec<&str> = ["check", "--json"].into_iter().chain(feeds.iter().map(|feed| &feed[..])).collect();
+/// The documents of feeds with a profile, all by one run.
+fn documents(feeds: &[String], profile: &str) -> Vec<Json> {
+    let words = ["check", "--json", "--profile", profile];
+    let words: Vec<&str> = words.into_iter().chain(feeds.iter().map(|feed| &feed[..])).collect();
     let output = run(&words);
     assert!(status(&output) < 3);
     let documents: Vec<Json> = out(&output).lines().map(json::read).collect();
     assert!(documents.iter().map(|report| report.get("feed").text()).eq(feeds), "a document for each feed");
+    assert!(documents.iter().all(|report| report.get("profile").text() == profile), "each has the profile");
     documents
 }
 
-/// Every refusal but 3, which the command's tables never break, and every rule come up among the seeds.
+/// Fails unless the document with the profile for boards is the one without it, but for rules 60 to 62 and what counts them.
+fn compare_profiles(name: &str, plain: &Json, boards: &Json) {
+    let is_plain = |found: &&Json| found.get("rule").number() < 60;
+    for list in ["findings", "totals"] {
+        let left: Vec<&Json> = boards.get(list).list().iter().filter(is_plain).collect();
+        assert!(left.iter().copied().eq(plain.get(list).list()), "{name}: {list}");
+    }
+    for same in ["version", "refusal", "faults_total", "faults", "page", "feed", "folder", "records", "unread"] {
+        assert_eq!(boards.get(same), plain.get(same), "{name}: {same}");
+    }
+    let [more, few] = [boards, plain].map(|report| report.get("findings").list().len() as i64);
+    for count in ["total", "written"] {
+        assert_eq!([boards, plain].map(|report| report.get(count).number()), [more, few], "{name}: {count}");
+    }
+    let verdict = if more > few { "findings" } else { plain.get("verdict").text() };
+    assert_eq!(boards.get("verdict").text(), verdict, "{name}");
+}
+
+/// Every refusal but 3, which the command's tables never break, and every rule come up among the seeds. What the profile for boards adds are its
+/// own rules and nothing else.
 #[test]
 fn the_facts_are_the_models() {
     let folder = Folder::empty("facts");
@@ -134,13 +164,16 @@ fn the_facts_are_the_models() {
         let cases: Vec<_> = (first..first + AT_A_TIME).map(generate::case).collect();
         let feeds: Vec<String> =
             cases.iter().enumerate().map(|(place, case)| folder.put_feed(&place.to_string(), &case.files)).collect();
-        for (case, report) in cases.iter().zip(&documents(&feeds)) {
-            for (number, names) in compare(&case.name, &case.files, report) {
+        let [plain, boards] = ["plain", "boards"].map(|profile| documents(&feeds, profile));
+        for (case, (plain, boards)) in cases.iter().zip(plain.iter().zip(&boards)) {
+            compare_profiles(&case.name, plain, boards);
+            let told = [plain, boards].map(|report| compare(&case.name, &case.files, report));
+            for (number, names) in told.into_iter().flatten() {
                 seen.entry(number).or_default().extend(names);
             }
         }
     }
-    let all: BTreeSet<i64> = (1..=14).filter(|number| *number != 3).chain(20..=31).collect();
+    let all: BTreeSet<i64> = (1..=14).filter(|number| *number != 3).chain(20..=31).chain(60..=62).collect();
     assert_eq!(seen.keys().copied().collect::<BTreeSet<_>>(), all);
     for (number, names) in seen {
         assert_eq!(documented(number), names, "docs/JSON.md on {number}");
@@ -167,7 +200,7 @@ fn every_column_has_its_words() {
             feeds.push(files);
         }
     }
-    let reports = documents(&paths);
+    let reports = documents(&paths, "plain");
     for ((column, feeds), reports) in known().map(|(_, column)| column).zip(feeds.chunks(3)).zip(reports.chunks(3)) {
         feeds.iter().zip(reports).for_each(|(files, report)| drop(compare(column.name, files, report)));
         let refused = |place: usize, number: i64, column: i64| {

@@ -7,9 +7,10 @@ use crate::explain;
 use crate::feed::NAMES;
 use crate::paging::Outcome;
 use crate::safe;
+use crate::text::asked;
 use std::collections::BTreeMap;
 use std::os::unix::ffi::OsStrExt;
-use tusuchiy::{File, MOST_BYTES};
+use tusuchiy::{File, Profile, MOST_BYTES};
 
 /// How many faults stand in the page for readers without a script.
 const PLAIN: usize = 100;
@@ -60,7 +61,7 @@ pub fn title(subject: &Subject) -> String {
         Outcome::Findings { total, .. } => several(total, "finding"),
         Outcome::Refused { total, .. } => format!("refused, {}", several(total, "fault")),
     };
-    format!("{}: {verdict}", path(subject))
+    format!("{}: {verdict}{}", path(subject), asked(subject.report.profile))
 }
 
 /// The feed's path, and its folder in a zip file.
@@ -89,9 +90,23 @@ pub fn verdict(subject: &Subject) -> String {
     };
     format!(
         "<p class=\"verdict {kind}\" id=\"verdict\"><span class=\"sign\" aria-hidden=\"true\">{sign}</span>{head}</p>\n\
-         <p class=\"lead\">{words}</p>{}",
+         <p class=\"lead\">{words}</p>{}{}",
+        profile(subject),
         refusal(subject)
     )
+}
+
+/// Which rules were asked for, where they aren't those of every check: whoever gets the page forwarded doesn't know the command line.
+fn profile(subject: &Subject) -> String {
+    let name = subject.report.profile;
+    let when = if subject.refused() { "They are tested once the files can be read." } else { "They were tested too." };
+    match name {
+        Profile::Plain => String::new(),
+        Profile::Boards => format!(
+            "\n<p class=\"lead\" id=\"profile\">Profile {name}: beside rules 20 to 31, which go for every feed, rules 60 to 62 say what a \
+             departure board can't show. {when}</p>"
+        ),
+    }
 }
 
 /// Of a refused feed: how many faults there are and what to do, what the verdict names, and what wasn't judged.
@@ -320,7 +335,7 @@ mod tests {
         let wanted = "<p><strong>What.</strong> <code>&lt;A&gt;</code> is <strong>so</strong><br>\nand so.</p>\n\
             <p><strong>Example.</strong> Of</p>\n<pre>A,1\nB,2</pre>\n<p><strong>How.</strong> Mend.</p>\n";
         assert_eq!(marked_up(text), wanted);
-        for number in (1..=14).chain(20..=31) {
+        for number in (1..=14).chain(20..=31).chain(60..=62) {
             let page = explain::page(number).expect("a section");
             let body = marked_up(page);
             assert!(!body.contains("**") && !body.contains('`'), "{number}: {body}");
