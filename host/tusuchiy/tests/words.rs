@@ -260,8 +260,13 @@ fn words_in(report: &Json) -> Vec<String> {
 
 const TIMES: &str = "trip_id,arrival_time,departure_time,stop_id,stop_sequence,timepoint\n";
 
-/// A feed whose trips are T and U, with these lines in stop_times.txt.
+/// What is said of a feed whose trip is T, with these lines in stop_times.txt.
 fn words_of_times(lines: &str) -> Vec<String> {
+    words_with(&format!("{TIMES}{lines}"), "plain")
+}
+
+/// The same with a whole stop_times.txt and a profile.
+fn words_with(times: &str, profile: &str) -> Vec<String> {
     let folder = Folder::new("times");
     folder.put("stops.txt", b"stop_id,stop_name,stop_lat,stop_lon,location_type\nA,a,1,1,\nB,b,1,1,\nS,s,1,1,1\n");
     folder.put("routes.txt", b"route_id,route_short_name,route_type\nR,1,3\n");
@@ -271,8 +276,8 @@ fn words_of_times(lines: &str) -> Vec<String> {
           W,1,1,1,1,1,0,0,20240101,20241231\n",
     );
     folder.put("trips.txt", b"route_id,service_id,trip_id\nR,W,T\n");
-    folder.put("stop_times.txt", format!("{TIMES}{lines}").as_bytes());
-    let report = document(&[folder.path()]);
+    folder.put("stop_times.txt", times.as_bytes());
+    let report = document(&["--profile", profile, folder.path()]);
     let found = report.get("findings").list();
     found.iter().map(|found| format!("{}: {}", found.get("rule").number(), found.get("words").text())).collect()
 }
@@ -349,6 +354,97 @@ const ABOUT_TIMES: [(&str, &[&str]); 11] = [
 fn words_about_times() {
     for (lines, wanted) in ABOUT_TIMES {
         assert_eq!(words_of_times(lines), wanted, "{lines}");
+    }
+}
+
+/// A line of stop_times.txt between two that are good, by its times and its two types, and what the profile for boards says of it, by hand.
+const FOR_BOARDS: [([&str; 4], &[&str]); 14] = [
+    (["8:01:00", "8:01:00", "", ""], &[]),
+    (["8:01:00", "8:01:00", "0", "1"], &[]),
+    (["8:01:00", "8:01:00", "1", "0"], &[]),
+    (["47:59:59", "47:59:59", "", ""], &[]),
+    (["", "", "", ""], &["60: arrival_time and departure_time are empty"]),
+    (["8:01:00", "", "", ""], &[ARRIVAL_ONLY[0], ARRIVAL_ONLY[1]]),
+    (["", "8:01:00", "", ""], &[DEPARTURE_ONLY[0], DEPARTURE_ONLY[1]]),
+    (["8:01:00", "8:01:00", "2", "1"], &["61: pickup_type is 2 (must phone the agency)"]),
+    (["8:01:00", "8:01:00", "3", ""], &["61: pickup_type is 3 (must arrange with the driver)"]),
+    (["8:01:00", "8:01:00", "", "2"], &["61: drop_off_type is 2 (must phone the agency)"]),
+    (
+        ["8:01:00", "8:01:00", "3", "2"],
+        &["61: pickup_type is 3 (must arrange with the driver); drop_off_type is 2 (must phone the agency)"],
+    ),
+    (["47:59:59", "48:00:00", "", ""], &["62: departure_time is 48:00:00, wanted: before 48:00:00"]),
+    (
+        ["48:00:00", "99:59:59", "", ""],
+        &["62: arrival_time is 48:00:00 and departure_time is 99:59:59, wanted: before 48:00:00"],
+    ),
+    (
+        ["48:00:01", "", "2", ""],
+        &[
+            "26: arrival_time is 48:00:01 and departure_time is empty",
+            "60: arrival_time is 48:00:01 and departure_time is empty",
+            "61: pickup_type is 2 (must phone the agency)",
+            "62: arrival_time is 48:00:01, wanted: before 48:00:00",
+        ],
+    ),
+];
+
+const ARRIVAL_ONLY: [&str; 2] = [
+    "26: arrival_time is 08:01:00 and departure_time is empty",
+    "60: arrival_time is 08:01:00 and departure_time is empty",
+];
+const DEPARTURE_ONLY: [&str; 2] = [
+    "26: departure_time is 08:01:00 and arrival_time is empty",
+    "60: departure_time is 08:01:00 and arrival_time is empty",
+];
+
+/// The words of rules 60 to 62; without the profile nothing is said of them.
+#[test]
+fn words_for_boards() {
+    for ([arrival, departure, pickup, drop_off], wanted) in FOR_BOARDS {
+        let times = format!(
+            "pickup_type,trip_id,arrival_time,departure_time,stop_id,stop_sequence,drop_off_type\n\
+             ,T,8:00:00,8:00:00,A,1,\n{pickup},T,{arrival},{departure},B,2,{drop_off}\n,T,8:02:00,8:02:00,A,3,\n"
+        );
+        let told = |profile: &str| {
+            let mut found = words_with(&times, profile);
+            // Of the last line, where the one before it departs late.
+            found.retain(|words| !words.starts_with("29: "));
+            found
+        };
+        assert_eq!(told("boards"), wanted, "{times}");
+        let plain: Vec<&str> = wanted.iter().copied().filter(|words| !words.starts_with('6')).collect();
+        assert_eq!(told("plain"), plain, "{times}");
+    }
+}
+
+/// The clerk's examples of the profile's rules break them, each only its own, and no rule without the profile.
+#[test]
+fn the_clerks_examples_for_boards_are_true() {
+    let types = "trip_id,arrival_time,departure_time,stop_id,stop_sequence,pickup_type,drop_off_type\n";
+    let examples = [
+        ("60", "60: arrival_time and departure_time are empty"),
+        ("61", "61: pickup_type is 2 (must phone the agency); drop_off_type is 3 (must arrange with the driver)"),
+        ("62", "62: departure_time is 48:10:00, wanted: before 48:00:00"),
+    ];
+    for (rule, wanted) in examples {
+        let page = run(&["explain", rule]);
+        let example = out(&page).split("**Example.**").nth(1).and_then(|rest| rest.split("\n\n").next());
+        let example = example.expect("an example");
+        let lines = match example.split_once("```\n") {
+            Some((_, lines)) => lines.trim_end_matches("```").replace('\n', ",,\n"),
+            None => {
+                let line = example.split('`').nth(1).expect("a line");
+                format!("{line}{}\n", ",".repeat(6 - line.matches(',').count()))
+            }
+        };
+        let told = |profile: &str| {
+            let mut found = words_with(&format!("{types}{lines}"), profile);
+            // The examples call at stops and are of trips that this feed lacks, and one line is no trip.
+            found.retain(|words| !["21: ", "30: "].iter().any(|other| words.starts_with(other)));
+            found
+        };
+        assert_eq!((told("plain"), told("boards")), (vec![], vec![wanted.to_string()]), "{lines}");
     }
 }
 
