@@ -44,10 +44,11 @@ class Case:
         self.json = json.loads(said["json"])
         # What the page lists: findings, or the faults of a refused feed.
         self.findings = self.json["findings"] or self.json["faults"]
-        # The lines as the command shows them: each stands directly below its place, which may end in a column.
+        # The lines as the command shows them: each stands directly below its place, which may end in a column. One that is cut around its carets
+        # stands whole under another rule.
         self.texts, place = {f"{found['name']}:{found['line']}": found["text"] for found in self.findings}, None
         for line in said.get("text", "").splitlines():
-            if place and line.startswith("    "):
+            if place and line.startswith("    ") and not (line.startswith("    ... ") or line.endswith(" ...")):
                 self.texts[place] = line[4:]
             at = line[len(self.feed) + 1:].split(": ", 1)[0] if line.startswith(self.feed + "/") else ""
             place = ":".join(at.split(":")[:2])
