@@ -46,14 +46,19 @@ fn the_profile_stands_in_the_head() {
         assert!(!head(&plain).contains("rofile"), "{name}");
         let boards = head(&page(&["--profile", "boards"], name));
         assert!(boards.contains(&format!("{}: {verdict} (profile boards)</title>", example(name))), "{name}: {boards}");
-        let when =
-            if name == "refused" { "They are tested once the files can be read" } else { "They were tested too" };
+        let when = if name == "refused" { "once the files can be read, rules 60 to 62" } else { "were tested beside" };
         let (said, _) =
             boards.split_once("id=\"profile\">").expect("the profile").1.split_once("</p>").expect("its end");
         assert!(
             said.starts_with("Profile boards: ") && said.contains("rules 60 to 62") && said.contains(when),
             "{said}"
         );
+    }
+    // A feed that is accepted without the profile is told from one that isn't.
+    for (name, said) in [("boards", "read and fit together, but a departure board"), ("findings", "something in them")]
+    {
+        let boards = head(&page(&["--profile", "boards"], name));
+        assert!(boards.contains(said), "{name}: {boards}");
     }
 }
 

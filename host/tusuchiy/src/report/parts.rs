@@ -10,7 +10,7 @@ use crate::safe;
 use crate::text::asked;
 use std::collections::BTreeMap;
 use std::os::unix::ffi::OsStrExt;
-use tusuchiy::{File, Profile, MOST_BYTES};
+use tusuchiy::{File, Profile, Rule, MOST_BYTES};
 
 /// How many faults stand in the page for readers without a script.
 const PLAIN: usize = 100;
@@ -75,18 +75,8 @@ pub fn feed(subject: &Subject) -> String {
 pub fn verdict(subject: &Subject) -> String {
     let (kind, sign, head, words) = match subject.report.outcome {
         Outcome::Accepted => ("accepted", "✓", "Accepted".to_string(), "All files can be read, and no rule is broken."),
-        Outcome::Findings { total, .. } => (
-            "findings",
-            "!",
-            several(total, "finding"),
-            "All files can be read, but something in them doesn't fit together. Not accepted until each finding is mended.",
-        ),
-        Outcome::Refused { .. } => (
-            "refused",
-            "✕",
-            "Refused".to_string(),
-            "The files can't be read as they stand.",
-        ),
+        Outcome::Findings { total, .. } => ("findings", "!", several(total, "finding"), unfit(subject)),
+        Outcome::Refused { .. } => ("refused", "✕", "Refused".to_string(), "The files can't be read as they stand."),
     };
     format!(
         "<p class=\"verdict {kind}\" id=\"verdict\"><span class=\"sign\" aria-hidden=\"true\">{sign}</span>{head}</p>\n\
@@ -99,13 +89,24 @@ pub fn verdict(subject: &Subject) -> String {
 /// Which rules were asked for, where they aren't those of every check: whoever gets the page forwarded doesn't know the command line.
 fn profile(subject: &Subject) -> String {
     let name = subject.report.profile;
-    let when = if subject.refused() { "They are tested once the files can be read." } else { "They were tested too." };
+    let [when, tested] =
+        if subject.refused() { ["once the files can be read, ", "are tested"] } else { ["", "were tested"] };
     match name {
         Profile::Plain => String::new(),
         Profile::Boards => format!(
-            "\n<p class=\"lead\" id=\"profile\">Profile {name}: beside rules 20 to 31, which go for every feed, rules 60 to 62 say what a \
-             departure board can't show. {when}</p>"
+            "\n<p class=\"lead\" id=\"profile\">Profile {name}: {when}rules 60 to 62, which say what a departure board can't show, {tested} \
+             beside rules 20 to 31.</p>"
         ),
+    }
+}
+
+/// What findings say of a feed: those that only the profile has say less.
+fn unfit(subject: &Subject) -> &'static str {
+    let plain = |fault: &Fault| Rule::new(fault.number).is_some_and(|rule| rule.profile() == Profile::Plain);
+    if subject.faults.iter().any(plain) {
+        "All files can be read, but something in them doesn't fit together. Not accepted until each finding is mended."
+    } else {
+        "All files can be read and fit together, but a departure board can't show all of it. Not accepted for boards until each finding is mended."
     }
 }
 
