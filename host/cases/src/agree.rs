@@ -5,7 +5,7 @@ use crate::large::{self, families::FAMILIES};
 use crate::listing::mend::{mendable, only_what_was_hidden, rounds};
 use crate::{by_model, difference, edges, generate, index, listing, vectors, Case, Outcome};
 use model::faults::{faults, Fault};
-use model::Files;
+use model::{Files, Profile};
 use std::{panic, thread};
 
 /// So many cases, each compared by its number.
@@ -83,15 +83,18 @@ pub fn on_generated_feeds(check: Checks, seeds: usize) -> Comparison<'static> {
     Comparison::new(seeds, move |seed| with_model(check, &generate::case(seed as u64)))
 }
 
-/// The benchmark's feeds, with so many lines and so long a list.
+/// The benchmark's feeds, with so many lines and so long a list, each without a profile and for boards.
 pub fn on_the_benchmarks_feeds(check: Checks, sizes: &[(usize, usize)]) -> Comparison<'_> {
     // The families of one size after the other, so that parts are alike.
-    Comparison::new(FAMILIES.len() * sizes.len(), move |number| {
+    let feeds = FAMILIES.len() * sizes.len();
+    Comparison::new(feeds * 2, move |number| {
+        let profile = if number < feeds { Profile::Plain } else { Profile::Boards };
+        let number = number % feeds;
         let (family, (lines, room)) = (&FAMILIES[number % FAMILIES.len()], sizes[number / FAMILIES.len()]);
         let files = (family.feed)(lines);
         let tables = large::tables(&files, -1);
-        let name = format!("{}, {lines} lines", family.name);
-        with_model(check, &Case { name, files, tables, list: vec![-1; room], ..Case::default() });
+        let name = format!("{}, {lines} lines, {profile:?}", family.name);
+        with_model(check, &Case { name, files, tables, list: vec![-1; room], profile, ..Case::default() });
     })
 }
 
@@ -241,6 +244,29 @@ mod tests {
     #[should_panic(expected = "column: 0")]
     fn a_check_without_columns_fails_on_generated_feeds() {
         on_generated_feeds(without_columns, 100).on_threads();
+    }
+
+    /// The model's outcome without the profile, whatever is asked for.
+    fn plainly(case: &Case) -> Outcome {
+        by_model(&Case { profile: Profile::Plain, ..case.clone() })
+    }
+
+    #[test]
+    #[should_panic(expected = "wanted Findings")]
+    fn a_check_without_the_profile_fails_on_vectors() {
+        on_every_vector(plainly).on_threads();
+    }
+
+    #[test]
+    #[should_panic(expected = "wanted Findings")]
+    fn a_check_without_the_profile_fails_on_edge_cases() {
+        on_every_edge_case(plainly).on_threads();
+    }
+
+    #[test]
+    #[should_panic(expected = "wanted Findings")]
+    fn a_check_without_the_profile_fails_on_generated_feeds() {
+        on_generated_feeds(plainly, 100).on_threads();
     }
 
     /// The model's outcome, but where the writer is refused its buffer's last byte is lost, the only thing that differs.

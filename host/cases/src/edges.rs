@@ -1,7 +1,7 @@
 //! Edge cases, each tried everywhere: every raw field under every known column, every odd file in every place, every small order of lines,
-//! every state of calendar and calendar_dates, every two files that can't be read; and all that is about characters, columns and nodes.
+//! every state of calendar and calendar_dates, every two files that can't be read; and all that is about characters, columns, nodes and boards.
 
-use crate::{characters, columns, large, nodes, orders, services, Case};
+use crate::{boards, characters, columns, large, nodes, orders, services, Case};
 use model::columns::COLUMNS;
 use model::{Files, FILES};
 
@@ -239,11 +239,16 @@ pub fn cases() -> Vec<Case> {
             cases.extend(header_cases(file, column));
         }
     }
+    // Boards look at stop_times.
+    let of_stop_times = |case: &&Case| case.files[4] != BASE[4].as_bytes();
+    let asking: Vec<Case> = cases.iter().filter(of_stop_times).map(boards::asking).collect();
+    cases.extend(asking);
     cases.extend(orders::stop_times().into_iter().map(|file| with_file(4, file.into_bytes()).swap_remove(0)));
     cases.extend(of_services());
     cases.extend(characters::cases());
     cases.extend(columns::cases());
     cases.extend(nodes::cases());
+    cases.extend(boards::cases());
     cases
 }
 

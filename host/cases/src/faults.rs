@@ -163,13 +163,13 @@ fn clear_times(feed: &mut Feed, random: &mut Random) {
     }
 }
 
-/// A time that falls or rises, to midnight at times, or to the end of what can be written.
+/// A time that falls or rises, to midnight at times, to two days or a second before, or to the end of what can be written.
 fn move_time(feed: &mut Feed, random: &mut Random) {
     let Some(row) = row(feed, random, 4) else { return };
     let time = match random.below(4) {
         0 => 0,
         1 => 359_999,
-        2 => 86_400,
+        2 => [86_400, 172_799, 172_800][row % 3],
         _ => random.below(360_000),
     };
     let name = *random.pick(&["arrival_time", "departure_time"]);

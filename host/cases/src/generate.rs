@@ -1,4 +1,4 @@
-//! Makes a whole case from a seed: six files, lent tables, a list and a starting place.
+//! Makes a whole case from a seed: six files, lent tables, a list, a starting place, and whether the profile for boards is asked for.
 
 use crate::damage::{break_bytes, break_values, cut_services, mutate, truncate};
 use crate::faults::break_one;
@@ -13,7 +13,7 @@ use model::{Files, Profile, Tables, FILES};
 /// What a seed's case is about.
 #[derive(Clone, Copy, Debug, PartialEq, Eq)]
 pub enum Kind {
-    /// Readable and without a finding.
+    /// Readable and without a finding, unless the profile for boards is asked for.
     Clean,
     /// Readable, usually with findings.
     Faulty,
@@ -74,7 +74,9 @@ pub fn case(seed: u64) -> Case {
     }
     let list = list(&mut random);
     let start = start(&mut random);
-    Case { name: format!("seed {seed}, {kind:?}"), files, tables, list, start, profile: Profile::Plain }
+    // Drawn last, so that it doesn't move what was drawn before.
+    let profile = if random.once_in(2) { Profile::Boards } else { Profile::Plain };
+    Case { name: format!("seed {seed}, {kind:?}"), files, tables, list, start, profile }
 }
 
 /// The bytes of the feed, with what its kind asks for done to one file.
@@ -144,12 +146,15 @@ fn list(random: &mut Random) -> Vec<i32> {
     contents(length, random)
 }
 
+/// The rules that findings break.
+const RULES: [i32; 15] = [20, 21, 22, 23, 24, 25, 26, 27, 28, 29, 30, 31, 60, 61, 62];
+
 /// The list's beginning, a place near its findings, or any three numbers.
 fn start(random: &mut Random) -> [i32; 3] {
     let near = |random: &mut Random, end: usize| random.below(end) as i32 - 1;
     match random.below(6) {
         0..=2 => [0, 0, 0],
-        3 => [random.between(1, FILES) as i32, random.between(2, 9) as i32, random.between(20, 31) as i32],
+        3 => [random.between(1, FILES) as i32, random.between(2, 9) as i32, *random.pick(&RULES)],
         4 => [near(random, 8), near(random, 40), *random.pick(&[i32::MIN, -1, 0, 99, i32::MAX])],
         _ => [*random.pick(&[i32::MIN, -1, 0, 3, 5, 6, i32::MAX]), random.any_i32(), random.any_i32()],
     }

@@ -2,6 +2,7 @@
 #![forbid(unsafe_code)]
 
 pub mod agree;
+pub mod boards;
 pub mod characters;
 pub mod columns;
 pub mod damage;

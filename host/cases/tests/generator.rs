@@ -51,7 +51,7 @@ fn every_answer_and_rule_is_reached() {
         (2, &[20, 25]),
         (3, &[20, 24]),
         (4, &[20, 21, 30, 31]),
-        (5, &[21, 23, 26, 27, 28, 29]),
+        (5, &[21, 23, 26, 27, 28, 29, 60, 61, 62]),
         (6, &[20]),
     ];
     let wanted: Vec<(i32, i32)> =
@@ -119,6 +119,67 @@ fn empty_values(file: &[u8], line: usize) -> (Vec<u8>, Vec<&'static str>) {
     (under("location_type").cloned().unwrap_or_default(), empty.map(|(_, name)| name).collect())
 }
 
+/// A feed with the profile for boards and without it: every two answers that there can be, each profile about half of the time.
+#[test]
+fn every_pair_of_answers_is_reached() {
+    let mut reached = BTreeMap::new();
+    let mut asked = 0;
+    for case in (0..SEEDS).map(case) {
+        asked += u64::from(case.profile == Profile::Boards);
+        let answers =
+            [Profile::Plain, Profile::Boards].map(|profile| by_model(&Case { profile, ..case.clone() }).answer);
+        let kinds = answers.map(|answer| match answer {
+            Answer::Accepted => "accepted",
+            Answer::Findings { .. } => "findings",
+            Answer::Refused { .. } => "refused",
+        });
+        let more =
+            matches!(answers, [Answer::Findings { total: few, .. }, Answer::Findings { total, .. }] if few < total);
+        *reached.entry((case.profile == Profile::Boards, kinds, more)).or_insert(0) += 1;
+    }
+    assert!((SEEDS * 2 / 5..SEEDS * 3 / 5).contains(&asked), "{asked}");
+    let pairs = [
+        (["accepted", "accepted"], false),
+        (["accepted", "findings"], false),
+        (["findings", "findings"], false),
+        (["findings", "findings"], true),
+        (["refused", "refused"], false),
+    ];
+    let wanted = [false, true].into_iter().flat_map(|asked| pairs.map(|(kinds, more)| (asked, kinds, more)));
+    assert!(reached.keys().copied().eq(wanted) && reached.values().all(|&seeds| seeds >= 40), "{reached:?}");
+}
+
+/// Lines for boards: each time missing, early, a second before two days, just then and later beside each of the other; every pickup beside every
+/// drop-off; and starting places at the profile's rules with more behind them.
+#[test]
+fn every_line_for_boards_is_reached() {
+    let mut times = BTreeSet::new();
+    let mut choices = BTreeSet::new();
+    let mut starts = BTreeSet::new();
+    for case in (0..SEEDS).map(case).filter(|case| case.profile == Profile::Boards) {
+        if let (Answer::Findings { written: 1.., .. }, [5, _, rule @ 60..=62]) = (by_model(&case).answer, case.start) {
+            starts.insert(rule);
+        }
+        let Ok(feed) = read(&case.files, case.tables.each_ref().map(Vec::len)) else { continue };
+        for call in feed[4].rows() {
+            let time =
+                |name: &str| [-1, 0, 172_799, 172_800, 172_801].into_iter().rfind(|&from| from <= call.number(name));
+            times.insert([time("arrival_time"), time("departure_time")]);
+            choices.insert(["pickup_type", "drop_off_type"].map(|name| call.number(name)));
+        }
+    }
+    assert_eq!(choices.len(), 4 * 4, "{choices:?}");
+    assert_eq!(starts.len(), 3, "{starts:?}");
+    let [none, early, last, two_days, late] = [-1, 0, 172_799, 172_800, 172_801].map(Some);
+    let wanted = [none, early, late].into_iter().flat_map(|one| [[one, none], [one, early], [one, late]]);
+    assert!(
+        wanted
+            .chain([[last, early], [early, last], [two_days, early], [early, two_days]])
+            .all(|pair| times.contains(&pair)),
+        "{times:?}"
+    );
+}
+
 /// The lengths of the well-formed characters that a text begins with, and what follows them.
 fn characters(text: &[u8]) -> (BTreeSet<usize>, &[u8]) {
     let mut lengths = BTreeSet::new();
@@ -173,7 +234,7 @@ fn characters_of_every_length_are_read() {
 #[test]
 fn a_clean_feed_is_accepted_unless_its_tables_are_short() {
     for seed in (0..SEEDS).filter(|&seed| kind(seed) == Kind::Clean) {
-        let case = case(seed);
+        let case = Case { profile: Profile::Plain, ..case(seed) };
         let answer = by_model(&case).answer;
         let short = matches!(answer, Answer::Refused { number: 3, .. });
         assert!(answer == Answer::Accepted || short, "{}: {answer:?}", case.name);

@@ -1,11 +1,12 @@
 //! The model against the customer's sample of cases: answer, all tables and the list, whole.
 
 use cases::index::Asked;
-use cases::{by_model, difference, index, vectors};
+use cases::{by_model, difference, index, vectors, Case};
+use model::Profile;
 
 #[test]
 fn the_model_agrees_with_every_vector() {
-    assert_eq!(vectors::E10.lines().next(), Some("# Document 01 with requests E2,E1,E6,E7,E4,E10 in force."));
+    assert_eq!(vectors::E13.lines().next(), Some("# Document 01 with requests E2,E1,E6,E7,E4,E10,E13 in force."));
     let vectors = vectors::customers();
     assert_eq!(vectors.len(), 400);
     for (case, wanted) in &vectors {
@@ -33,10 +34,13 @@ fn the_reader_reads_what_its_form_says() {
     assert_eq!(case.files[0], b"A");
     assert!(case.files[1].is_empty());
     assert_eq!(case.list, [7, 5, 3]);
-    assert_eq!(case.start, [0, -1, 2]);
+    assert_eq!((case.start, case.profile), ([0, -1, 2], Profile::Plain));
     assert_eq!(outcome.list, [7, 5, 3]);
     assert_eq!(outcome.answer, model::Answer::Refused { number: 4, file: 1, line: 0, column: 9 });
     assert!(vectors::read(&text.replace("4 1 0 9", "4 1 0")).is_err(), "a refusal without its column");
+    let asked = vectors::read(&text.replace("answer", "profile\nanswer")).unwrap().remove(0).case;
+    assert_eq!(asked, Case { profile: Profile::Boards, ..case });
+    assert!(vectors::read(&text.replace("answer", "profile 0\nanswer")).is_err(), "the word stands alone");
     for bad in ["case a\n", "end\n", "case a\nend\n", "case a\nfile 9 41\nend\n", "case a\nfile 1 4\nend\n"] {
         assert!(vectors::read(bad).is_err(), "{bad}");
     }

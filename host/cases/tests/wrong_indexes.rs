@@ -558,7 +558,7 @@ fn told_apart(cases: impl Iterator<Item = Case>, but: &[&str]) {
 }
 
 /// What the customer's calls lack: an index that is wrong in two ways of 42 to 44, or of fewer records with their own count; ids that differ
-/// in the last of 64 bytes, or in characters above U+FFFF; a file of too many lines.
+/// in the last of 64 bytes, behind a NUL, or in characters above U+FFFF; a file of too many lines.
 #[test]
 fn by_the_vectors() {
     let but = [
@@ -569,6 +569,7 @@ fn by_the_vectors() {
         "by 63 bytes",
         "by UTF-16",
         "its own count",
+        "up to a NUL",
     ];
     told_apart(vectors::indexes().into_iter().map(|(case, _)| case), &but);
 }

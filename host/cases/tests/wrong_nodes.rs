@@ -265,11 +265,11 @@ fn told_apart(cases: impl Iterator<Item = Case>, but: &[&str]) {
     missed.are(but);
 }
 
-/// What the customer's feeds lack: a type 5 beside nothing that is empty; a long id beside what is; several empty ones in another order than the
-/// table's; a node as the parent of a node, or of a stop.
+/// What the customer's feeds lack: a long id beside what is empty; a node as the parent of a node, or of a stop; a station as the parent of a
+/// boarding area; a call at one.
 #[test]
 fn by_the_vectors() {
-    let but = ["0 at an area or a node", "12 before 11", "3 at a node too", "a type 5", "the first by the table"];
+    let but = ["0 at an area or a node", "12 before 11", "3 at a node too", "4 at a station too", "a call at 4"];
     told_apart(vectors::customers().into_iter().map(|(case, _)| case), &but);
 }
 

@@ -1,4 +1,4 @@
-//! Likely wrong readings of E1: edge cases and generated feeds each tell every one of them from the right one, vectors all but one.
+//! Likely wrong readings of E1: vectors, edge cases and generated feeds each tell every one of them from the right one.
 
 use cases::edges::BASE;
 use cases::readings::Missed;
@@ -224,27 +224,26 @@ fn by(reading: &Reading, case: &Case) -> Outcome {
     outcome
 }
 
-/// Fails unless the right reading gives the model's outcome on every case, and each wrong one but these another on some.
-fn told_apart(cases: impl Iterator<Item = Case>, but: &[&str]) {
+/// Fails unless the right reading gives the model's outcome on every case, and each wrong one another on some.
+fn told_apart(cases: impl Iterator<Item = Case>) {
     let mut missed = Missed::new(RIGHT, &WRONG);
     for case in cases.filter(|case| case.files.iter().all(|file| file.len() < 100_000)) {
         missed.try_case(&case.name, &by_model(&case), |reading| by(reading, &case));
     }
-    missed.are(but);
+    missed.are(&[]);
 }
 
-/// None of the customer's feeds is refused in both of the last two files.
 #[test]
 fn by_the_vectors() {
-    told_apart(vectors::customers().into_iter().map(|(case, _)| case), &["file 6 read before file 5"]);
+    told_apart(vectors::customers().into_iter().map(|(case, _)| case));
 }
 
 #[test]
 fn by_the_edge_cases() {
-    told_apart(edges::of_services().into_iter(), &[]);
+    told_apart(edges::of_services().into_iter());
 }
 
 #[test]
 fn by_generated_feeds() {
-    told_apart((0..SEEDS).map(generate::case), &[]);
+    told_apart((0..SEEDS).map(generate::case));
 }

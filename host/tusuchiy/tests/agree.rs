@@ -2,8 +2,9 @@
 //! every call is made on the stack of the main thread.
 
 use cases::agree::{self, Comparison};
+use cases::boards::HEADER;
 use cases::{by_model, generate, processes, Case, Outcome};
-use model::Files;
+use model::{Files, Profile};
 use std::process::ExitCode;
 use tusuchiy::{Answer, Verdict};
 
@@ -17,6 +18,7 @@ fn main() -> ExitCode {
         ("rule_2_at_its_edge_and_over_it", rule_2_at_its_edge_and_over_it),
         ("rule_1_at_its_edge_and_over_it", rule_1_at_its_edge_and_over_it),
         ("the_limits_speak_in_their_order", || Comparison::once(the_limits_speak_in_their_order)),
+        ("as_many_findings_as_there_can_be", as_many_findings_as_there_can_be),
     ])
 }
 
@@ -51,6 +53,14 @@ fn words(answer: &Answer) -> model::Answer {
     }
 }
 
+/// The profile in the library's words.
+fn asked(profile: Profile) -> tusuchiy::Profile {
+    match profile {
+        Profile::Plain => tusuchiy::Profile::Plain,
+        Profile::Boards => tusuchiy::Profile::Boards,
+    }
+}
+
 /// What the archive makes of a case, with guards around everything lent: nothing outside may change.
 fn by_archive(case: &Case) -> Outcome {
     const GUARD: usize = 16;
@@ -69,6 +79,7 @@ fn by_archive(case: &Case) -> Outcome {
             &mut list[range]
         },
         case.start,
+        asked(case.profile),
     );
     let open = |lent: Vec<i32>| {
         let range = inside(lent.len());
@@ -84,15 +95,18 @@ fn compare(case: &Case, wanted: &Outcome) {
     agree::with_outcome(by_archive, case, wanted);
 }
 
-/// Pages of one and of two findings, each from the last one handed out, join to the whole list.
+/// Pages of one and of two findings, each from the last one handed out, join to the whole list: if all ask for the profile to the list with it,
+/// if none does to the one without.
 fn pages_join() -> Comparison<'static> {
     let seeds: Vec<u64> = (0..400).filter(|&seed| generate::kind(seed) == generate::Kind::Faulty).collect();
-    Comparison::new(seeds.len(), move |place| {
-        let case = Case { list: vec![0; 30_000], start: [0, 0, 0], ..generate::case(seeds[place]) };
+    Comparison::new(seeds.len() * 2, move |number| {
+        let profile = if number < seeds.len() { Profile::Plain } else { Profile::Boards };
+        let made = generate::case(seeds[number % seeds.len()]);
+        let case = Case { list: vec![0; 30_000], start: [0, 0, 0], profile, ..made };
         let whole = by_model(&case);
         let model::Answer::Findings { total, .. } = whole.answer else { return };
         for room in [1, 2] {
-            assert_eq!(joined(&case, room, total), whole.list[..total * 3], "{}", case.name);
+            assert_eq!(joined(&case, room, total), whole.list[..total * 3], "{}, {profile:?}", case.name);
         }
     })
 }
@@ -129,15 +143,30 @@ fn case_of(name: String, files: Files) -> Case {
     Case { name, files, tables, list: vec![3; 10], ..Case::default() }
 }
 
-/// The feeds at the limit, then those over it, which this rule refuses.
+/// The feeds at the limit, then those over it, which this rule refuses, each without the profile and with it.
 fn rule_2_at_its_edge_and_over_it() -> Comparison<'static> {
-    Comparison::new(4, |number| {
+    Comparison::new(8, |number| {
         let (file, of) = [(5, case_of_lines as fn(usize) -> Case), (6, case_of_dates)][number % 2];
-        if number < 2 {
-            accepted(&of(65_536));
+        let profile = [Profile::Plain, Profile::Boards][number / 2 % 2];
+        if number < 4 {
+            accepted(&Case { profile, ..of(65_536) });
         } else {
-            refused(&of(65_537), 2, file);
+            refused(&Case { profile, ..of(65_537) }, 2, file);
         }
+    })
+}
+
+/// At the limit of lines nearly every line of stop_times breaks six rules, three of them the profile's: the whole list with the profile and
+/// without it, and the end of the former.
+fn as_many_findings_as_there_can_be() -> Comparison<'static> {
+    let asked = [(Profile::Boards, [0, 0, 0]), (Profile::Plain, [0, 0, 0]), (Profile::Boards, [5, 65_530, 61])];
+    Comparison::new(asked.len(), move |number| {
+        let (profile, start) = asked[number];
+        let mut files = cases::large::feed(65_535);
+        let lines = (0..65_535).map(|line| format!("nowhere-{},,48:00:00,stop-0,1,2,3,1\n", line / 20));
+        files[4] = (HEADER.to_string() + &lines.collect::<String>()).into_bytes();
+        let case = case_of(format!("65,536 lines from {start:?}, {profile:?}"), files);
+        agree::with_model(by_archive, &Case { list: vec![3; 1_200_000], start, profile, ..case });
     })
 }
 

@@ -13,10 +13,15 @@ pub fn feed(changes: &[(usize, &str)]) -> Files {
     files
 }
 
-/// The answer and the findings of a feed.
+/// The answer and the findings of a feed, without a profile.
 pub fn check(files: &Files, tables: &mut Tables) -> (Answer, Vec<[i32; 3]>) {
+    check_with(Profile::Plain, files, tables)
+}
+
+/// The answer and the findings of a feed.
+pub fn check_with(profile: Profile, files: &Files, tables: &mut Tables) -> (Answer, Vec<[i32; 3]>) {
     let mut list = vec![0; 300];
-    let answer = model::check(files, tables, &mut list, [0, 0, 0], Profile::Plain);
+    let answer = model::check(files, tables, &mut list, [0, 0, 0], profile);
     let written = if let Answer::Findings { written, .. } = answer { written } else { 0 };
     (answer, list.chunks(3).take(written).map(|found| [found[0], found[1], found[2]]).collect())
 }
