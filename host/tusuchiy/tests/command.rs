@@ -270,6 +270,25 @@ fn places(report: &Json) -> Vec<[i64; 3]> {
     report.get("findings").list().iter().map(|found| ["file", "line", "rule"].map(|name| number(found, name))).collect()
 }
 
+/// The members of a document, in their order.
+const MEMBERS: [&str; 15] = [
+    "version",
+    "verdict",
+    "profile",
+    "refusal",
+    "faults_total",
+    "faults",
+    "total",
+    "written",
+    "page",
+    "findings",
+    "totals",
+    "feed",
+    "folder",
+    "records",
+    "unread",
+];
+
 #[test]
 fn json_of_findings() {
     let feed = example("findings");
@@ -277,24 +296,7 @@ fn json_of_findings() {
     assert_eq!(status(&output), 1);
     assert_eq!(out(&output).matches('\n').count(), 1, "one document, one line");
     let report = json::read(out(&output));
-    let members = [
-        "version",
-        "verdict",
-        "profile",
-        "refusal",
-        "faults_total",
-        "faults",
-        "total",
-        "written",
-        "page",
-        "findings",
-        "totals",
-        "feed",
-        "folder",
-        "records",
-        "unread",
-    ];
-    assert_eq!(report.names(), members);
+    assert_eq!(report.names(), MEMBERS);
     assert_eq!(report.get("version").number(), 3);
     assert_eq!(["verdict", "profile"].map(|name| report.get(name).text()), ["findings", "plain"]);
     assert_eq!((report.get("total").number(), report.get("written").number()), (5, 5));
