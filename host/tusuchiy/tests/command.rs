@@ -213,7 +213,7 @@ fn fields_of_the_profile_are_marked() {
     let times = format!(
         "drop_off_type,note,departure_time,trip_id,stop_id,stop_sequence,arrival_time,pickup_type\n\
          ,,21:30:00,42-late,PORT,1,21:30:00,\n\
-         2,{note},\"21:31:00\",42-late,MILL,2,,\n\
+         2,{note},\"21:31:00\",42-late,MILL,2,,1\n\
          ,{note},48:00:00,42-late,CHURCH,3,47:59:59,0\n\
          ,,20:00:00,COAST-1,PORT,1,20:00:00,\n\
          3,,20:01:00,COAST-1,PORT,2,20:01:00,2\n"
@@ -224,8 +224,8 @@ fn fields_of_the_profile_are_marked() {
     // 67 columns are left beside the marks of a cut: what stands behind the field, the field, and what fits before it.
     let x = |count: usize| "x".repeat(count);
     let wanted = [
-        format!("    ... {},\"21:31:00\",42-late,MILL,2,,", x(67 - 28)),
-        format!("{}^", " ".repeat(8 + 66)),
+        format!("    ... {},\"21:31:00\",42-late,MILL,2,,1", x(67 - 29)),
+        format!("{}^", " ".repeat(8 + 65)),
         format!("    2,{},\"21: ...", x(60)),
         "    ^".to_string(),
         format!("    ... {},48:00:00,42-late,CHURCH,3,47:59:59,0", x(67 - 37)),
