@@ -216,7 +216,8 @@ fn fields_of_the_profile_are_marked() {
          2,{note},\"21:31:00\",42-late,MILL,2,,1\n\
          ,{note},48:00:00,42-late,CHURCH,3,47:59:59,0\n\
          ,,20:00:00,COAST-1,PORT,1,20:00:00,\n\
-         3,,20:01:00,COAST-1,PORT,2,20:01:00,2\n"
+         3,,20:01:00,COAST-1,PORT,2,20:01:00,2\n\
+         2,,20:02:00,COAST-1,PORT,3,20:02:00,1\n"
     );
     folder.put("stop_times.txt", times.as_bytes());
     let output = run(&["check", "--profile", "boards", folder.path(), "--after", "5,3,59"]);
@@ -232,6 +233,8 @@ fn fields_of_the_profile_are_marked() {
         format!("{}^^^^^^^^", " ".repeat(8 + 31)),
         "    3,,20:01:00,COAST-1,PORT,2,20:01:00,2".to_string(),
         "    ^                                   ^".to_string(),
+        "    2,,20:02:00,COAST-1,PORT,3,20:02:00,1".to_string(),
+        "    ^".to_string(),
     ];
     assert_eq!(lines, wanted, "{}", out(&output));
 }
