@@ -1,10 +1,11 @@
 // Runs the whole check on feeds: both sides of each rule, tables, pages, starting places and lists; `stdout` has what host/model makes of them.
-// A line of standard input is a title, after #, or a case: list length, starting place, which table to write, and six files, each after a bar; one without a bar has no bytes.
+// A line of standard input is a title, after #, or a case: list length, a blank or, where the profile for boards is asked for, a b, starting place, which table to write, and six files, each after a bar; one without a bar has no bytes.
 use libc::STDIN_FILENO;
 use libc::STDOUT_FILENO;
 use meaning::Answer;
 use meaning::Bounds;
 use meaning::Place;
+use meaning::Profile;
 use text::LineStep;
 ghost use Prim.Native.Nat.{_<_, _≤_};
 ghost use mathlib.Core.Path.{_≡_};
@@ -246,6 +247,19 @@ fn start_place(l: &[u8]) -> Place {
     }
 }
 
+// The profile that a mark asks for.
+fn profile_of(mark: u8) -> Profile {
+    match mark {
+        b'b' => Profile::Boards,
+        _ => Profile::Plain,
+    }
+}
+
+// The profile that a case asks for.
+fn asked_for(l: &[u8]) -> Profile {
+    profile_of(byte_at(l, 2))
+}
+
 // The length of the list.
 fn list_length(l: &[u8]) -> usize {
     digit(l, 0) * 10 + digit(l, 1)
@@ -298,6 +312,7 @@ fn check_files(
     calendar_dates: &[u8],
     list: &mut [i32],
     from: Place,
+    asked: Profile,
     told: u8,
 ) -> Answer {
     let mut stops_table = [LENT; 256];
@@ -321,6 +336,7 @@ fn check_files(
         &mut calendar_dates_table,
         list,
         from,
+        asked,
     );
     tell_table(
         told,
@@ -344,6 +360,7 @@ fn check_given(
     calendar_dates: &[u8],
     list: &mut [i32],
     from: Place,
+    asked: Profile,
     told: u8,
 ) -> Answer {
     check_files(
@@ -355,12 +372,13 @@ fn check_given(
         given(calendar_dates, &DATES),
         list,
         from,
+        asked,
         told,
     )
 }
 
 // The check of six files, each after a bar.
-fn check_feed(s: &[u8], list: &mut [i32], from: Place, told: u8) -> Answer {
+fn check_feed(s: &[u8], list: &mut [i32], from: Place, asked: Profile, told: u8) -> Answer {
     let p = part(s, 0);
     let stops = p.start;
     let stops_end = p.end;
@@ -388,24 +406,25 @@ fn check_feed(s: &[u8], list: &mut [i32], from: Place, told: u8) -> Answer {
         &s[dates..dates_end],
         list,
         from,
+        asked,
         told,
     )
 }
 
 // The check with a list, and what both say.
-fn run_feed(s: &[u8], list: &mut [i32], from: Place, told: u8) {
-    tell_answer(check_feed(s, list, from, told));
+fn run_feed(s: &[u8], list: &mut [i32], from: Place, asked: Profile, told: u8) {
+    tell_answer(check_feed(s, list, from, asked, told));
     say(b":");
     tell_numbers(list);
     say(b"\n");
 }
 
 // The check with a list's first numbers.
-fn run_part(s: &[u8], list: &mut [i32], k: usize, from: Place, told: u8) {
+fn run_part(s: &[u8], list: &mut [i32], k: usize, from: Place, asked: Profile, told: u8) {
     if list.len() < k {
         return;
     }
-    run_feed(s, &mut list[..k], from, told);
+    run_feed(s, &mut list[..k], from, asked, told);
 }
 
 // A case.
@@ -418,6 +437,7 @@ fn run_case(l: &[u8]) {
         &mut list,
         list_length(l),
         start_place(l),
+        asked_for(l),
         byte_at(l, 20),
     );
 }

@@ -25,16 +25,22 @@ pub fn expected(input: &str) -> String {
     input.lines().map(line).collect()
 }
 
-/// A case is `LL FFFFF LLLLL RRRRR`, a mark, then six files, each after a bar; one that isn't there has no bytes.
+/// A case is `LL FFFFF LLLLL RRRRR`, a mark, then six files, each after a bar; one that isn't there has no bytes. In place of the first blank
+/// a b asks for the profile for boards.
 fn outcome(case: &str) -> String {
     let (head, files) = case.split_once('|').expect("a case has files");
+    let profile = match &head[2..3] {
+        " " => Profile::Plain,
+        "b" => Profile::Boards,
+        other => panic!("no profile {other:?}"),
+    };
     let start = [3, 9, 15].map(|place| start_number(&head[place..place + 5]));
     let mut given = files.split('|');
     let mut file = |standard| given.next().map_or(Vec::new(), |file| bytes(if file == "=" { standard } else { file }));
     let files: Files = STANDARD.map(&mut file);
     let mut tables = std::array::from_fn(|_| vec![LENT[0]; 256]);
     let mut list = vec![LENT[1]; head[..2].parse().expect("a case begins with the list's length")];
-    let answer = model::check(&files, &mut tables, &mut list, start, Profile::Plain);
+    let answer = model::check(&files, &mut tables, &mut list, start, profile);
     let table = head[20..].parse().map_or(String::new(), |file: usize| used(TABLES[file - 1], &tables[file - 1]));
     format!("{table}{}:{}\n", words(answer), numbers(&list))
 }
