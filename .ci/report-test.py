@@ -26,16 +26,16 @@ def holds(what, condition):
         raise AssertionError(what)
 
 
-# A feed with its page and what the command says of it otherwise; all are made at the same time.
+# A feed with its page and what the command says of it otherwise, with options that both take; all are made at the same time.
 class Case:
-    def __init__(self, folder, name, feed, plain=False):
+    def __init__(self, folder, name, feed, plain=False, options=()):
         self.name, self.page = name, os.path.join(folder, name + ".html")
         self.feed, self.path = feed, os.path.join(folder, feed)
         words = {"report": ["report", feed, "-o", self.page], "json": ["check", "--json", feed]}
         # Where all text is plain, the document shows it as the command does.
         if not plain:
             words["text"] = ["check", "--all", feed]
-        self.runs = {key: subprocess.Popen(PROGRAM + value, cwd=folder, stdout=subprocess.PIPE) for key, value in words.items()}
+        self.runs = {key: subprocess.Popen(PROGRAM + value + list(options), cwd=folder, stdout=subprocess.PIPE) for key, value in words.items()}
 
     # What the runs printed; the statuses agree.
     def wait(self):
@@ -44,10 +44,11 @@ class Case:
         self.json = json.loads(said["json"])
         # What the page lists: findings, or the faults of a refused feed.
         self.findings = self.json["findings"] or self.json["faults"]
-        # The lines as the command shows them: each stands directly below its place, which may end in a column.
+        # The lines as the command shows them: each stands directly below its place, which may end in a column. One that is cut around its carets
+        # stands whole under another rule.
         self.texts, place = {f"{found['name']}:{found['line']}": found["text"] for found in self.findings}, None
         for line in said.get("text", "").splitlines():
-            if place and line.startswith("    "):
+            if place and line.startswith("    ") and not (line.startswith("    ... ") or line.endswith(" ...")):
                 self.texts[place] = line[4:]
             at = line[len(self.feed) + 1:].split(": ", 1)[0] if line.startswith(self.feed + "/") else ""
             place = ":".join(at.split(":")[:2])
@@ -92,7 +93,7 @@ def unquoted(field):
 
 # What is marked stands in the finding's own columns.
 def compare_marks(case, card, found):
-    columns = {20: 1, 21: 1, 22: 1, 23: 1, 24: 2, 26: 2, 27: 2, 28: 1, 29: 1, 30: 1, 31: 1, 5: 1, 6: 1, 8: 1, 11: 1, 12: 1, 13: 1, 14: 1}
+    columns = {20: 1, 21: 1, 22: 1, 23: 1, 24: 2, 26: 2, 27: 2, 28: 1, 29: 1, 30: 1, 31: 1, 5: 1, 6: 1, 8: 1, 11: 1, 12: 1, 13: 1, 14: 1, 60: 1, 61: 1, 62: 1}
     holds(f"{case.name}: marks of {card}", len(card["marks"]) >= columns.get(number(found), 0))
     about = found["about"]
     if found.get("column"):
@@ -108,6 +109,11 @@ def compare_marks(case, card, found):
         same(f"{case.name}: marks", [text for _, text in card["marks"]], [about["start_date"], about["end_date"]])
     if number(found) == 28:
         same(f"{case.name}: mark", int(card["marks"][0][1]), about["stop_sequence"])
+    # What breaks a rule of the profile for boards, and nothing else; the feeds for it have their columns in this order, and times of eight letters.
+    breaks = {60: lambda value: value is None, 61: lambda value: value in (2, 3), 62: lambda value: value is not None and value >= "48:00:00"}
+    if number(found) in breaks:
+        wanted = [[name, "" if value is None else str(value)] for name, value in about.items() if breaks[number(found)](value)]
+        same(f"{case.name}: marks", card["marks"], wanted)
 
 
 # Waits until so many are chosen, and the first page of them is shown.
@@ -146,6 +152,8 @@ def compare_head(browser, case):
     words = {"accepted": "✓Accepted", "refused": "✕Refused", "findings": f"!{total:,} finding{'s' * (total != 1)}"}
     same(f"{case.name}: verdict", browser.value("document.getElementById('verdict').textContent"), words[document["verdict"]])
     same(f"{case.name}: feed", browser.value("document.querySelector('h1').textContent"), document["feed"])
+    profile = browser.value("document.querySelector('.top #profile')?.textContent ?? ''")
+    same(f"{case.name}: profile", profile.split(":")[0], "" if document["profile"] == "plain" else f"Profile {document['profile']}")
     unread = browser.value("[...document.querySelectorAll('#unread code')].map((name) => name.textContent)")
     same(f"{case.name}: files not read", unread, document["unread"]["names"])
     counts = collections.Counter(number(found) for found in case.findings)
@@ -262,6 +270,16 @@ def time_diagram(browser, case):
     same("shuffled: departures before arrivals", browser.value(f"{picture}.querySelectorAll('.back').length"), 1)
     label = browser.value(f"{picture}.getAttribute('aria-label')")
     holds(label, "line 4 arrives at 08:40:00, before line 2 departs at 08:50:00" in label)
+
+
+# The trip of an untimed line has its rows and says where times are missing; that of a late time reaches it on its axis.
+def boards_diagram(browser, case):
+    pictures = browser.value("[...document.querySelectorAll('.diagram[open] svg')].map((svg) => [...svg.querySelectorAll('text')].map((text) => text.firstChild.data))")
+    same("boards: pictures", len(pictures), 2)
+    bus, ferry = [[" ".join(text.split()) for text in picture] for picture in pictures]
+    holds(f"boards: {bus}", {"1 Port", "2 Old Mill", "3 Hill Farm", "4 Church", "no times"} <= set(bus))
+    holds(f"boards: {ferry}", {"3 Cape", "4 North Quay", "48:00"} <= set(ferry) and "no times" not in ferry)
+    holds("boards: no step falls", browser.value("document.querySelectorAll('.diagram .fall, .diagram .back').length") == 0)
 
 
 # By keys alone: the skip link first, then on to the filter; text typed there filters.
@@ -420,6 +438,12 @@ def main():
         cases = {name: Case(folder, name, os.path.join(TOP, "examples", name)) for name in ["feed", "findings", "refused", "by-date", "faults"]}
         cases.update({name: Case(folder, name, name) for name in ["town", "nodes", "nowhere", "hostile_refused", "hostile_bytes", "shuffled"]})
         cases["hostile"] = Case(folder, "hostile", feeds.HOSTILE_NAME)
+        # With the profile for boards: a feed of its own, one with other findings, one that a board can show, a refused one, and markup in the way.
+        boards = {"boards": "boards", "both": "findings", "shown": "by-date", "still-refused": "refused"}
+        cases["unasked"] = Case(folder, "unasked", os.path.join(TOP, "examples", "boards"))
+        for name, feed in boards.items():
+            cases[name] = Case(folder, name, os.path.join(TOP, "examples", feed), options=("--profile", "boards"))
+        cases["hostile-boards"] = Case(folder, "hostile-boards", feeds.HOSTILE_NAME, options=("--profile", "boards"))
         browser = Browser()
         try:
             browser.size(1200, 900)
@@ -427,6 +451,15 @@ def main():
             for case in cases.values():
                 every_page(browser, case.wait())
                 looks(browser, case)
+            profiles = {name: case.json["profile"] for name, case in cases.items() if case.json["profile"] != "plain"}
+            same("the profile for boards", profiles, {name: "boards" for name in [*boards, "hostile-boards"]})
+            verdicts = [cases[name].json["verdict"] for name in ["unasked", "boards", "both", "shown", "still-refused"]]
+            same("verdicts with the profile", verdicts, ["accepted", "findings", "findings", "accepted", "refused"])
+            browser.open(cases["boards"].page)
+            filters(browser, cases["boards"], "phone")
+            same("boards: stops where trips call", stops_map(browser, cases["boards"]), 4)
+            boards_diagram(browser, cases["boards"])
+            without_script(browser, cases["boards"])
             same("hostile_refused: the column", cases["hostile_refused"].json["refusal"]["column"], 3)
             same("hostile_bytes: the refusal", number(cases["hostile_bytes"].json["refusal"]), 14)
             browser.open(cases["town"].page)
@@ -457,7 +490,7 @@ def main():
             picture(browser, cases["town"])
         finally:
             browser.close()
-    print("report: five examples, a town, stops without coordinates, hostile feeds and 65,000 findings show in a browser what the JSON document says", flush=True)
+    print("report: six examples, the profile for boards, a town, stops without coordinates, hostile feeds and 65,000 findings show in a browser what the JSON document says", flush=True)
 
 
 main()

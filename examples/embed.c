@@ -1,5 +1,5 @@
-/* embed.c: the check called from C. It reads the six files of a feed and prints the verdict and all findings, or all faults
- * of a feed that is refused. */
+/* embed.c: the check called from C. It reads the six files of a feed and prints the verdict and all findings, with a second
+ * word "boards" those of the profile for boards too, or all faults of a feed that is refused. */
 #define _POSIX_C_SOURCE 200809L
 #include <errno.h>
 #include <fcntl.h>
@@ -87,13 +87,13 @@ static struct lent lend(int folder, int file) {
     return lent;
 }
 
-/* One call, after the finding at `after`. */
-static tusuchiy_answer check(const struct lent *f, int32_t *list, size_t length, const int32_t *after) {
+/* One call, after the finding at `after`. The profile is one argument: all pages of a list are asked for with the same. */
+static tusuchiy_answer check(const struct lent *f, int32_t *list, size_t length, const int32_t *after, int32_t profile) {
     return tusuchiy_check(f[0].bytes, f[0].length, f[1].bytes, f[1].length, f[2].bytes, f[2].length,
                           f[3].bytes, f[3].length, f[4].bytes, f[4].length, f[5].bytes, f[5].length,
                           f[0].table, f[0].numbers, f[1].table, f[1].numbers, f[2].table, f[2].numbers,
                           f[3].table, f[3].numbers, f[4].table, f[4].numbers, f[5].table, f[5].numbers,
-                          list, length, after[0], after[1], after[2]);
+                          list, length, after[0], after[1], after[2], profile);
 }
 
 /* The same for faults. */
@@ -126,9 +126,9 @@ static void list_faults(const struct lent *files) {
 }
 
 /* Prints the verdict and all findings, in pages of four, each from the last finding handed out. */
-static int report(const struct lent *files) {
+static int report(const struct lent *files, int32_t profile) {
     int32_t list[12], after[3] = {0, 0, 0};
-    tusuchiy_answer answer = check(files, list, 12, after);
+    tusuchiy_answer answer = check(files, list, 12, after, profile);
     if (answer.verdict == TUSUCHIY_REFUSED) {
         printf("refused %d %s %d %d\n", answer.number, KNOWN[answer.file - 1].name, answer.line, answer.column);
         list_faults(files);
@@ -138,7 +138,7 @@ static int report(const struct lent *files) {
     int32_t had = answer.written;
     print(list, answer.written, 3, after);
     while (had < answer.total) {
-        answer = check(files, list, 12, after);
+        answer = check(files, list, 12, after, profile);
         print(list, answer.written, 3, after);
         had += answer.written;
     }
@@ -150,8 +150,9 @@ static int report(const struct lent *files) {
 }
 
 int main(int count, char **words) {
-    if (count != 2) {
-        fprintf(stderr, "usage: embed FEED\n");
+    int boards = count == 3 && strcmp(words[2], "boards") == 0;
+    if (count != 2 && !boards) {
+        fprintf(stderr, "usage: embed FEED [boards]\n");
         return 3;
     }
     int folder = open(words[1], O_RDONLY | O_DIRECTORY | O_CLOEXEC);
@@ -160,7 +161,7 @@ int main(int count, char **words) {
     struct lent files[FILES];
     for (int file = 0; file < FILES; file++)
         files[file] = lend(folder, file);
-    int status = report(files);
+    int status = report(files, boards ? TUSUCHIY_PROFILE_BOARDS : TUSUCHIY_PROFILE_PLAIN);
     /* What was printed must have arrived: a verdict that nobody could read is none. */
     if (ferror(stdout) || fclose(stdout))
         stop("standard output");

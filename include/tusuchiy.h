@@ -11,8 +11,8 @@ extern "C" {
 #endif
 
 /* The version of the check, as a text and as a number: 10000 for each major, 100 for each minor step. */
-#define TUSUCHIY_VERSION "0.8.0"
-#define TUSUCHIY_VERSION_NUMBER 800
+#define TUSUCHIY_VERSION "0.9.0"
+#define TUSUCHIY_VERSION_NUMBER 900
 
 /* The six files have numbers: in `file` of an answer, of a finding and of a fault. */
 enum {
@@ -47,7 +47,7 @@ enum {
 
 /* Values of `verdict`. */
 enum {
-    TUSUCHIY_ACCEPTED = 0, /* the files can be read, and no binding rule is broken */
+    TUSUCHIY_ACCEPTED = 0, /* the files can be read, and no rule that was asked for is broken */
     TUSUCHIY_FINDINGS = 1, /* the files can be read, and `total` findings exist */
     TUSUCHIY_REFUSED = 2   /* the files can't be read: see number, file, line, column */
 };
@@ -79,7 +79,7 @@ enum {
     TUSUCHIY_REFUSAL_INDEX_BUFFER = 46
 };
 
-/* The rules of findings. */
+/* The rules of findings: 20 to 31 are tested by every call, 60 to 62 where the profile for boards is asked for. */
 enum {
     TUSUCHIY_RULE_REPEATED_ID = 20,
     TUSUCHIY_RULE_REFERENCE = 21,
@@ -92,7 +92,16 @@ enum {
     TUSUCHIY_RULE_SEQUENCE = 28,
     TUSUCHIY_RULE_ARRIVAL_TOO_EARLY = 29,
     TUSUCHIY_RULE_FEW_LINES = 30,
-    TUSUCHIY_RULE_UNTIMED_ENDS = 31
+    TUSUCHIY_RULE_UNTIMED_ENDS = 31,
+    TUSUCHIY_RULE_NOT_TIMED = 60,
+    TUSUCHIY_RULE_ARRANGED = 61,
+    TUSUCHIY_RULE_PAST_TWO_DAYS = 62
+};
+
+/* Values of `profile`: which rules a call asks for. */
+enum {
+    TUSUCHIY_PROFILE_PLAIN = 0, /* rules 20 to 31 */
+    TUSUCHIY_PROFILE_BOARDS = 1 /* rules 60 to 62 too: what a departure board can't show */
 };
 
 typedef struct {
@@ -113,10 +122,15 @@ typedef struct {
  * Tables: six pairs of a pointer and a length in numbers, filled for every feed that isn't refused; numbers past the
  *   last record stay as they were. The table of a file that isn't supplied stays as it was, record 0 too, and may have
  *   any length, 0 among them.
- * findings: room for findings_len / 3 findings of three numbers each: file, line, rule (20 to 31; docs/RULES.md).
+ * findings: room for findings_len / 3 findings of three numbers each: file, line, rule (20 to 31, with the profile for
+ *   boards 60 to 62 too; docs/RULES.md).
  *   Those after the place (after_file, after_line, after_rule) are written, in rising order, as many as fit; the rest
  *   of the list stays as it was. Start with 0, 0, 0. For the next page give the last finding written; once a call
  *   writes none, you have had them all. The verdict and the total don't depend on the place or on the room.
+ * profile: 0 (TUSUCHIY_PROFILE_PLAIN) asks for no profile; any other number asks for the profile for boards. Then 60 to 62
+ *   are findings in the same list and order, the total counts them, and "accepted" means none of these either. Without
+ *   them the list is that of 0. Refusals and tables don't depend on it. Pages that are to be joined all ask for the
+ *   profile, or all don't.
  *
  * A refusal leaves all tables and the list as they were.
  *
@@ -140,7 +154,8 @@ tusuchiy_answer tusuchiy_check(
     int32_t *stop_times_table, size_t stop_times_table_len,
     int32_t *calendar_dates_table, size_t calendar_dates_table_len,
     int32_t *findings, size_t findings_len,
-    int32_t after_file, int32_t after_line, int32_t after_rule);
+    int32_t after_file, int32_t after_line, int32_t after_rule,
+    int32_t profile);
 
 /* The list of faults: every place of a feed that can't be read, where the verdict names one. Each is four numbers: the
  * file, the line (0 for a whole file), the number (1, 2, 4 to 14) and the column, as tusuchiy_answer has them. */

@@ -4,7 +4,7 @@
 
 #include <stdint.h>
 
-/* The meaning of a refusal (1 to 14, 40 to 46) or a rule (20 to 31); "" for any other number. The words may change, the numbers don't. */
+/* The meaning of a refusal (1 to 14, 40 to 46) or a rule (20 to 31, 60 to 62); "" for any other number. The words may change, the numbers don't. */
 static inline const char *tusuchiy_meaning(int32_t number) {
     switch (number) {
     case 1: return "the file is longer than 16,777,216 bytes";
@@ -33,6 +33,9 @@ static inline const char *tusuchiy_meaning(int32_t number) {
     case 29: return "the trip arrives before it departs from a stop with a smaller stop_sequence";
     case 30: return "the trip has fewer than two lines in stop_times.txt";
     case 31: return "the trip's first or last line by stop_sequence lacks a time";
+    case 60: return "the line isn't timed";
+    case 61: return "pickup or drop-off has to be arranged";
+    case 62: return "a time is 48:00:00 or later";
     case 40: return "the index isn't there, or isn't an index";
     case 41: return "the index has a version that isn't read";
     case 42: return "the index has a wrong file number, count or length";

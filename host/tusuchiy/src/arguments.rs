@@ -1,6 +1,6 @@
 //! The command line: what is asked for, or one line that says what is wrong with it.
 
-use crate::manual::{COLORS, GENERATED, VERBS};
+use crate::manual::{COLORS, GENERATED, PROFILES, VERBS};
 use crate::paging::{Page, MOST_FINDINGS};
 use crate::safe;
 use crate::style::When;
@@ -9,6 +9,7 @@ use lexopt::{Arg, Error, Parser};
 use std::ffi::{OsStr, OsString};
 use std::os::unix::ffi::OsStrExt;
 use std::path::PathBuf;
+use tusuchiy::Profile;
 
 /// The most feeds that may be checked at a time.
 const MOST_JOBS: usize = 256;
@@ -31,6 +32,7 @@ pub struct Check {
     pub feeds: Vec<PathBuf>,
     pub form: Form,
     pub all: bool,
+    pub profile: Profile,
     pub page: Option<Page>,
     pub follow_links: bool,
     pub jobs: Option<usize>,
@@ -59,6 +61,7 @@ struct Found {
     room: Option<usize>,
     jobs: Option<usize>,
     color: usize,
+    profile: Profile,
     output: Option<PathBuf>,
 }
 
@@ -90,6 +93,7 @@ pub fn parse(words: &[OsString]) -> Result<Command, String> {
             Arg::Long("room") => "room",
             Arg::Long("jobs") => "jobs",
             Arg::Long("color") => "color",
+            Arg::Long("profile") => "profile",
             Arg::Short('o') | Arg::Long("output") => "output",
             Arg::Long(other) => return Err(format!("unknown option {}", shown(format!("--{other}").as_ref()))),
             Arg::Short(other) => return Err(format!("unknown option {}", shown(format!("-{other}").as_ref()))),
@@ -114,6 +118,7 @@ fn option(found: &mut Found, name: &'static str, parser: &mut Parser) -> Result<
         "room" => found.room = Some(number("--room", &parser.value().map_err(said)?, 0, MOST_FINDINGS)?),
         "jobs" => found.jobs = Some(number("--jobs", &parser.value().map_err(said)?, 1, MOST_JOBS)?),
         "color" => found.color = one_of("--color", COLORS, &parser.value().map_err(said)?)?,
+        "profile" => found.profile = Profile::ALL[one_of("--profile", PROFILES, &parser.value().map_err(said)?)?],
         "output" => found.output = Some(PathBuf::from(parser.value().map_err(said)?)),
         _ => {}
     }
@@ -190,8 +195,12 @@ fn report(mut found: Found) -> Result<report::Asked, String> {
     if found.words.len() != 1 {
         return Err("report takes one feed: a folder or a zip file".to_string());
     }
-    let follow_links = found.has("follow-links");
-    Ok(report::Asked { feed: PathBuf::from(found.words.remove(0)), output: found.output, follow_links })
+    Ok(report::Asked {
+        follow_links: found.has("follow-links"),
+        profile: found.profile,
+        feed: PathBuf::from(found.words.remove(0)),
+        output: found.output,
+    })
 }
 
 fn index(found: Found) -> Result<indexes::Asked, String> {
@@ -214,7 +223,7 @@ fn index(found: Found) -> Result<indexes::Asked, String> {
 
 fn explain(words: &[OsString]) -> Result<Command, String> {
     let [word] = words else {
-        return Err("explain takes one number: 1 to 14, 20 to 31 or 40 to 46".to_string());
+        return Err("explain takes one number: 1 to 14, 20 to 31, 40 to 46 or 60 to 62".to_string());
     };
     let number = word.to_str().and_then(|word| word.parse().ok());
     number.map(Command::Explain).ok_or_else(|| format!("explain takes a number, and {} is none", shown(word)))
@@ -243,6 +252,7 @@ fn check(found: Found) -> Result<Check, String> {
     Ok(Check {
         form,
         all: found.has("all"),
+        profile: found.profile,
         page: paged.then(|| Page { after: found.after.unwrap_or([0, 0, 0]), room: found.room }),
         follow_links: found.has("follow-links"),
         jobs: found.jobs,
@@ -284,7 +294,7 @@ mod tests {
             assert_eq!(parsed(line), checks(Form::Text, Some(page)), "{line}");
         }
         let page = Page { after: [0, 0, 0], room: Some(MOST_FINDINGS) };
-        assert_eq!(parsed("check --room 1048576 -- f"), checks(Form::Text, Some(page)));
+        assert_eq!(parsed("check --room 1179648 -- f"), checks(Form::Text, Some(page)));
         let page = Page { after: [5, 3, 29], room: None };
         assert_eq!(parsed("check --after 5,3,29 f"), checks(Form::Text, Some(page)));
         assert!(parsed("check f g --all --room 3 --json").is_ok());
@@ -294,13 +304,36 @@ mod tests {
     fn a_report_and_its_file() {
         let asked = |output: Option<&str>, follow_links| {
             let output = output.map(PathBuf::from);
-            Ok(Command::Report(report::Asked { feed: PathBuf::from("f"), output, follow_links }))
+            let asked = report::Asked { feed: PathBuf::from("f"), output, follow_links, ..Default::default() };
+            Ok(Command::Report(asked))
         };
         assert_eq!(parsed("report f"), asked(None, false));
         for line in ["report f -o g", "report -og f", "report --output=g f", "report --output g -- f"] {
             assert_eq!(parsed(line), asked(Some("g"), false), "{line}");
         }
         assert_eq!(parsed("report f -L -o g"), asked(Some("g"), true));
+    }
+
+    /// Without the option it is as with the profile plain, for one feed and for many.
+    #[test]
+    fn a_profile() {
+        for (words, profile) in
+            [("", Profile::Plain), ("--profile plain", Profile::Plain), ("--profile=boards", Profile::Boards)]
+        {
+            let Ok(Command::Check(check)) = parsed(&format!("check {words} f g")) else { panic!("no check: {words}") };
+            let Ok(Command::Report(report)) = parsed(&format!("report f {words}")) else {
+                panic!("no report: {words}")
+            };
+            assert_eq!([check.profile, report.profile], [profile; 2], "{words}");
+        }
+        let wrong = "--profile takes plain, boards, and not 'board'";
+        assert_eq!(parsed("check f --profile board"), Err(wrong.to_string()));
+        for verb in ["index f", "explain 60"] {
+            let name = verb.split(' ').next().unwrap_or_default();
+            for words in ["--profile boards", "--profile plain"] {
+                assert_eq!(parsed(&format!("{verb} {words}")), Err(format!("{name} takes no --profile")));
+            }
+        }
     }
 
     #[test]
@@ -363,10 +396,15 @@ mod tests {
             "check f --room",
             "check f --room -1",
             "check f --room x",
-            "check f --room 1048577",
+            "check f --room 1179649",
             "check f --room=",
             "check f --jobs 0",
             "check f --color blue",
+            "check f --profile",
+            "check f --profile=",
+            "check f --profile Boards",
+            "check f --profile 1",
+            "check f --profile boards --profile boards",
             "check f --after 1,2",
             "check f --after 1,2,3,4",
             "check f --after 1,2,x",
@@ -387,6 +425,7 @@ mod tests {
             "report f --json",
             "report f --room 3",
             "report f --check",
+            "report f --profile none",
             "check f --check",
             "index",
             "index f --json --quiet",

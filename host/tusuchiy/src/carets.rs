@@ -1,4 +1,4 @@
-//! A line with carets under one of its fields: as much of it as stands in one row of a terminal, the field among it.
+//! A line with carets under one of its fields or more: as much of it as stands in one row of a terminal, the first of them among it.
 
 use crate::fields::field;
 use crate::safe;
@@ -19,28 +19,37 @@ pub struct Marked {
     pub carets: Option<String>,
 }
 
-/// A line with the field under a column marked; none where there is no such field. A line that has one is UTF-8.
-pub fn under(line: &[u8], column: usize) -> Option<Marked> {
-    Some(marked(std::str::from_utf8(line).ok()?, field(line, column)?))
+/// A line with the fields under some columns marked; none where there is no column or no such field. A line that has one is UTF-8.
+pub fn under(line: &[u8], columns: &[usize]) -> Option<Marked> {
+    let fields: Option<Vec<Range<usize>>> = columns.iter().map(|&column| field(line, column)).collect();
+    let mut fields = fields.filter(|fields| !fields.is_empty())?;
+    fields.sort_by_key(|field| field.start);
+    Some(marked(std::str::from_utf8(line).ok()?, &fields))
 }
 
-/// A line with this field of it marked: an empty one by one caret at its place.
-fn marked(line: &str, field: Range<usize>) -> Marked {
-    let shown = around(line, &field);
+/// A line with these fields of it marked, which stand in order: an empty one by one caret at its place. What isn't shown of them isn't marked.
+fn marked(line: &str, fields: &[Range<usize>]) -> Marked {
+    let shown = around(line, &(fields[0].start..fields[fields.len() - 1].end));
     let piece = |range: Range<usize>| safe::text(line[range].as_bytes());
     let mut text = if shown.start > 0 { CUTS[0].to_string() } else { String::new() };
-    text += &piece(shown.start..field.start);
-    let before = wide(&text);
-    let inside = piece(field.start..field.end.min(shown.end));
-    let carets = format!("{}{}", " ".repeat(before), "^".repeat(wide(&inside).max(1)));
-    text += &inside;
-    text += &piece(field.end.min(shown.end)..shown.end);
+    let (mut carets, mut from) = (String::new(), shown.start);
+    for field in fields.iter().filter(|field| field.start < shown.end || field.end == shown.end) {
+        let end = field.end.min(shown.end);
+        text += &piece(from..field.start);
+        carets += &" ".repeat(wide(&text) - carets.len());
+        let inside = piece(field.start..end);
+        carets += &"^".repeat(wide(&inside).max(1));
+        text += &inside;
+        from = end;
+    }
+    text += &piece(from..shown.end);
     text += if shown.end < line.len() { CUTS[1] } else { "" };
     let sure = !text.chars().any(|char| goes_left(char) || colours_skin(char));
     Marked { text, carets: sure.then_some(carets) }
 }
 
-/// The part of a line that is shown: all of it where it fits, else what fits of the field, and as much on either side of it.
+/// The part of a line that is shown: all of it where it fits, else what fits of the field, and as much on either side of it. Of several fields
+/// all that stands between them counts as one.
 fn around(line: &str, field: &Range<usize>) -> Range<usize> {
     let whole = fitting(line.chars(), WIDE).bytes == line.len();
     let room = if whole { WIDE } else { WIDE - CUTS.concat().len() };
@@ -100,7 +109,12 @@ mod tests {
 
     /// What is shown of a line, and the carets under a column of it.
     fn shown(line: &str, column: usize) -> [String; 2] {
-        let marked = under(line.as_bytes(), column).expect("a field");
+        shown_of(line, &[column])
+    }
+
+    /// The same with several columns.
+    fn shown_of(line: &str, columns: &[usize]) -> [String; 2] {
+        let marked = under(line.as_bytes(), columns).expect("a field");
         [marked.text, marked.carets.expect("carets")]
     }
 
@@ -127,6 +141,30 @@ mod tests {
             ("A,", 2, "A,", "  ^"),
             ("", 1, "", "^"),
         ]);
+    }
+
+    /// Several fields, in whatever order they are named: those of rules 60 to 62.
+    #[test]
+    fn carets_under_several_fields() {
+        let cases: [(&str, &[usize], &str); 6] = [
+            ("T,48:00:00,48:01:00,A,3", &[2, 3], "  ^^^^^^^^ ^^^^^^^^"),
+            ("T,48:00:00,48:01:00,A,3", &[3, 2], "  ^^^^^^^^ ^^^^^^^^"),
+            ("T,,,A,2", &[2, 3], "  ^^"),
+            ("T,東,8:00:00,2,\"3\"", &[4, 5], "             ^ ^^^"),
+            ("T,2,A,", &[2, 4], "  ^   ^"),
+            // A mark alone in its field takes no room of its own.
+            ("T,\u{301},3", &[2, 3], "  ^^"),
+        ];
+        for (line, columns, carets) in cases {
+            assert_eq!(shown_of(line, columns), [line, carets], "{columns:?}");
+        }
+        // What stands between them counts: both are shown where they fit, else the first and what follows it.
+        let line = |between: usize| format!("{0},2,{1},3,{0}", "x".repeat(100), "y".repeat(between));
+        let text = format!("... {},2,{},3,{} ...", "x".repeat(3), "y".repeat(56), "x".repeat(2));
+        let carets = format!("{}^{}^", " ".repeat(8), " ".repeat(58));
+        assert_eq!(shown_of(&line(56), &[2, 4]), [text, carets]);
+        let text = format!("... 2,{} ...", "y".repeat(65));
+        assert_eq!(shown_of(&line(200), &[2, 4]), [text, "    ^".to_string()]);
     }
 
     /// Wide characters take two columns, marks on letters none, and what is escaped as many as its escape has letters.
@@ -159,7 +197,7 @@ mod tests {
         for name in ["שלום", "مرحبا", "ߒߞߏ", "١٢", "ﷲ", "ﻼ", "𐤀", "𞤀", "👍🏻", "👍🏿"] {
             let line = format!("A,{name},1.5,x");
             for column in [1, 2, 4] {
-                let marked = under(line.as_bytes(), column).expect("a field");
+                let marked = under(line.as_bytes(), &[column]).expect("a field");
                 assert_eq!(marked, Marked { text: line.clone(), carets: None }, "{line}, column {column}");
             }
         }
@@ -237,7 +275,9 @@ mod tests {
     #[test]
     fn no_field_no_carets() {
         for (line, column) in [(&b"a,b"[..], 3), (b"a,b", 0), (b"\xFF,b", 2), (b"a,\"b", 1)] {
-            assert_eq!(under(line, column), None, "{line:02X?}, column {column}");
+            assert_eq!(under(line, &[column]), None, "{line:02X?}, column {column}");
+            assert_eq!(under(line, &[1, column]), None, "{line:02X?}, column {column}");
         }
+        assert_eq!(under(b"a,b", &[]), None);
     }
 }

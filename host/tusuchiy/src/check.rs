@@ -2,7 +2,7 @@
 
 use crate::faults::{self, Faults, FaultsAnswer};
 use crate::index::IndexAnswer;
-use crate::kinds::{Fault, File, Finding, Refusal, Rule, FILES};
+use crate::kinds::{Fault, File, Finding, Profile, Refusal, Rule, FILES};
 use crate::pages::{Pages, PAGE};
 use crate::{try_check, Answer, Verdict, MOST_LINES, WIDTHS};
 use std::collections::TryReserveError;
@@ -86,17 +86,18 @@ pub struct Page {
     pub findings: Vec<Finding>,
 }
 
-/// A feed to be checked: its six files, and tables that are long enough for them.
+/// A feed to be checked: its six files, tables that are long enough for them, and which rules are asked for.
 #[derive(Debug)]
 #[must_use]
 pub struct Check<'a> {
     files: [&'a [u8]; FILES],
     tables: [Vec<i32>; FILES],
+    profile: Profile,
 }
 
 impl<'a> Check<'a> {
     /// Lends tables for these files: stops, routes, calendar, trips, stop_times and calendar_dates; one that isn't
-    /// there is empty, and so is its table.
+    /// there is empty, and so is its table. No profile is asked for.
     ///
     /// # Errors
     ///
@@ -106,7 +107,19 @@ impl<'a> Check<'a> {
         for (table, size) in tables.iter_mut().zip(table_sizes(files)) {
             *table = zeros(size)?;
         }
-        Ok(Check { files, tables })
+        Ok(Check { files, tables, profile: Profile::Plain })
+    }
+
+    /// The same with these rules asked for, by each of its calls: pages that are joined all ask alike. Refusals, faults and tables don't
+    /// depend on it.
+    pub fn with_profile(self, profile: Profile) -> Self {
+        Check { profile, ..self }
+    }
+
+    /// Which rules are asked for.
+    #[must_use]
+    pub fn profile(&self) -> Profile {
+        self.profile
     }
 
     /// One call: the verdict, and the findings after a place, as many as there is room for.
@@ -117,7 +130,7 @@ impl<'a> Check<'a> {
     pub fn page(&mut self, after: Place, room: usize) -> Result<Page, Error> {
         let mut list = zeros(room.saturating_mul(3))?;
         let tables = self.tables.each_mut().map(|table| &mut table[..]);
-        let answer = try_check(self.files, tables, &mut list, after.0).map_err(Error::Thread)?;
+        let answer = try_check(self.files, tables, &mut list, after.0, self.profile).map_err(Error::Thread)?;
         let verdict = answer.verdict().ok_or(Error::Unknown(answer))?;
         let written = if let Verdict::Findings { written, .. } = verdict { written } else { 0 };
         let numbers = list.get(..written * 3).ok_or(Error::Unknown(answer))?;

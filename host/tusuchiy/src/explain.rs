@@ -36,7 +36,8 @@ pub fn page(number: usize) -> Option<&'static str> {
 /// What to say for a number that has no section.
 #[must_use]
 pub fn no_such(number: usize) -> String {
-    format!("there is no refusal or rule {number}: refusals are 1 to 14 and, of an index, 40 to 46, rules 20 to 31")
+    let refusals = "refusals are 1 to 14 and, of an index, 40 to 46";
+    format!("there is no refusal or rule {number}: {refusals}, rules 20 to 31 and, of the profile boards, 60 to 62")
 }
 
 #[cfg(test)]
@@ -45,7 +46,7 @@ mod tests {
 
     #[test]
     fn every_number_has_its_section() {
-        for number in (1..=14).chain(20..=31).chain(40..=46) {
+        for number in (1..=14).chain(20..=31).chain(40..=46).chain(60..=62) {
             let page = page(number).unwrap_or_else(|| panic!("no section {number}"));
             for part in ["**What it means.**", "**Example.**", "**How to mend it.**"] {
                 assert_eq!(page.matches(part).count(), 1, "section {number}, {part}");
@@ -57,7 +58,7 @@ mod tests {
 
     #[test]
     fn other_numbers_have_none() {
-        for number in [0, 15, 19, 32, 39, 47, 60] {
+        for number in [0, 15, 19, 32, 39, 47, 59, 63] {
             assert_eq!(page(number), None);
         }
     }

@@ -34,6 +34,8 @@ const STOP: Cell = (5, 1);
 const SEQUENCE: Cell = (5, 2);
 const ARRIVAL: Cell = (5, 3);
 const DEPARTURE: Cell = (5, 4);
+const PICKUP: Cell = (5, 5);
+const DROP_OFF: Cell = (5, 6);
 const TIMEPOINT: Cell = (5, 7);
 const DATE: Cell = (6, 2);
 
@@ -85,6 +87,9 @@ impl<'a> Facts<'a> {
             29 => self.arrival_too_early(line),
             30 => self.few_calls(line),
             31 => self.untimed_ends(line),
+            60 => self.not_timed(line),
+            61 => self.arranged(line),
+            62 => self.past_two_days(line),
             _ => About::default(),
         }
     }
@@ -100,11 +105,21 @@ impl<'a> Facts<'a> {
         record.map(|record| record + 1)
     }
 
+    /// Where a known column stands in the header, counted from 0; none where it is absent.
+    fn column(&self, file: usize, column: &str) -> Option<usize> {
+        let header = self.headers[file - 1].get_or_init(|| names(self.feed, file));
+        header.iter().position(|name| name == column.as_bytes())
+    }
+
     /// The value under a known column; empty where the column is absent.
     fn value(&self, file: usize, line: usize, column: &str) -> Cow<'a, [u8]> {
-        let header = self.headers[file - 1].get_or_init(|| names(self.feed, file));
-        let place = header.iter().position(|name| name == column.as_bytes());
-        place.map_or(Cow::Borrowed(&[]), |place| value_at(self.feed, file, line, place))
+        self.column(file, column).map_or(Cow::Borrowed(&[]), |place| value_at(self.feed, file, line, place))
+    }
+
+    /// The columns of a finding's line that carets stand under, counted from 1: those that break a rule of a profile.
+    pub fn marked(&self, finding: &Finding, about: &About) -> Vec<usize> {
+        let columns = breaking(finding.rule, about).into_iter();
+        columns.filter_map(|column| Some(self.column(finding.file, column)? + 1)).collect()
     }
 
     /// The key of a line of files 1 to 4 or 6: where its id stands is in numbers 0 and 1 of its record.
@@ -206,38 +221,56 @@ impl<'a> Facts<'a> {
     fn times_given(&self, line: usize) -> About {
         let times = self.times(line);
         let exact = self.number(TIMEPOINT, line) == 1;
-        let (mut clauses, mut words) = (Vec::new(), Vec::new());
-        match &times {
-            [Some(time), None] => {
-                clauses.push("arrival_time_only");
-                words.push(format!("arrival_time is {time} and departure_time is empty"));
-            }
-            [None, Some(time)] => {
-                clauses.push("departure_time_only");
-                words.push(format!("departure_time is {time} and arrival_time is empty"));
-            }
-            _ => {}
-        }
+        let mut clauses: Vec<(&str, String)> = one_only(&times).into_iter().collect();
         if exact && times.iter().any(Option::is_none) {
-            clauses.push("timepoint_without_times");
-            words.push(format!("timepoint is 1 and {} empty", lacking(&times)));
+            clauses.push(("timepoint_without_times", format!("timepoint is 1 and {} empty", lacking(&times))));
         }
-        let [arrival, departure] = times.map(|time| time.map_or(Value::Null, Value::text));
-        let members = vec![
-            ("clauses", Value::texts(clauses)),
-            ("arrival_time", arrival),
-            ("departure_time", departure),
-            ("timepoint", Value::Number(self.number(TIMEPOINT, line).into())),
-        ];
+        let mut members = vec![("clauses", Value::texts(clauses.iter().map(|(clause, _)| clause)))];
+        members.extend(time_members(&times));
+        members.push(("timepoint", Value::Number(self.number(TIMEPOINT, line).into())));
+        let words: Vec<String> = clauses.into_iter().map(|(_, words)| words).collect();
         About { words: words.join("; "), members }
     }
 
     fn departure_first(&self, line: usize) -> About {
-        let [arrival, departure] = self.times(line).map(Option::unwrap_or_default);
+        let times = self.times(line);
+        let [arrival, departure] = times.each_ref().map(|time| time.as_deref().unwrap_or_default());
         About {
             words: format!("departure_time {departure} is before arrival_time {arrival}"),
-            members: vec![("arrival_time", Value::text(arrival)), ("departure_time", Value::text(departure))],
+            members: time_members(&times),
         }
+    }
+
+    fn not_timed(&self, line: usize) -> About {
+        let times = self.times(line);
+        let words = one_only(&times).map_or_else(|| format!("{} empty", lacking(&times)), |(_, words)| words);
+        About { words, members: time_members(&times) }
+    }
+
+    fn arranged(&self, line: usize) -> About {
+        let how = |number: i32| match number {
+            2 => Some("must phone the agency"),
+            3 => Some("must arrange with the driver"),
+            _ => None,
+        };
+        let types = [("pickup_type", PICKUP), ("drop_off_type", DROP_OFF)];
+        let types = types.map(|(column, cell)| (column, self.number(cell, line)));
+        let words =
+            types.iter().filter_map(|(column, number)| Some(format!("{column} is {number} ({})", how(*number)?)));
+        About {
+            words: words.collect::<Vec<_>>().join("; "),
+            members: types.map(|(column, number)| (column, Value::Number(number.into()))).to_vec(),
+        }
+    }
+
+    fn past_two_days(&self, line: usize) -> About {
+        let times = self.times(line);
+        let late = |(column, time): (&str, &Option<String>)| {
+            let time = time.as_deref().filter(|time| *time >= TWO_DAYS)?;
+            Some(format!("{column} is {time}"))
+        };
+        let late: Vec<String> = TIMES.into_iter().zip(&times).filter_map(late).collect();
+        About { words: format!("{}, wanted: before {TWO_DAYS}", late.join(" and ")), members: time_members(&times) }
     }
 
     /// The lines of stop_times.txt by trip, stop_sequence and line, each after a number for its trip_id.
@@ -440,6 +473,42 @@ fn no_name() -> About {
         words: "route_short_name and route_long_name are both empty".to_string(),
         members: vec![("columns", Value::texts(["route_short_name", "route_long_name"]))],
     }
+}
+
+/// The two times of a line of stop_times.txt.
+const TIMES: [&str; 2] = ["arrival_time", "departure_time"];
+
+/// Rule 62 takes times below this one. All are written alike, so that their order as text is their order in time.
+const TWO_DAYS: &str = "48:00:00";
+
+/// The two times as members, null where one is empty.
+fn time_members(times: &[Option<String>; 2]) -> Members {
+    let told = times.iter().map(|time| time.as_ref().map_or(Value::Null, Value::text));
+    TIMES.into_iter().zip(told).collect()
+}
+
+/// Where just one time is given: the clause of rule 26, and words.
+fn one_only(times: &[Option<String>; 2]) -> Option<(&'static str, String)> {
+    match times {
+        [Some(time), None] => {
+            Some(("arrival_time_only", format!("arrival_time is {time} and departure_time is empty")))
+        }
+        [None, Some(time)] => {
+            Some(("departure_time_only", format!("departure_time is {time} and arrival_time is empty")))
+        }
+        _ => None,
+    }
+}
+
+/// The columns of a line that break a rule of the profile for boards: one or both of the two that are its members. None of any other rule.
+pub fn breaking(rule: usize, about: &About) -> Vec<&'static str> {
+    let breaks = |value: &Value| match (rule, value) {
+        (60, value) => *value == Value::Null,
+        (61, value) => [2, 3].map(Value::Number).contains(value),
+        (62, Value::Text(time)) => &time[..] >= TWO_DAYS.as_bytes(),
+        _ => false,
+    };
+    about.members.iter().filter(|(_, value)| breaks(value)).map(|(name, _)| *name).collect()
 }
 
 /// Which times are empty, and the word that goes with them.

@@ -22,7 +22,7 @@ pub fn write(out: &mut dyn Write, feed: &Feed, report: &Report) -> io::Result<()
         Outcome::Findings { list, total } => ("findings", &list[..], *total),
         Outcome::Refused { .. } => ("refused", none, 0),
     };
-    write!(out, "{{\"version\": {VERSION}, \"verdict\": \"{verdict}\", ")?;
+    write!(out, "{{\"version\": {VERSION}, \"verdict\": \"{verdict}\", \"profile\": \"{}\", ", report.profile)?;
     write_faults(out, feed, &report.outcome)?;
     write!(out, "\"total\": {total}, \"written\": {}, ", list.len())?;
     write!(out, "\"page\": {}, \"findings\": ", report.page.as_ref().map_or(Value::Null, page))?;

@@ -84,7 +84,43 @@ impl Display for File {
     }
 }
 
-/// A rule that a feed which can be read may break, 20 to 31.
+/// Which rules a call asks for: part of the call, not of the feed.
+#[derive(Clone, Copy, Debug, Default, PartialEq, Eq, PartialOrd, Ord, Hash)]
+pub enum Profile {
+    /// Rules 20 to 31.
+    #[default]
+    Plain = 0,
+    /// Rules 60 to 62 too: what a departure board can't show.
+    Boards = 1,
+}
+
+impl Profile {
+    /// In the order of their numbers.
+    pub const ALL: [Profile; 2] = [Profile::Plain, Profile::Boards];
+
+    /// Its number, as include/tusuchiy.h has it.
+    #[must_use]
+    pub const fn number(self) -> i32 {
+        self as i32
+    }
+
+    /// Its name, as the command takes it.
+    #[must_use]
+    pub const fn name(self) -> &'static str {
+        match self {
+            Profile::Plain => "plain",
+            Profile::Boards => "boards",
+        }
+    }
+}
+
+impl Display for Profile {
+    fn fmt(&self, out: &mut Formatter) -> fmt::Result {
+        out.write_str(self.name())
+    }
+}
+
+/// A rule that a feed which can be read may break, 20 to 31, or 60 to 62 where the profile for boards is asked for.
 #[derive(Clone, Copy, Debug, PartialEq, Eq, PartialOrd, Ord, Hash)]
 pub struct Rule(u8);
 
@@ -97,17 +133,17 @@ pub struct Refusal(u8);
 pub struct IndexRefusal(u8);
 
 macro_rules! numbered {
-    ($name:ident, $word:literal, $least:literal, $most:literal) => {
+    ($name:ident, $word:literal, $($least:literal..=$most:literal),+) => {
         impl $name {
             /// The one with this number, if there is one.
             #[must_use]
             pub fn new(number: usize) -> Option<Self> {
-                ($least..=$most).contains(&number).then_some($name(number as u8))
+                matches!(number, $($least..=$most)|+).then_some($name(number as u8))
             }
 
             /// All of them, in order.
             pub fn all() -> impl Iterator<Item = Self> {
-                ($least..=$most).map($name)
+                [$($least..=$most),+].into_iter().flatten().map($name)
             }
 
             /// Its number.
@@ -137,9 +173,21 @@ macro_rules! numbered {
     };
 }
 
-numbered!(Rule, "rule", 20, 31);
-numbered!(Refusal, "refusal", 1, 14);
-numbered!(IndexRefusal, "refusal", 40, 46);
+numbered!(Rule, "rule", 20..=31, 60..=62);
+numbered!(Refusal, "refusal", 1..=14);
+numbered!(IndexRefusal, "refusal", 40..=46);
+
+impl Rule {
+    /// The profile that asks for it first: `Plain` for a rule that every call tests.
+    #[must_use]
+    pub fn profile(self) -> Profile {
+        if self.0 < 60 {
+            Profile::Plain
+        } else {
+            Profile::Boards
+        }
+    }
+}
 
 /// A place where a rule is broken.
 #[derive(Clone, Copy, Debug, PartialEq, Eq, PartialOrd, Ord, Hash)]
@@ -188,12 +236,23 @@ mod tests {
             assert_eq!(File::new(file.number()), Some(file));
         }
         assert!([0, 7].iter().all(|&number| File::new(number).is_none()));
-        assert!(Rule::all().map(Rule::number).eq(20..=31));
+        assert!(Rule::all().map(Rule::number).eq((20..=31).chain(60..=62)));
         assert!(Refusal::all().map(Refusal::number).eq(1..=14));
-        assert!([19, 32, 276].iter().all(|&number| Rule::new(number).is_none()));
+        assert!(Rule::all().all(|rule| Rule::new(rule.number()) == Some(rule)));
+        assert!([19, 32, 59, 63, 276, 316].iter().all(|&number| Rule::new(number).is_none()));
         assert!([0, 15, 257].iter().all(|&number| Refusal::new(number).is_none()));
         assert!(IndexRefusal::all().map(IndexRefusal::number).eq(40..=46));
         assert!([14, 39, 47].iter().all(|&number| IndexRefusal::new(number).is_none()));
+    }
+
+    /// Rules of the profile for boards are those above all others; profiles have the header's numbers and the command's names.
+    #[test]
+    fn profiles() {
+        let of_boards = Rule::all().filter(|rule| rule.profile() == Profile::Boards);
+        assert!(of_boards.map(Rule::number).eq(60..=62));
+        assert_eq!(Profile::ALL.map(Profile::number), [0, 1]);
+        assert_eq!(Profile::ALL.map(|profile| profile.to_string()), ["plain", "boards"]);
+        assert_eq!(Profile::default(), Profile::Plain);
     }
 
     #[test]

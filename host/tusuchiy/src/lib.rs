@@ -30,6 +30,27 @@
 //! # Ok::<(), tusuchiy::Error>(())
 //! ```
 //!
+//! A check for departure boards asks for [`Profile::Boards`] and tests three rules more, 60 to 62; all pages of one [`Check`] ask alike.
+//!
+//! ```
+//! use tusuchiy::{Check, Profile, Verdict};
+//!
+//! # let files: [&[u8]; 6] = [
+//! #     b"stop_id,stop_name,stop_lat,stop_lon\nA,Alder,1.5,2\nB,Birch,1.6,2\nC,Cedar,1.7,2\n",
+//! #     b"route_id,route_short_name,route_type\nR,1,3\n",
+//! #     b"service_id,monday,tuesday,wednesday,thursday,friday,saturday,sunday,start_date,end_date\nW,1,1,1,1,1,0,0,20240101,20241231\n",
+//! #     b"route_id,service_id,trip_id\nR,W,T\n",
+//! #     b"trip_id,arrival_time,departure_time,stop_id,stop_sequence\nT,8:00:00,8:00:00,A,1\nT,,,B,2\nT,8:09:00,8:09:00,C,3\n",
+//! #     b"",
+//! # ];
+//! // A trip whose second stop has no times.
+//! assert_eq!(Check::new(files)?.verdict()?, Verdict::Accepted);
+//! let mut check = Check::new(files)?.with_profile(Profile::Boards);
+//! let told: Result<Vec<_>, _> = check.findings().collect();
+//! assert_eq!(told?[0].to_string(), "stop_times.txt:3: rule 60: the line isn't timed");
+//! # Ok::<(), tusuchiy::Error>(())
+//! ```
+//!
 //! [`try_check`] is the function below all this: it takes tables and a list as they are lent, and allocates nothing.
 //! [`faults`] names every place of a refused feed that can't be read. [`index`] makes and judges the sorted index of a file.
 #![deny(unsafe_code)]
@@ -44,7 +65,7 @@ mod pages;
 pub use check::{table_sizes, Check, Error, Findings, Page, Place};
 pub use faults::{try_faults, Faults, FaultsAnswer};
 pub use index::IndexAnswer;
-pub use kinds::{Fault, File, Finding, IndexRefusal, Refusal, Rule, FILES};
+pub use kinds::{Fault, File, Finding, IndexRefusal, Profile, Refusal, Rule, FILES};
 
 use std::io;
 use std::thread;
@@ -87,7 +108,7 @@ pub struct Answer {
 #[derive(Clone, Copy, Debug, PartialEq, Eq)]
 #[must_use]
 pub enum Verdict {
-    /// The feed can be read and has no finding.
+    /// The feed can be read and has no finding of the rules that were asked for.
     Accepted,
     /// How many findings were written to the list, and how many the whole feed has.
     Findings { written: usize, total: usize },
@@ -111,7 +132,7 @@ impl Answer {
 #[allow(unsafe_code)]
 #[rustfmt::skip]
 mod archive {
-    use super::{Answer, FILES};
+    use super::{Answer, Profile, FILES};
 
     extern "C" {
         fn tusuchiy_check(
@@ -123,12 +144,14 @@ mod archive {
             stop_times_table: *mut i32, stop_times_table_len: usize,
             calendar_dates_table: *mut i32, calendar_dates_table_len: usize,
             findings: *mut i32, findings_len: usize,
-            after_file: i32, after_line: i32, after_rule: i32,
+            after_file: i32, after_line: i32, after_rule: i32, profile: i32,
         ) -> Answer;
     }
 
     /// One call on the stack that the caller has.
-    pub fn check(files: [&[u8]; FILES], tables: [&mut [i32]; FILES], list: &mut [i32], after: [i32; 3]) -> Answer {
+    pub fn check(
+        files: [&[u8]; FILES], tables: [&mut [i32]; FILES], list: &mut [i32], after: [i32; 3], profile: Profile,
+    ) -> Answer {
         let [f1, f2, f3, f4, f5, f6] = files;
         let [t1, t2, t3, t4, t5, t6] = tables;
         // SAFETY: the check asks for nothing but valid slices, and slices are what is lent: each pointer comes
@@ -139,27 +162,36 @@ mod archive {
                 f5.as_ptr(), f5.len(), f6.as_ptr(), f6.len(),
                 t1.as_mut_ptr(), t1.len(), t2.as_mut_ptr(), t2.len(), t3.as_mut_ptr(), t3.len(),
                 t4.as_mut_ptr(), t4.len(), t5.as_mut_ptr(), t5.len(), t6.as_mut_ptr(), t6.len(),
-                list.as_mut_ptr(), list.len(), after[0], after[1], after[2],
+                list.as_mut_ptr(), list.len(), after[0], after[1], after[2], profile.number(),
             )
         }
     }
 }
 
-/// One check: files, tables, the list of findings and the place after which findings are handed out.
+/// One check: files, tables, the list of findings, the place after which findings are handed out, and which rules are asked for. Pages that are
+/// to be joined all ask for the same profile: [`Check`] sees to that.
+///
 /// It runs in a thread with a stack of its own size, whatever the caller's; an error says that there is no such thread.
 pub fn try_check(
     files: [&[u8]; FILES],
     tables: [&mut [i32]; FILES],
     list: &mut [i32],
     after: [i32; 3],
+    profile: Profile,
 ) -> io::Result<Answer> {
-    on_stack(THREAD_STACK, move || archive::check(files, tables, list, after))
+    on_stack(THREAD_STACK, move || archive::check(files, tables, list, after, profile))
 }
 
 /// The same on the stack that the caller has, in no other thread. [`STACK`] bytes of it must be left: where there are fewer the system may end
 /// the process, and that is all that can happen, since the archive's code touches each page of a stack before those below it.
-pub fn check_here(files: [&[u8]; FILES], tables: [&mut [i32]; FILES], list: &mut [i32], after: [i32; 3]) -> Answer {
-    archive::check(files, tables, list, after)
+pub fn check_here(
+    files: [&[u8]; FILES],
+    tables: [&mut [i32]; FILES],
+    list: &mut [i32],
+    after: [i32; 3],
+    profile: Profile,
+) -> Answer {
+    archive::check(files, tables, list, after, profile)
 }
 
 /// Makes a call in a thread with so much stack.
@@ -175,8 +207,14 @@ fn on_stack<Told: Send>(size: usize, call: impl FnOnce() -> Told + Send) -> io::
 /// # Panics
 ///
 /// Where the system gives no thread.
-pub fn check(files: [&[u8]; FILES], tables: [&mut [i32]; FILES], list: &mut [i32], after: [i32; 3]) -> Answer {
-    try_check(files, tables, list, after).expect("a thread for the check")
+pub fn check(
+    files: [&[u8]; FILES],
+    tables: [&mut [i32]; FILES],
+    list: &mut [i32],
+    after: [i32; 3],
+    profile: Profile,
+) -> Answer {
+    try_check(files, tables, list, after, profile).expect("a thread for the check")
 }
 
 #[cfg(test)]
@@ -196,8 +234,9 @@ mod tests {
         ];
         let mut tables = WIDTHS.map(|width| vec![0; width * 10]);
         let tables = tables.each_mut().map(|table| &mut table[..]);
-        let answer = on_stack(STACK, move || archive::check(files, tables, &mut [0; 30], [0, 0, 0]));
-        assert_eq!(answer.expect("a thread").verdict(), Some(Verdict::Findings { written: 5, total: 5 }));
+        let answer = on_stack(STACK, move || archive::check(files, tables, &mut [0; 30], [0, 0, 0], Profile::Boards));
+        // Five of document 01, and the line without times.
+        assert_eq!(answer.expect("a thread").verdict(), Some(Verdict::Findings { written: 6, total: 6 }));
     }
 
     /// The header has the version of this package.

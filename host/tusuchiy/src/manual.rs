@@ -1,5 +1,7 @@
 //! The words of the command line, in one table: the help, the manual page and what shells complete are made from it.
 
+use tusuchiy::Profile;
+
 /// An option.
 pub struct Flag {
     pub long: &'static str,
@@ -38,7 +40,17 @@ const COLOR: Flag = Flag {
     ..valued("color", "WHEN", "colours: auto (on a terminal, unless NO_COLOR is set), always or never")
 };
 
+const PROFILE: Flag = Flag {
+    choices: PROFILES,
+    ..valued(
+        "profile",
+        "NAME",
+        "the rules: plain (20 to 31) if not given; boards adds 60 to 62, what a departure board can't show",
+    )
+};
+
 pub const COLORS: &[&str] = &["auto", "always", "never"];
+pub const PROFILES: &[&str] = &[Profile::ALL[0].name(), Profile::ALL[1].name()];
 pub const GENERATED: &[&str] = &["man", "complete-bash", "complete-fish", "complete-zsh"];
 
 pub const VERBS: &[Verb] = &[
@@ -50,8 +62,9 @@ pub const VERBS: &[Verb] = &[
             JSON,
             flag("all", Some('a'), "every finding or fault, not just the first five of each number"),
             QUIET,
+            PROFILE,
             valued("after", "FILE,LINE,RULE", "the findings or faults after this place only (0,0,0 is the beginning)"),
-            valued("room", "N", "one page: at most N findings or faults, 0 to 1048576"),
+            valued("room", "N", "one page: at most N findings or faults, 0 to 1179648"),
             FOLLOW_LINKS,
             JOBS,
             COLOR,
@@ -63,6 +76,7 @@ pub const VERBS: &[Verb] = &[
         help: "checks a feed and writes one page about it, for a browser: all findings or faults with filters, a map, time diagrams",
         flags: &[
             Flag { short: Some('o'), ..valued("output", "FILE", "the file to write, as report.html; standard output if not given") },
+            PROFILE,
             FOLLOW_LINKS,
         ],
     },
@@ -86,7 +100,7 @@ pub const VERBS: &[Verb] = &[
     Verb {
         name: "explain",
         operand: "RULE",
-        help: "what a refusal (1 to 14, of an index 40 to 46) or a rule (20 to 31) means, and how to mend it",
+        help: "what a refusal (1 to 14, of an index 40 to 46) or a rule (20 to 31, of the profile boards 60 to 62) means, and how to mend it",
         flags: &[],
     },
 ];
@@ -114,9 +128,10 @@ pub const STATUSES: [(u8, &str); 4] = [
 ];
 
 /// What people type most.
-const EXAMPLES: [(&str, &str); 7] = [
+const EXAMPLES: [(&str, &str); 8] = [
     ("tusuchiy check feed.zip", "the verdict and the first findings of each rule, or faults of each number"),
     ("tusuchiy check --quiet feed && publish feed", "go on only with an accepted feed"),
+    ("tusuchiy check --profile boards feed.zip", "what a departure board can't show is a finding too"),
     ("tusuchiy check --json *.zip | jq .verdict", "many feeds, for a program"),
     ("tusuchiy report feed.zip --output report.html", "a page to forward or to file"),
     ("tusuchiy index feed", "the indexes of a feed's ids, beside its files"),

@@ -91,7 +91,7 @@ fn checked(check: &Check, path: &Path) -> Result<(Feed, Report, Instant), String
     let progress = if alone { progress::start(&feed) } else { progress::silent() };
     let verdict_only = check.form == Form::Quiet || check.feeds.len() > 1 && check.form == Form::Text;
     let page = if verdict_only { Some(paging::VERDICT_ONLY) } else { check.page };
-    let report = paging::check(&feed, page, &progress)?;
+    let report = paging::check(&feed, page, check.profile, &progress)?;
     Ok((feed, report, since))
 }
 

@@ -3,13 +3,13 @@
 use crate::feed::{Feed, FILES, MOST_LINES};
 use crate::memory;
 use crate::progress::Progress;
-use tusuchiy::{Check, Fault, Place, Verdict};
+use tusuchiy::{Check, Fault, Place, Profile, Verdict};
 
 /// How many findings the first call may hand out when all are wanted; a second one has room for the rest.
 const PAGE_ROOM: usize = 65_536;
 
-/// More findings than any feed can have: on a line of files 1 to 6 at most 3, 2, 2, 3, 5 and 1 rules are broken.
-pub const MOST_FINDINGS: usize = (3 + 2 + 2 + 3 + 5 + 1) * MOST_LINES;
+/// More findings than any feed can have: on a line of files 1 to 6 at most 3, 2, 2, 3, 7 and 1 rules are broken, two of the seven by a profile.
+pub const MOST_FINDINGS: usize = (3 + 2 + 2 + 3 + 7 + 1) * MOST_LINES;
 
 /// One page: the findings, or the faults of a refused feed, after a place, as many as there is room for, or all of them.
 #[derive(Clone, Copy, Debug, PartialEq, Eq)]
@@ -64,6 +64,7 @@ pub enum Outcome {
 /// What is to be printed; `page` is there where one was asked for. A refusal leaves the tables all zero.
 pub struct Report {
     pub outcome: Outcome,
+    pub profile: Profile,
     pub page: Option<Page>,
     pub tables: [Vec<i32>; FILES],
 }
@@ -80,15 +81,21 @@ fn call(check: &mut Check, after: [i32; 3], room: usize, list: &mut Vec<Finding>
     Ok(page.verdict)
 }
 
-/// Checks a feed: one page as the check hands it out, or all findings; where it is refused, the same of its faults.
-pub fn check(feed: &Feed, page: Option<Page>, progress: &Progress) -> Result<Report, String> {
-    check_by(feed, page, PAGE_ROOM, progress)
+/// Checks a feed by the rules that are asked for: one page as the check hands it out, or all findings; where it is refused, the same of its faults.
+pub fn check(feed: &Feed, page: Option<Page>, profile: Profile, progress: &Progress) -> Result<Report, String> {
+    check_by(feed, page, profile, PAGE_ROOM, progress)
 }
 
 /// The same with pages of this room where no other is asked for.
-fn check_by(feed: &Feed, page: Option<Page>, room: usize, progress: &Progress) -> Result<Report, String> {
+fn check_by(
+    feed: &Feed,
+    page: Option<Page>,
+    profile: Profile,
+    room: usize,
+    progress: &Progress,
+) -> Result<Report, String> {
     let asked = page.and_then(|page| page.room);
-    let mut lent = Check::new(feed.slices()).map_err(|error| error.to_string())?;
+    let mut lent = Check::new(feed.slices()).map_err(|error| error.to_string())?.with_profile(profile);
     let start = page.map_or([0, 0, 0], |page| page.after);
     let mut list = Vec::new();
     let mut verdict = call(&mut lent, start, asked.unwrap_or(room), &mut list)?;
@@ -106,7 +113,7 @@ fn check_by(feed: &Feed, page: Option<Page>, room: usize, progress: &Progress) -
         }
         Verdict::Findings { total, .. } => Outcome::Findings { list, total },
     };
-    Ok(Report { outcome, page, tables: lent.into_tables() })
+    Ok(Report { outcome, profile, page, tables: lent.into_tables() })
 }
 
 /// As many faults as the files of a feed have room for: one on each line, on one more without an ending, and one of the whole.
@@ -153,19 +160,24 @@ mod tests {
         Feed::new(Place::default(), files.map(|file| file.map(<[u8]>::to_vec)), Unread::default())
     }
 
-    fn all(page: Option<Page>, room: usize) -> Result<Outcome, String> {
-        check_by(&feed(), page, room, &progress::silent()).map(|report| report.outcome)
+    fn all(page: Option<Page>, profile: Profile, room: usize) -> Result<Outcome, String> {
+        check_by(&feed(), page, profile, room, &progress::silent()).map(|report| report.outcome)
     }
 
+    /// Both calls ask for the same rules: with the profile for boards the line without times is one finding more.
     #[test]
     fn pages_of_any_room_give_the_whole_list() {
-        let findings = [(4, 3, 21), (4, 3, 30), (5, 3, 29), (5, 4, 21), (5, 4, 28)];
-        let list = findings.map(|(file, line, rule)| Finding { file, line, rule });
-        for room in [1, 2, 4, 5, 6, 7, PAGE_ROOM] {
-            let whole = Outcome::Findings { list: list.to_vec(), total: 5 };
-            assert_eq!(all(None, room), Ok(whole), "room {room}");
-            let rest = Outcome::Findings { list: list[2..].to_vec(), total: 5 };
-            assert_eq!(all(Some(Page { after: [4, 3, 30], room: None }), room), Ok(rest), "room {room}");
+        let findings = [(4, 3, 21), (4, 3, 30), (5, 3, 29), (5, 4, 21), (5, 4, 28), (5, 4, 60)];
+        let findings = findings.map(|(file, line, rule)| Finding { file, line, rule });
+        for (profile, total) in [(Profile::Plain, 5), (Profile::Boards, 6)] {
+            let list = &findings[..total];
+            for room in [1, 2, 4, 5, 6, 7, PAGE_ROOM] {
+                let whole = Outcome::Findings { list: list.to_vec(), total };
+                assert_eq!(all(None, profile, room), Ok(whole), "room {room}");
+                let rest = Outcome::Findings { list: list[2..].to_vec(), total };
+                let page = Page { after: [4, 3, 30], room: None };
+                assert_eq!(all(Some(page), profile, room), Ok(rest), "room {room}");
+            }
         }
     }
 
@@ -189,7 +201,7 @@ mod tests {
     fn one_call_gives_all_faults() {
         let fault = |(file, line, number, column)| Refusal { number, file, line, column };
         let list = [(1, 2, 12, Some(2)), (2, 0, 4, None), (2, 2, 12, Some(2))].map(fault);
-        let told = |page| check(&faulty(), page, &progress::silent()).map(|report| report.outcome);
+        let told = |page| check(&faulty(), page, Profile::Plain, &progress::silent()).map(|report| report.outcome);
         let refused = |faults: &[Refusal]| Ok(Outcome::Refused { first: list[1], faults: faults.to_vec(), total: 3 });
         let page = |after, room| Some(Page { after, room });
         assert_eq!(told(None), refused(&list));
@@ -205,7 +217,7 @@ mod tests {
     fn there_is_room_for_all_faults() {
         for file in [&b""[..], b"\t", b"\t\n", b"\t\n\t", b"\n\n\n\t"] {
             let feed = Feed::new(Place::default(), std::array::from_fn(|_| Some(file.to_vec())), Unread::default());
-            let report = check(&feed, None, &progress::silent()).expect("an answer");
+            let report = check(&feed, None, Profile::Boards, &progress::silent()).expect("an answer");
             let Outcome::Refused { faults, total, .. } = report.outcome else { panic!("not refused") };
             assert_eq!(faults.len(), total);
             assert!(total <= most_faults(&feed), "{file:?}");
@@ -214,6 +226,6 @@ mod tests {
 
     #[test]
     fn a_list_shorter_than_the_total_is_an_error() {
-        assert!(all(None, 0).is_err());
+        assert!(all(None, Profile::Plain, 0).is_err());
     }
 }

@@ -78,7 +78,7 @@ fn write_numbers(
 fn write_fault(out: &mut dyn Write, feed: &Feed, fault: &Refusal, words: &str, style: Style) -> io::Result<()> {
     let place = format!("{}{}", feed.place.of(NAMES[fault.file - 1]), text::numbers(fault.line, fault.column));
     writeln!(out, "{}: {words}", style.path(&place))?;
-    text::write_marked(out, feed, fault, style)
+    text::write_marked(out, feed, (fault.file, fault.line), fault.column.as_slice(), style)
 }
 
 /// What to do now.

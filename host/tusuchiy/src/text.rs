@@ -13,6 +13,7 @@ use std::collections::BTreeMap;
 use std::io::{self, Write};
 use std::os::unix::ffi::OsStrExt;
 use std::time::Duration;
+use tusuchiy::Profile;
 
 /// How many findings of a rule, or faults of a number, are shown unless all are asked for.
 pub const FEW: usize = 5;
@@ -54,12 +55,21 @@ pub fn write_folder(out: &mut dyn Write, feed: &Feed) -> io::Result<()> {
     }
 }
 
-/// The verdict in a word or two.
+/// The verdict in a word or two, and the profile that it goes by.
 pub fn verdict(report: &Report, style: Style) -> String {
-    match &report.outcome {
+    let word = match &report.outcome {
         Outcome::Accepted => style.good("accepted"),
         Outcome::Findings { total, .. } => style.bad(&format!("findings: {total}")),
         Outcome::Refused { .. } => style.bad("refused"),
+    };
+    word + &asked(report.profile)
+}
+
+/// The profile that was asked for, behind the verdict; nothing where none was.
+pub fn asked(profile: Profile) -> String {
+    match profile {
+        Profile::Plain => String::new(),
+        profile => format!(" (profile {profile})"),
     }
 }
 
@@ -118,7 +128,7 @@ pub fn write_refusal(
     let place = style.path(&format!("{path}{}", numbers(line, column)));
     let words = if about.words.is_empty() { String::new() } else { format!(": {}", about.words) };
     writeln!(out, "{place}: refusal {number}: {}{words}", meaning(number))?;
-    write_marked(out, feed, refusal, style)
+    write_marked(out, feed, (refusal.file, line), column.as_slice(), style)
 }
 
 /// A line, unless it is the whole file, and a column where there is one, as editors take them.
@@ -135,10 +145,15 @@ fn write_line(out: &mut dyn Write, feed: &Feed, file: usize, line: usize) -> io:
     writeln!(out, "    {}{more}", safe::text(shown))
 }
 
-/// The line of a refusal, with carets under the column that is refused.
-pub fn write_marked(out: &mut dyn Write, feed: &Feed, refusal: &Refusal, style: Style) -> io::Result<()> {
-    let Refusal { file, line, column, .. } = *refusal;
-    let Some(marked) = column.and_then(|column| carets::under(feed.line(file, line)?, column)) else {
+/// A line with carets under the columns that are refused or break a rule of a profile, if any.
+pub fn write_marked(
+    out: &mut dyn Write,
+    feed: &Feed,
+    (file, line): (usize, usize),
+    columns: &[usize],
+    style: Style,
+) -> io::Result<()> {
+    let Some(marked) = feed.line(file, line).and_then(|text| carets::under(text, columns)) else {
         return write_line(out, feed, file, line);
     };
     writeln!(out, "    {}", marked.text)?;
@@ -160,8 +175,7 @@ fn write_page(
     page: &Page,
     style: Style,
 ) -> io::Result<()> {
-    let words = |finding: &Finding| format!("rule {}: {}", finding.rule, facts.about(finding).words);
-    write_findings(out, feed, list.iter(), style, words)?;
+    write_findings(out, feed, facts, list.iter(), style, |finding| format!("rule {}: ", finding.rule))?;
     let [file, line, rule] = page.after;
     writeln!(out, "page after {file},{line},{rule}: {} of {total} findings", list.len())
 }
@@ -174,7 +188,7 @@ fn write_rules(out: &mut dyn Write, feed: &Feed, facts: &Facts, list: &[Finding]
         writeln!(out, "\n{}", layout.style.heading(&heading))?;
         let shown = if layout.all { count } else { count.min(FEW) };
         let findings = list.iter().filter(|finding| finding.rule == rule).take(shown);
-        write_findings(out, feed, findings, layout.style, |finding| facts.about(finding).words)?;
+        write_findings(out, feed, facts, findings, layout.style, |_| String::new())?;
         write_left_out(out, count - shown)?;
     }
     writeln!(out)?;
@@ -189,18 +203,20 @@ pub fn write_left_out(out: &mut dyn Write, count: usize) -> io::Result<()> {
     writeln!(out, "and {count} more, which --all shows")
 }
 
-/// The place of each finding with words about it, and its line.
+/// The place of each finding with words about it, behind those that it is called by, and its line.
 fn write_findings<'a>(
     out: &mut dyn Write,
     feed: &Feed,
+    facts: &Facts,
     findings: impl Iterator<Item = &'a Finding>,
     style: Style,
-    words: impl Fn(&Finding) -> String,
+    called: impl Fn(&Finding) -> String,
 ) -> io::Result<()> {
     for finding in findings {
+        let about = facts.about(finding);
         let place = format!("{}{}", feed.place.of(NAMES[finding.file - 1]), numbers(finding.line, None));
-        writeln!(out, "{}: {}", style.path(&place), words(finding))?;
-        write_line(out, feed, finding.file, finding.line)?;
+        writeln!(out, "{}: {}{}", style.path(&place), called(finding), about.words)?;
+        write_marked(out, feed, (finding.file, finding.line), &facts.marked(finding, &about), style)?;
     }
     Ok(())
 }

@@ -98,6 +98,147 @@ FEED/trips.txt:3: trip_id \"U\" has no line in stop_times.txt
     assert_eq!(out(&output), wanted.replace("FEED", &feed));
 }
 
+/// The feed for boards: accepted as any other, and with the profile four findings; order, words and carets by hand.
+#[test]
+fn the_example_for_boards() {
+    let feed = example("boards");
+    for plain in [&["check", &feed][..], &["check", "--profile", "plain", &feed], &["check", &feed, "--profile=plain"]]
+    {
+        let output = run(plain);
+        assert_eq!((status(&output), said(&output)), (0, ""), "{plain:?}");
+        assert!(out(&output).starts_with("accepted\nrecords read: stops.txt 7, "), "{}", out(&output));
+    }
+    let output = run(&["check", "--profile", "boards", &feed]);
+    assert_eq!((status(&output), said(&output)), (1, ""));
+    let wanted = "\
+findings: 4 (profile boards)
+
+rule 60: the line isn't timed (1)
+FEED/stop_times.txt:3: arrival_time and departure_time are empty
+    42-late,,,MILL,2,,
+            ^^
+
+rule 61: pickup or drop-off has to be arranged (1)
+FEED/stop_times.txt:4: pickup_type is 2 (must phone the agency); drop_off_type is 3 (must arrange with the driver)
+    42-late,21:44:00,21:44:00,FARM,3,2,3
+                                     ^ ^
+
+rule 62: a time is 48:00:00 or later (2)
+FEED/stop_times.txt:8: departure_time is 48:10:00, wanted: before 48:00:00
+    COAST-1,47:40:00,48:10:00,CAPE,3,,
+                     ^^^^^^^^
+FEED/stop_times.txt:9: arrival_time is 58:30:00 and departure_time is 58:30:00, wanted: before 48:00:00
+    COAST-1,58:30:00,58:30:00,NORTH,4,1,
+            ^^^^^^^^ ^^^^^^^^
+
+`tusuchiy explain 60` says more
+";
+    assert_eq!(out(&output), wanted.replace("FEED", &feed));
+}
+
+/// With the profile each verdict says so; findings of other rules have their words and no carets, as without it.
+#[test]
+fn the_profile_stands_on_the_verdict() {
+    let cases = [("boards", 1, "findings: 4"), ("findings", 1, "findings: 6"), ("refused", 2, "refused")];
+    for (name, code, verdict) in cases {
+        for words in [&["check", "--quiet"][..], &["check"], &["check", "--room", "0"]] {
+            let output = run(&[words, &["--profile", "boards", &example(name)]].concat());
+            let first = out(&output).lines().next().expect("a line");
+            assert_eq!((status(&output), first), (code, &format!("{verdict} (profile boards)")[..]), "{words:?}");
+        }
+    }
+    let [plain, boards] = ["plain", "boards"].map(|profile| {
+        let output = run(&["check", "--profile", profile, &example("findings")]);
+        out(&output).lines().skip(1).map(str::to_string).collect::<Vec<_>>()
+    });
+    let end = plain.len() - 1;
+    assert_eq!(boards[..end], plain[..end], "all but the hint, behind what is added");
+    let added = [
+        "rule 60: the line isn't timed (1)",
+        &format!("{}/stop_times.txt:4: arrival_time and departure_time are empty", example("findings")),
+        "    T,,,C,2",
+        "      ^^",
+        "",
+        "`tusuchiy explain 21` says more",
+    ];
+    assert_eq!(boards[end..], added);
+}
+
+/// A feed that a board can show is accepted with the profile, and the verdict says by which rules.
+#[test]
+fn a_feed_that_a_board_can_show() {
+    let feed = example("by-date");
+    let output = run(&["check", "--profile", "boards", &feed]);
+    assert_eq!((status(&output), said(&output)), (0, ""));
+    assert!(out(&output).starts_with("accepted (profile boards)\nrecords read: "), "{}", out(&output));
+    let coloured = run(&["check", "--profile=boards", "--color=always", &feed]);
+    assert!(out(&coloured).starts_with("\u{1b}[1;32maccepted\u{1b}[0m (profile boards)\n"), "{}", out(&coloured));
+    let report = document(&["--profile", "boards", &feed]);
+    assert_eq!(["verdict", "profile"].map(|name| report.get(name).text()), ["accepted", "boards"]);
+}
+
+/// Pages of the list that was asked for: a starting place may be a finding that only the profile has, with the profile or without.
+#[test]
+fn pages_with_the_profile() {
+    let feed = example("findings");
+    let page = |words: &[&str]| places(&document(&[words, &[&feed]].concat()));
+    let all = [[4, 3, 21], [4, 3, 30], [5, 3, 29], [5, 4, 21], [5, 4, 28], [5, 4, 60]];
+    let boards = ["--profile", "boards"];
+    assert_eq!(page(&boards), all);
+    let mut joined: Vec<[i64; 3]> = Vec::new();
+    for turn in 0.. {
+        let [file, line, rule] = joined.last().copied().unwrap_or([0, 0, 0]);
+        let after = format!("--after={file},{line},{rule}");
+        let next = page(&[&boards[..], &[&after, "--room=1"]].concat());
+        assert_eq!(next.len(), usize::from(turn < all.len()), "page {turn}");
+        if next.is_empty() {
+            break;
+        }
+        joined.extend(next);
+    }
+    assert_eq!(joined, all);
+    assert_eq!(page(&["--after=5,4,28"]), [[0; 3]; 0]);
+    assert_eq!(page(&[&boards[..], &["--after=5,4,28"]].concat()), all[5..]);
+    assert_eq!(page(&["--after=5,3,62"]), all[3..5]);
+    let output = run(&["check", &feed, "--profile", "boards", "--after", "5,4,28"]);
+    let wanted = "rule 60: arrival_time and departure_time are empty\n    T,,,C,2\n      ^^\npage after 5,4,28: 1 of 6 findings\n";
+    assert!(out(&output).ends_with(wanted), "{}", out(&output));
+}
+
+/// Whatever the columns' order, each field is marked; a line that doesn't fit the row is cut around them.
+#[test]
+fn fields_of_the_profile_are_marked() {
+    let folder = Folder::of("boards", "marked");
+    let note = "x".repeat(60);
+    let times = format!(
+        "drop_off_type,note,departure_time,trip_id,stop_id,stop_sequence,arrival_time,pickup_type\n\
+         ,,21:30:00,42-late,PORT,1,21:30:00,\n\
+         2,{note},\"21:31:00\",42-late,MILL,2,,1\n\
+         ,{note},48:00:00,42-late,CHURCH,3,47:59:59,0\n\
+         ,,20:00:00,COAST-1,PORT,1,20:00:00,\n\
+         3,,20:01:00,COAST-1,PORT,2,20:01:00,2\n\
+         2,,20:02:00,COAST-1,PORT,3,20:02:00,1\n"
+    );
+    folder.put("stop_times.txt", times.as_bytes());
+    let output = run(&["check", "--profile", "boards", folder.path(), "--after", "5,3,59"]);
+    let lines: Vec<&str> = out(&output).lines().filter(|line| line.starts_with("    ")).collect();
+    // 67 columns are left beside the marks of a cut: what stands behind the field, the field, and what fits before it.
+    let x = |count: usize| "x".repeat(count);
+    let wanted = [
+        format!("    ... {},\"21:31:00\",42-late,MILL,2,,1", x(67 - 29)),
+        format!("{}^", " ".repeat(8 + 65)),
+        format!("    2,{},\"21: ...", x(60)),
+        "    ^".to_string(),
+        format!("    ... {},48:00:00,42-late,CHURCH,3,47:59:59,0", x(67 - 37)),
+        format!("{}^^^^^^^^", " ".repeat(8 + 31)),
+        "    3,,20:01:00,COAST-1,PORT,2,20:01:00,2".to_string(),
+        "    ^                                   ^".to_string(),
+        "    2,,20:02:00,COAST-1,PORT,3,20:02:00,1".to_string(),
+        "    ^".to_string(),
+    ];
+    assert_eq!(lines, wanted, "{}", out(&output));
+}
+
 #[test]
 fn the_refused_example() {
     let feed = example("refused");
@@ -132,6 +273,25 @@ fn places(report: &Json) -> Vec<[i64; 3]> {
     report.get("findings").list().iter().map(|found| ["file", "line", "rule"].map(|name| number(found, name))).collect()
 }
 
+/// The members of a document, in their order.
+const MEMBERS: [&str; 15] = [
+    "version",
+    "verdict",
+    "profile",
+    "refusal",
+    "faults_total",
+    "faults",
+    "total",
+    "written",
+    "page",
+    "findings",
+    "totals",
+    "feed",
+    "folder",
+    "records",
+    "unread",
+];
+
 #[test]
 fn json_of_findings() {
     let feed = example("findings");
@@ -139,25 +299,9 @@ fn json_of_findings() {
     assert_eq!(status(&output), 1);
     assert_eq!(out(&output).matches('\n').count(), 1, "one document, one line");
     let report = json::read(out(&output));
-    let members = [
-        "version",
-        "verdict",
-        "refusal",
-        "faults_total",
-        "faults",
-        "total",
-        "written",
-        "page",
-        "findings",
-        "totals",
-        "feed",
-        "folder",
-        "records",
-        "unread",
-    ];
-    assert_eq!(report.names(), members);
+    assert_eq!(report.names(), MEMBERS);
     assert_eq!(report.get("version").number(), 3);
-    assert_eq!(report.get("verdict").text(), "findings");
+    assert_eq!(["verdict", "profile"].map(|name| report.get(name).text()), ["findings", "plain"]);
     assert_eq!((report.get("total").number(), report.get("written").number()), (5, 5));
     assert_eq!((report.get("refusal"), report.get("page")), (&Json::Null, &Json::Null));
     assert_eq!(places(&report), [[4, 3, 21], [4, 3, 30], [5, 3, 29], [5, 4, 21], [5, 4, 28]]);
@@ -216,7 +360,7 @@ fn one_page() {
     assert_eq!(report.get("page").get("room"), &Json::Null);
     assert!(places(&page(&["--after", "5,4,28"])).is_empty());
     assert!(places(&page(&["--room", "0"])).is_empty());
-    assert_eq!(places(&page(&["--after", "-1,99,99", "--room", "1048576"])).len(), 5);
+    assert_eq!(places(&page(&["--after", "-1,99,99", "--room", "1179648"])).len(), 5);
     let output = run(&["check", &feed, "--after", "4,3,30", "--room", "1"]);
     let wanted = format!("findings: 5\n{feed}/stop_times.txt:3: rule 29: arrival_time 07:59:59 is before ");
     assert!(out(&output).starts_with(&wanted), "{}", out(&output));
@@ -259,12 +403,14 @@ fn the_documented_examples_are_true() {
 #[test]
 fn the_readmes_examples_are_true() {
     let page = include_str!("../../../README.md");
-    for name in ["refused", "faults"] {
-        let shown = page.split(&format!("    $ ./tusuchiy check examples/{name}\n")).nth(1).expect("an example");
+    let runs: [(&[&str], &str); 3] = [(&[], "refused"), (&[], "faults"), (&["--profile", "boards"], "boards")];
+    for (options, name) in runs {
+        let words = [&["check"], options].concat();
+        let shown = page.split(&format!("    $ ./tusuchiy {} examples/{name}\n", words.join(" "))).nth(1);
         // An example ends where the page goes on without four blanks.
-        let shown = shown.lines().take_while(|line| line.is_empty() || line.starts_with("    "));
+        let shown = shown.expect("an example").lines().take_while(|line| line.is_empty() || line.starts_with("    "));
         let shown: Vec<&str> = shown.map(|line| line.strip_prefix("    ").unwrap_or(line)).collect();
-        let output = run(&["check", &example(name)]);
+        let output = run(&[&words[..], &[&example(name)]].concat());
         let said = out(&output).replace(&example(name), &format!("examples/{name}"));
         assert_eq!(shown.join("\n").trim_end(), said.trim_end());
     }
@@ -388,16 +534,19 @@ fn escapes_go_to_able_terminals_only() {
 
 #[test]
 fn explain_prints_the_clerks_page() {
-    for number in (1..=14).chain(20..=31).chain(40..=46) {
+    for number in (1..=14).chain(20..=31).chain(40..=46).chain(60..=62) {
         let output = run(&["explain", &number.to_string()]);
         assert_eq!(status(&output), 0);
-        let word = if (20..=31).contains(&number) { "Rule" } else { "Refusal" };
+        let word = if matches!(number, 20..=31 | 60..=62) { "Rule" } else { "Refusal" };
         assert!(out(&output).starts_with(&format!("## {word} {number}: ")), "{}", out(&output));
         assert_eq!(out(&output).matches("\n#").count(), 0);
         assert!(out(&output).contains("**How to mend it.**"));
     }
-    for bad in ["0", "15", "19", "32", "39", "47"] {
+    for bad in ["0", "15", "19", "32", "39", "47", "59", "63"] {
         assert_cannot(&["explain", bad], &["there is no refusal or rule"]);
+    }
+    for number in 60..=62 {
+        assert!(out(&run(&["explain", &number.to_string()])).contains("ested with the profile for boards only"));
     }
 }
 
@@ -411,12 +560,19 @@ fn bad_words_on_the_command_line() {
     assert_cannot(&["check", &feed, "--fast"], &["unknown option '--fast'"]);
     assert_cannot(&["check", &feed, "-x"], &["unknown option '-x'"]);
     assert_cannot(&["check", &feed, "--room"], &["--room needs a value"]);
-    assert_cannot(&["check", &feed, "--room", "-1"], &["--room takes a number from 0 to 1048576, and not '-1'"]);
-    assert_cannot(&["check", &feed, "--room", "1048577"], &["--room takes a number from 0 to 1048576"]);
+    assert_cannot(&["check", &feed, "--room", "-1"], &["--room takes a number from 0 to 1179648, and not '-1'"]);
+    assert_cannot(&["check", &feed, "--room", "1179649"], &["--room takes a number from 0 to 1179648"]);
     assert_cannot(&["check", &feed, "--json=yes"], &["--json takes no value"]);
     assert_cannot(&["check", &feed, "--after", "1,2"], &["--after takes three numbers"]);
     assert_cannot(&["check", &feed, "--after", "1,2,99999999999"], &["--after takes three numbers"]);
     assert_cannot(&["check", &feed, "--json", "--quiet"], &["don't go together"]);
+    let wrong = "--profile takes plain, boards, and not ";
+    assert_cannot(&["check", &feed, "--profile", "board"], &[&format!("{wrong}'board'")]);
+    assert_cannot(&["report", &feed, "--profile="], &[&format!("{wrong}''")]);
+    assert_cannot(&["check", &feed, "--profile"], &["--profile needs a value"]);
+    assert_cannot(&["check", "--profile=plain", &feed, "--profile", "boards"], &["--profile stands twice"]);
+    assert_cannot(&["index", &feed, "--profile", "plain"], &["index takes no --profile"]);
+    assert_cannot(&["explain", "60", "--profile", "boards"], &["explain takes no --profile"]);
     assert_cannot(&["index"], &["index needs a feed"]);
     assert_cannot(&["index", &feed, "--room", "3"], &["index takes no --room"]);
     assert_cannot(&["index", &feed, &feed, "-o", "x"], &["--output takes one feed"]);
@@ -433,8 +589,8 @@ fn bad_words_on_the_command_line() {
 fn help_and_version_are_there() {
     let help = run(&["--help"]);
     assert_eq!(status(&help), 0);
-    let words = ["check FEED", "--json", "--after", "--room", "--quiet", "index FEED", "--check", "explain"];
-    for word in words.into_iter().chain(["Exit status", "FILE:LINE:COLUMN"]) {
+    let words = ["check FEED", "--json", "--after", "--room", "--quiet", "--profile NAME", "index FEED", "--check"];
+    for word in words.into_iter().chain(["explain", "Exit status", "FILE:LINE:COLUMN"]) {
         assert!(out(&help).contains(word), "{word}");
     }
     for words in [&["-h"][..], &["check", "--help"], &["check", "-h"], &["explain", "--help"], &["help"]] {
@@ -442,7 +598,7 @@ fn help_and_version_are_there() {
     }
     for words in [&["--version"][..], &["-V"], &["check", "--version"]] {
         let output = run(words);
-        assert_eq!((status(&output), out(&output)), (0, "tusuchiy 0.8.0\n"), "{words:?}");
+        assert_eq!((status(&output), out(&output)), (0, "tusuchiy 0.9.0\n"), "{words:?}");
     }
 }
 
@@ -470,6 +626,10 @@ fn bash_completes() {
     assert_eq!(complete("tusuchiy check --js", 2), "--json");
     assert_eq!(complete("tusuchiy check --fo", 2), "--follow-links");
     assert_eq!(complete("tusuchiy check --color n", 3), "never");
+    assert_eq!(complete("tusuchiy report --pro", 2), "--profile");
+    assert_eq!(complete("tusuchiy check --profile ''", 3), "plain boards");
+    assert_eq!(complete("tusuchiy check --profile b", 3), "boards");
+    assert_eq!(complete("tusuchiy index --pro", 2), "");
     assert_eq!(complete("tusuchiy in", 1), "index");
     assert_eq!(complete("tusuchiy index --ch", 2), "--check");
     assert_eq!(complete("tusuchiy check --ch", 2), "");
@@ -484,12 +644,13 @@ fn the_manual_page_is_well_formed() {
     let man = Command::new("man").args(["--warnings", "-E", "UTF-8", "-l", &folder.at("tusuchiy.1")]).output();
     if let Ok(output) = man {
         assert_eq!(String::from_utf8_lossy(&output.stderr), "");
-        for word in ["NAME", "--follow-links", "INDEX FEED", "--check", "EXIT STATUS", "couldn't run"] {
+        for word in ["NAME", "--follow-links", "--profile", "INDEX FEED", "--check", "EXIT STATUS", "couldn't run"] {
             assert!(String::from_utf8_lossy(&output.stdout).contains(word), "{word}");
         }
     }
     for kind in ["complete-fish", "complete-zsh"] {
-        assert!(out(&run(&["--generate", kind])).contains("follow-links"));
+        let script = run(&["--generate", kind]);
+        assert!(["follow-links", "profile", "plain boards"].iter().all(|word| out(&script).contains(word)), "{kind}");
     }
 }
 

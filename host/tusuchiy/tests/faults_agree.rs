@@ -47,7 +47,8 @@ fn by_archive(case: &Case) -> Outcome {
 fn refusal(files: &Files) -> Option<Fault> {
     let lent = files.each_ref().map(|file| &file[..]);
     let mut tables = tables(files, 0);
-    let answer = tusuchiy::check_here(lent, tables.each_mut().map(|table| &mut table[..]), &mut [], [0, 0, 0]);
+    let tables = tables.each_mut().map(|table| &mut table[..]);
+    let answer = tusuchiy::check_here(lent, tables, &mut [], [0, 0, 0], tusuchiy::Profile::Plain);
     match answer.verdict().expect("a verdict") {
         Verdict::Refused(fault) => {
             let column = fault.column.map_or(0, |column| column.get() as i32);

@@ -51,12 +51,15 @@ fn put_anything(folder: &Folder, path: &str, good: &[u8], random: &mut Random) {
     }
 }
 
-/// Runs `check --json` on feeds; each document that is there parses.
-fn check_all(feeds: &[String], what: &str) {
-    let output = command().args(["check", "--json"]).args(feeds).output().expect("the command runs");
-    assert_decent(&output, what);
+/// Runs `check --json` on feeds with a profile, by turns; each document that is there parses and names it.
+fn check_all(feeds: &[String], seed: u64) {
+    let (what, profile) = (format!("seed {seed}"), ["plain", "boards"][seed as usize % 2]);
+    let words = ["check", "--json", "--profile", profile];
+    let output = command().args(words).args(feeds).output().expect("the command runs");
+    assert_decent(&output, &what);
     let text = String::from_utf8(output.stdout).expect("UTF-8");
-    let documents = text.lines().map(json::read).count();
+    let documents = text.lines().map(json::read).filter(|document| document.get("profile").text() == profile).count();
+    assert_eq!(documents, text.lines().count(), "{what}");
     let unread = String::from_utf8_lossy(&output.stderr).lines().count();
     assert!(documents <= feeds.len() && documents + unread >= feeds.len(), "{what}: {documents} documents");
 }
@@ -77,9 +80,12 @@ fn random_folders() {
                 folder.at(&place.to_string())
             })
             .collect();
-        check_all(&feeds, &format!("seed {seed}"));
-        let output = command().arg("check").arg(&feeds[0]).output().expect("the command runs");
-        assert_decent(&output, &format!("seed {seed}, text"));
+        check_all(&feeds, seed);
+        for profile in ["plain", "boards"] {
+            let words = ["check", "--profile", profile, &feeds[0]];
+            let output = command().args(words).output().expect("the command runs");
+            assert_decent(&output, &format!("seed {seed}, text, {profile}"));
+        }
     }
 }
 
@@ -108,7 +114,7 @@ fn random_zip_files() {
                 folder.at(&format!("{place}.zip"))
             })
             .collect();
-        check_all(&feeds, &format!("seed {seed}"));
+        check_all(&feeds, seed);
     }
 }
 
@@ -186,6 +192,10 @@ const WORDS: &[&str] = &[
     "--color=always",
     "never",
     "--follow-links",
+    "--profile",
+    "--profile=boards",
+    "plain",
+    "boards",
     "--help",
     "-V",
     "--",

@@ -6,19 +6,18 @@ use common::example_files;
 use std::num::NonZeroU32;
 use tusuchiy::index::{self, Refused};
 use tusuchiy::{faults, table_sizes, Check, Fault, FaultsAnswer, File, Finding};
-use tusuchiy::{IndexAnswer, IndexRefusal, Place, Refusal, Rule, Verdict};
+use tusuchiy::{IndexAnswer, IndexRefusal, Place, Profile, Refusal, Rule, Verdict};
 
 fn slices(files: &[Vec<u8>; 6]) -> [&[u8]; 6] {
     files.each_ref().map(|file| &file[..])
 }
 
-/// What the model finds.
-fn wanted(files: &[Vec<u8>; 6]) -> Vec<Finding> {
+/// What the model finds, with the profile for boards or without it.
+fn wanted(files: &[Vec<u8>; 6], profile: model::Profile) -> Vec<Finding> {
     let mut tables = table_sizes(slices(files)).map(|size| vec![0; size]);
     let mut list = vec![0; 300];
-    let model::Answer::Findings { written, total } = model::check(files, &mut tables, &mut list, [0, 0, 0]) else {
-        panic!("no findings")
-    };
+    let answer = model::check(files, &mut tables, &mut list, [0, 0, 0], profile);
+    let model::Answer::Findings { written, total } = answer else { panic!("no findings") };
     assert_eq!(written, total);
     let finding = |numbers: &[i32]| {
         let [file, rule] = [0, 2].map(|place| numbers[place] as usize);
@@ -31,10 +30,19 @@ fn wanted(files: &[Vec<u8>; 6]) -> Vec<Finding> {
 #[test]
 fn pages_of_any_room_join() {
     let files = example_files("findings");
-    let wanted = wanted(&files);
+    let profiles = [(model::Profile::Plain, Profile::Plain), (model::Profile::Boards, Profile::Boards)];
+    let totals = profiles.map(|(by_model, profile)| {
+        let wanted = wanted(&files, by_model);
+        pages_join(Check::new(slices(&files)).expect("memory").with_profile(profile), &wanted);
+        wanted.len()
+    });
+    // Document 01's five, and the line without times.
+    assert_eq!(totals, [5, 6]);
+}
+
+/// Fails where pages of a feed don't join to these findings, more than three, by any of its calls.
+fn pages_join(mut check: Check, wanted: &[Finding]) {
     let total = wanted.len();
-    assert!(total > 3);
-    let mut check = Check::new(slices(&files)).expect("memory");
     assert_eq!(check.verdict().expect("an answer"), Verdict::Findings { written: 0, total });
     for room in [0, 1, 2, 3, total - 1, total, total + 1, 1000] {
         let told: Result<Vec<Finding>, _> = check.findings_by(room).collect();
@@ -54,7 +62,8 @@ fn from_a_thread_with_a_small_stack() {
     let call = || {
         let files = cases::large::feed(20);
         let mut tables = cases::large::tables(&files, 5);
-        tusuchiy::check(slices(&files), tables.each_mut().map(|table| &mut table[..]), &mut [3; 10], [0, 0, 0])
+        let lent = tables.each_mut().map(|table| &mut table[..]);
+        tusuchiy::check(slices(&files), lent, &mut [3; 10], [0, 0, 0], Profile::Plain)
     };
     let answer = small.spawn(call).expect("a thread").join().expect("an answer");
     assert_eq!(answer.verdict(), Some(Verdict::Accepted));
@@ -70,6 +79,43 @@ fn a_feed_that_is_refused_has_a_fault_and_no_findings() {
     assert_eq!(fault.to_string(), format!("stop_times.txt:4:3: refusal 13: {}", refusal.meaning()));
     assert!(check.findings().next().is_none());
     assert!(check.tables().iter().flatten().all(|&number| number == 0), "a refusal writes nothing");
+}
+
+/// The feed for boards, by hand: accepted without the profile, four findings with it, the same tables; a check that is asked says what it asks for.
+#[test]
+fn the_profile_is_part_of_the_call() {
+    let files = example_files("boards");
+    let mut plain = Check::new(slices(&files)).expect("memory");
+    assert_eq!((plain.profile(), plain.verdict().expect("an answer")), (Profile::Plain, Verdict::Accepted));
+    let mut boards = Check::new(slices(&files)).expect("memory").with_profile(Profile::Boards);
+    assert_eq!(boards.profile(), Profile::Boards);
+    let told: Vec<String> = boards.findings_by(1).map(|finding| finding.expect("a finding").to_string()).collect();
+    let wanted = [
+        "stop_times.txt:3: rule 60: the line isn't timed",
+        "stop_times.txt:4: rule 61: pickup or drop-off has to be arranged",
+        "stop_times.txt:8: rule 62: a time is 48:00:00 or later",
+        "stop_times.txt:9: rule 62: a time is 48:00:00 or later",
+    ];
+    assert_eq!(told, wanted);
+    assert_eq!(plain.tables(), boards.tables());
+    assert_eq!(boards.with_profile(Profile::Plain).verdict().expect("an answer"), Verdict::Accepted);
+}
+
+/// Refusals, and what they leave alone, don't depend on the profile.
+#[test]
+fn a_refusal_is_the_same_with_the_profile() {
+    for name in ["refused", "faults"] {
+        let files = example_files(name);
+        let told = Profile::ALL.map(|profile| {
+            let (mut tables, mut list) = (File::ALL.map(|file| vec![77; file.width() * 10]), [77; 30]);
+            let lent = tables.each_mut().map(|table| &mut table[..]);
+            let answer = tusuchiy::try_check(slices(&files), lent, &mut list, [0, 0, 0], profile).expect("a thread");
+            assert!(matches!(answer.verdict(), Some(Verdict::Refused(_))), "{name}");
+            assert!(tables.iter().flatten().chain(&list).all(|&number| number == 77), "{name}");
+            answer
+        });
+        assert_eq!(told[0], told[1], "{name}");
+    }
 }
 
 /// The faults of `examples/faults`, by hand: file, line, number, column.
@@ -164,7 +210,8 @@ fn a_file_that_is_not_supplied_leaves_its_table() {
     for (name, file) in [("feed", File::CalendarDates), ("by-date", File::Calendar)] {
         let files = example_files(name);
         let mut tables = File::ALL.map(|file| vec![77; file.width() * 10]);
-        let answer = tusuchiy::check(slices(&files), tables.each_mut().map(|table| &mut table[..]), &mut [], [0, 0, 0]);
+        let lent = tables.each_mut().map(|table| &mut table[..]);
+        let answer = tusuchiy::check(slices(&files), lent, &mut [], [0, 0, 0], Profile::Plain);
         assert_eq!(answer.verdict(), Some(Verdict::Accepted), "{name}");
         for other in File::ALL {
             let table = &tables[other.number() - 1];

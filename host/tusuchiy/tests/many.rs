@@ -39,6 +39,28 @@ fn one_verdict_a_line_and_the_worst_status() {
     }
 }
 
+/// With the profile for boards each line says so, and so does each document; a feed is judged as if it were alone.
+#[test]
+fn the_profile_of_many_feeds() {
+    let feeds = ["boards", "by-date", "findings", "refused"].map(example);
+    let feeds: Vec<&str> = feeds.iter().map(String::as_str).collect();
+    let refused = REFUSED.replacen("refused", "refused (profile boards)", 1);
+    let verdicts =
+        ["findings: 4 (profile boards)", "accepted (profile boards)", "findings: 6 (profile boards)", &refused];
+    let wanted: String = feeds.iter().zip(verdicts).map(|(feed, verdict)| format!("{feed}: {verdict}\n")).collect();
+    for options in [&[][..], &["--jobs", "1"], &["--quiet"]] {
+        let output = run(&[&["check", "--profile=boards"], options, &feeds].concat());
+        assert_eq!((status(&output), out(&output), said(&output)), (2, &wanted[..], ""), "{options:?}");
+    }
+    let output = run(&[&["check", "--profile=boards", "--json"], &feeds[..]].concat());
+    for (line, feed) in out(&output).lines().zip(&feeds) {
+        let document = json::read(line);
+        assert_eq!(document.get("profile").text(), "boards");
+        assert_eq!(document, json::read(out(&run(&["check", "--json", "--profile", "boards", feed]))), "{feed}");
+    }
+    assert_eq!(out(&output).lines().count(), 4);
+}
+
 /// One file of services is enough, and without any the line says what to supply.
 #[test]
 fn services_in_a_line() {

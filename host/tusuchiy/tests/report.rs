@@ -15,15 +15,68 @@ fn the_status_is_the_verdict_and_the_page_is_the_file() {
         ("refused", 2, "refused"),
         ("faults", 2, "refused"),
         ("by-date", 0, "accepted"),
+        ("boards", 0, "accepted"),
     ];
-    for (name, wanted, verdict) in examples {
-        let output = run(&["report", &example(name), "-o", &path]);
+    let with_boards = [
+        ("boards", 1, "findings: 4 (profile boards)"),
+        ("refused", 2, "refused (profile boards)"),
+        ("by-date", 0, "accepted (profile boards)"),
+    ];
+    let all = examples.map(|case| (case, "plain")).into_iter().chain(with_boards.map(|case| (case, "boards")));
+    for ((name, wanted, verdict), profile) in all {
+        let words = ["report", "--profile", profile, &example(name)];
+        let output = run(&[&words[..], &["-o", &path]].concat());
         assert_eq!((status(&output), out(&output), said(&output)), (wanted, &format!("{verdict}\n")[..], ""));
         let page = fs::read_to_string(&path).expect("a page");
-        let output = run(&["report", &example(name)]);
+        let output = run(&words);
         assert_eq!((status(&output), out(&output)), (wanted, &page[..]));
         assert!(page.starts_with("<!DOCTYPE html>") && page.ends_with("</html>\n"), "{name}");
         assert!(!page.contains("{{"), "{name}");
+    }
+}
+
+/// Whoever gets a page forwarded sees by which rules it was made: its title and its head name the profile, and without one say nothing of it.
+#[test]
+fn the_profile_stands_in_the_head() {
+    let page = |profile: &[&str], name: &str| out(&run(&[&["report", &example(name)], profile].concat())).to_string();
+    let head = |page: &str| page.split("</header>").next().expect("a head").to_string();
+    for (name, verdict) in [("boards", "4 findings"), ("by-date", "accepted"), ("refused", "refused, 1 fault")] {
+        let plain = page(&[], name);
+        assert_eq!(plain, page(&["--profile", "plain"], name));
+        assert!(!head(&plain).contains("rofile"), "{name}");
+        let boards = head(&page(&["--profile", "boards"], name));
+        assert!(boards.contains(&format!("{}: {verdict} (profile boards)</title>", example(name))), "{name}: {boards}");
+        let when = if name == "refused" { "once the files can be read, rules 60 to 62" } else { "were tested beside" };
+        let (said, _) =
+            boards.split_once("id=\"profile\">").expect("the profile").1.split_once("</p>").expect("its end");
+        assert!(
+            said.starts_with("Profile boards: ") && said.contains("rules 60 to 62") && said.contains(when),
+            "{said}"
+        );
+    }
+    // A feed that is accepted without the profile is told from one that isn't.
+    for (name, said) in [("boards", "read and fit together, but a departure board"), ("findings", "something in them")]
+    {
+        let boards = head(&page(&["--profile", "boards"], name));
+        assert!(boards.contains(said), "{name}: {boards}");
+    }
+}
+
+/// What breaks rules 60 to 62 is marked, and nothing else of the line; the trips of 60 and 62 are drawn.
+#[test]
+fn fields_of_the_profile_are_marked() {
+    let page = run(&["report", "--profile", "boards", &example("boards")]);
+    let rows = [
+        "[[5, 3, [\"42-late,\", [\"\", \"arrival_time\"], \",\", [\"\", \"departure_time\"], \",MILL,2,,\"]]], 0]",
+        "[[5, 4, [\"42-late,21:44:00,21:44:00,FARM,3,\", [\"2\", \"pickup_type\"], \",\", [\"3\", \"drop_off_type\"]]]], -1]",
+        "[[5, 8, [\"COAST-1,47:40:00,\", [\"48:10:00\", \"departure_time\"], \",CAPE,3,,\"]]], 1]",
+        "[[5, 9, [\"COAST-1,\", [\"58:30:00\", \"arrival_time\"], \",\", [\"58:30:00\", \"departure_time\"], \",NORTH,4,1,\"]]], 1]",
+    ];
+    for row in rows {
+        assert!(out(&page).contains(row), "{row}\n{}", out(&page));
+    }
+    for rule in 60..=62 {
+        assert!(out(&page).contains(&format!("<article id=\"rule-{rule}\">")), "{rule}");
     }
 }
 

@@ -8,10 +8,10 @@ use common::{document, example_files, json, out, run, status, Folder};
 use model::columns::{Column, COLUMNS};
 use model::facts::{of_finding, of_refusal, Fact, Facts};
 use model::forms::Form;
-use model::Answer;
+use model::{Answer, Profile};
 use std::collections::{BTreeMap, BTreeSet};
 
-/// How many seeds the command and the model are compared on, and how many feeds one run checks.
+/// How many seeds the command and the model are compared on, each with both profiles, and how many feeds one run checks.
 const SEEDS: u64 = 384;
 const AT_A_TIME: u64 = 64;
 
@@ -54,12 +54,21 @@ fn members(facts: &Facts) -> Json {
 /// Names of members.
 type Names = BTreeSet<String>;
 
+/// The profile that a document was asked for.
+fn profile(report: &Json) -> Profile {
+    match report.get("profile").text() {
+        "plain" => Profile::Plain,
+        "boards" => Profile::Boards,
+        other => panic!("no profile: {other}"),
+    }
+}
+
 /// Fails where the document of a feed differs from the model's answer and facts; gives the rules that were seen, each
 /// with the names of what it is about.
 fn compare(name: &str, files: &model::Files, report: &Json) -> Vec<(i64, Names)> {
     let mut tables = cases::large::tables(files, 0);
     let mut list = vec![0; 30_000];
-    match model::check(files, &mut tables, &mut list, [0, 0, 0]) {
+    match model::check(files, &mut tables, &mut list, [0, 0, 0], profile(report)) {
         Answer::Accepted => {
             assert_eq!(report.get("verdict").text(), "accepted", "{name}");
             Vec::new()
@@ -115,17 +124,38 @@ fn compare_faults(name: &str, files: &model::Files, report: &Json) {
     }
 }
 
-/// The documents of feeds, all by one run.
-fn documents(feeds: &[String]) -> Vec<Json> {
-    let words: Vec<&str> = ["check", "--json"].into_iter().chain(feeds.iter().map(|feed| &feed[..])).collect();
+/// The documents of feeds with a profile, all by one run.
+fn documents(feeds: &[String], profile: &str) -> Vec<Json> {
+    let words = ["check", "--json", "--profile", profile];
+    let words: Vec<&str> = words.into_iter().chain(feeds.iter().map(|feed| &feed[..])).collect();
     let output = run(&words);
     assert!(status(&output) < 3);
     let documents: Vec<Json> = out(&output).lines().map(json::read).collect();
     assert!(documents.iter().map(|report| report.get("feed").text()).eq(feeds), "a document for each feed");
+    assert!(documents.iter().all(|report| report.get("profile").text() == profile), "each has the profile");
     documents
 }
 
-/// Every refusal but 3, which the command's tables never break, and every rule come up among the seeds.
+/// Fails unless the document with the profile for boards is the one without it, but for rules 60 to 62 and what counts them.
+fn compare_profiles(name: &str, plain: &Json, boards: &Json) {
+    let is_plain = |found: &&Json| found.get("rule").number() < 60;
+    for list in ["findings", "totals"] {
+        let left: Vec<&Json> = boards.get(list).list().iter().filter(is_plain).collect();
+        assert!(left.iter().copied().eq(plain.get(list).list()), "{name}: {list}");
+    }
+    for same in ["version", "refusal", "faults_total", "faults", "page", "feed", "folder", "records", "unread"] {
+        assert_eq!(boards.get(same), plain.get(same), "{name}: {same}");
+    }
+    let [more, few] = [boards, plain].map(|report| report.get("findings").list().len() as i64);
+    for count in ["total", "written"] {
+        assert_eq!([boards, plain].map(|report| report.get(count).number()), [more, few], "{name}: {count}");
+    }
+    let verdict = if more > few { "findings" } else { plain.get("verdict").text() };
+    assert_eq!(boards.get("verdict").text(), verdict, "{name}");
+}
+
+/// Every refusal but 3, which the command's tables never break, and every rule come up among the seeds. What the profile for boards adds are its
+/// own rules and nothing else.
 #[test]
 fn the_facts_are_the_models() {
     let folder = Folder::empty("facts");
@@ -134,13 +164,16 @@ fn the_facts_are_the_models() {
         let cases: Vec<_> = (first..first + AT_A_TIME).map(generate::case).collect();
         let feeds: Vec<String> =
             cases.iter().enumerate().map(|(place, case)| folder.put_feed(&place.to_string(), &case.files)).collect();
-        for (case, report) in cases.iter().zip(&documents(&feeds)) {
-            for (number, names) in compare(&case.name, &case.files, report) {
+        let [plain, boards] = ["plain", "boards"].map(|profile| documents(&feeds, profile));
+        for (case, (plain, boards)) in cases.iter().zip(plain.iter().zip(&boards)) {
+            compare_profiles(&case.name, plain, boards);
+            let told = [plain, boards].map(|report| compare(&case.name, &case.files, report));
+            for (number, names) in told.into_iter().flatten() {
                 seen.entry(number).or_default().extend(names);
             }
         }
     }
-    let all: BTreeSet<i64> = (1..=14).filter(|number| *number != 3).chain(20..=31).collect();
+    let all: BTreeSet<i64> = (1..=14).filter(|number| *number != 3).chain(20..=31).chain(60..=62).collect();
     assert_eq!(seen.keys().copied().collect::<BTreeSet<_>>(), all);
     for (number, names) in seen {
         assert_eq!(documented(number), names, "docs/JSON.md on {number}");
@@ -167,7 +200,7 @@ fn every_column_has_its_words() {
             feeds.push(files);
         }
     }
-    let reports = documents(&paths);
+    let reports = documents(&paths, "plain");
     for ((column, feeds), reports) in known().map(|(_, column)| column).zip(feeds.chunks(3)).zip(reports.chunks(3)) {
         feeds.iter().zip(reports).for_each(|(files, report)| drop(compare(column.name, files, report)));
         let refused = |place: usize, number: i64, column: i64| {
@@ -227,8 +260,13 @@ fn words_in(report: &Json) -> Vec<String> {
 
 const TIMES: &str = "trip_id,arrival_time,departure_time,stop_id,stop_sequence,timepoint\n";
 
-/// A feed whose trips are T and U, with these lines in stop_times.txt.
+/// What is said of a feed whose trip is T, with these lines in stop_times.txt.
 fn words_of_times(lines: &str) -> Vec<String> {
+    words_with(&format!("{TIMES}{lines}"), "plain")
+}
+
+/// The same with a whole stop_times.txt and a profile.
+fn words_with(times: &str, profile: &str) -> Vec<String> {
     let folder = Folder::new("times");
     folder.put("stops.txt", b"stop_id,stop_name,stop_lat,stop_lon,location_type\nA,a,1,1,\nB,b,1,1,\nS,s,1,1,1\n");
     folder.put("routes.txt", b"route_id,route_short_name,route_type\nR,1,3\n");
@@ -238,8 +276,8 @@ fn words_of_times(lines: &str) -> Vec<String> {
           W,1,1,1,1,1,0,0,20240101,20241231\n",
     );
     folder.put("trips.txt", b"route_id,service_id,trip_id\nR,W,T\n");
-    folder.put("stop_times.txt", format!("{TIMES}{lines}").as_bytes());
-    let report = document(&[folder.path()]);
+    folder.put("stop_times.txt", times.as_bytes());
+    let report = document(&["--profile", profile, folder.path()]);
     let found = report.get("findings").list();
     found.iter().map(|found| format!("{}: {}", found.get("rule").number(), found.get("words").text())).collect()
 }
@@ -316,6 +354,97 @@ const ABOUT_TIMES: [(&str, &[&str]); 11] = [
 fn words_about_times() {
     for (lines, wanted) in ABOUT_TIMES {
         assert_eq!(words_of_times(lines), wanted, "{lines}");
+    }
+}
+
+/// A line of stop_times.txt between two that are good, by its times and its two types, and what the profile for boards says of it, by hand.
+const FOR_BOARDS: [([&str; 4], &[&str]); 14] = [
+    (["8:01:00", "8:01:00", "", ""], &[]),
+    (["8:01:00", "8:01:00", "0", "1"], &[]),
+    (["8:01:00", "8:01:00", "1", "0"], &[]),
+    (["47:59:59", "47:59:59", "", ""], &[]),
+    (["", "", "", ""], &["60: arrival_time and departure_time are empty"]),
+    (["8:01:00", "", "", ""], &[ARRIVAL_ONLY[0], ARRIVAL_ONLY[1]]),
+    (["", "8:01:00", "", ""], &[DEPARTURE_ONLY[0], DEPARTURE_ONLY[1]]),
+    (["8:01:00", "8:01:00", "2", "1"], &["61: pickup_type is 2 (must phone the agency)"]),
+    (["8:01:00", "8:01:00", "3", ""], &["61: pickup_type is 3 (must arrange with the driver)"]),
+    (["8:01:00", "8:01:00", "", "2"], &["61: drop_off_type is 2 (must phone the agency)"]),
+    (
+        ["8:01:00", "8:01:00", "3", "2"],
+        &["61: pickup_type is 3 (must arrange with the driver); drop_off_type is 2 (must phone the agency)"],
+    ),
+    (["47:59:59", "48:00:00", "", ""], &["62: departure_time is 48:00:00, wanted: before 48:00:00"]),
+    (
+        ["48:00:00", "99:59:59", "", ""],
+        &["62: arrival_time is 48:00:00 and departure_time is 99:59:59, wanted: before 48:00:00"],
+    ),
+    (
+        ["48:00:01", "", "2", ""],
+        &[
+            "26: arrival_time is 48:00:01 and departure_time is empty",
+            "60: arrival_time is 48:00:01 and departure_time is empty",
+            "61: pickup_type is 2 (must phone the agency)",
+            "62: arrival_time is 48:00:01, wanted: before 48:00:00",
+        ],
+    ),
+];
+
+const ARRIVAL_ONLY: [&str; 2] = [
+    "26: arrival_time is 08:01:00 and departure_time is empty",
+    "60: arrival_time is 08:01:00 and departure_time is empty",
+];
+const DEPARTURE_ONLY: [&str; 2] = [
+    "26: departure_time is 08:01:00 and arrival_time is empty",
+    "60: departure_time is 08:01:00 and arrival_time is empty",
+];
+
+/// The words of rules 60 to 62; without the profile nothing is said of them.
+#[test]
+fn words_for_boards() {
+    for ([arrival, departure, pickup, drop_off], wanted) in FOR_BOARDS {
+        let times = format!(
+            "pickup_type,trip_id,arrival_time,departure_time,stop_id,stop_sequence,drop_off_type\n\
+             ,T,8:00:00,8:00:00,A,1,\n{pickup},T,{arrival},{departure},B,2,{drop_off}\n,T,8:02:00,8:02:00,A,3,\n"
+        );
+        let told = |profile: &str| {
+            let mut found = words_with(&times, profile);
+            // Of the last line, where the one before it departs late.
+            found.retain(|words| !words.starts_with("29: "));
+            found
+        };
+        assert_eq!(told("boards"), wanted, "{times}");
+        let plain: Vec<&str> = wanted.iter().copied().filter(|words| !words.starts_with('6')).collect();
+        assert_eq!(told("plain"), plain, "{times}");
+    }
+}
+
+/// The clerk's examples of the profile's rules break them, each only its own, and no rule without the profile.
+#[test]
+fn the_clerks_examples_for_boards_are_true() {
+    let types = "trip_id,arrival_time,departure_time,stop_id,stop_sequence,pickup_type,drop_off_type\n";
+    let examples = [
+        ("60", "60: arrival_time and departure_time are empty"),
+        ("61", "61: pickup_type is 2 (must phone the agency); drop_off_type is 3 (must arrange with the driver)"),
+        ("62", "62: departure_time is 48:10:00, wanted: before 48:00:00"),
+    ];
+    for (rule, wanted) in examples {
+        let page = run(&["explain", rule]);
+        let example = out(&page).split("**Example.**").nth(1).and_then(|rest| rest.split("\n\n").next());
+        let example = example.expect("an example");
+        let lines = match example.split_once("```\n") {
+            Some((_, lines)) => lines.trim_end_matches("```").replace('\n', ",,\n"),
+            None => {
+                let line = example.split('`').nth(1).expect("a line");
+                format!("{line}{}\n", ",".repeat(6 - line.matches(',').count()))
+            }
+        };
+        let told = |profile: &str| {
+            let mut found = words_with(&format!("{types}{lines}"), profile);
+            // The examples call at stops and are of trips that this feed lacks, and one line is no trip.
+            found.retain(|words| !["21: ", "30: "].iter().any(|other| words.starts_with(other)));
+            found
+        };
+        assert_eq!((told("plain"), told("boards")), (vec![], vec![wanted.to_string()]), "{lines}");
     }
 }
 

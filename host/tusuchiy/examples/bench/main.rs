@@ -1,5 +1,5 @@
 //! A benchmark, not a test: the proved check beside a check by hash maps, on the same feeds, in one run; then the index beside a sort.
-//! Run it with: cargo run --release --example bench -- [--only FEED] [--lines N], where FEED may be index too
+//! Run it with: cargo run --release --example bench -- [--only FEED] [--lines N] [--profile boards], where FEED may be index too
 #![deny(unsafe_code)]
 
 mod clock;
@@ -12,6 +12,7 @@ use cases::large::families::{Family, FAMILIES};
 use measure::{fastest, parts, Checker};
 use model::Answer;
 use report::{Parts, Row};
+use tusuchiy::Profile;
 
 /// The lines of the longest file, the header counted: the most that rule 2 allows.
 const MOST_LINES: usize = 65_536;
@@ -19,20 +20,25 @@ const MOST_LINES: usize = 65_536;
 /// A size is skipped where a check would take longer than so many seconds, if its time grew with the square.
 const PATIENCE: f64 = 60.0;
 
-const USAGE: &str = "usage: bench [--only FEED] [--lines N]";
+const USAGE: &str = "usage: bench [--only FEED] [--lines N] [--profile plain|boards]";
 
 struct Options {
     only: Option<String>,
     lines: usize,
+    profile: Profile,
 }
 
 fn options() -> Option<Options> {
-    let mut options = Options { only: None, lines: MOST_LINES };
+    let mut options = Options { only: None, lines: MOST_LINES, profile: Profile::Plain };
     let mut words = std::env::args().skip(1);
     while let Some(word) = words.next() {
         match word.as_str() {
             "--only" => options.only = Some(words.next()?),
             "--lines" => options.lines = words.next()?.parse().ok().filter(|&lines| lines >= 1024)?,
+            "--profile" => {
+                let name = words.next()?;
+                options.profile = Profile::ALL.into_iter().find(|profile| profile.name() == name)?;
+            }
             _ => return None,
         }
     }
@@ -49,19 +55,19 @@ fn main() {
         stop(&format!("the feeds are: {names}, {}", index::NAME));
     }
     if !families.is_empty() {
-        feeds(&families, options.lines);
+        feeds(&families, options.lines, options.profile);
     }
     if index {
         index::measure(options.lines);
     }
 }
 
-/// Measures the check on these feeds.
-fn feeds(families: &[&'static Family], lines: usize) {
-    report::introduce(families);
+/// Measures the check on these feeds, by the rules that are asked for.
+fn feeds(families: &[&'static Family], lines: usize, profile: Profile) {
+    report::introduce(families, profile);
     // An emulator is slower once a program has had a second thread, as the check makes: so for both from the start.
     let _ = std::thread::spawn(|| ()).join();
-    let rows: Vec<Row> = families.iter().flat_map(|family| sizes(family, lines)).collect();
+    let rows: Vec<Row> = families.iter().flat_map(|family| sizes(family, lines, profile)).collect();
     let parts: Vec<Parts> = families.iter().map(|family| parts_of(family, &rows)).collect();
     report::parts(&parts);
     report::summary(&rows);
@@ -73,11 +79,11 @@ fn stop(words: &str) -> ! {
 }
 
 /// Measures a feed at a sixteenth of the lines, at a fourth, and at all of them.
-fn sizes(family: &'static Family, most: usize) -> Vec<Row> {
+fn sizes(family: &'static Family, most: usize, profile: Profile) -> Vec<Row> {
     let mut rows: Vec<Row> = Vec::new();
     for lines in [most / 16, most / 4, most] {
         let before = rows.last().map(|row| row.check);
-        let row = size(family, lines, before);
+        let row = size(family, lines, profile, before);
         report::row(&row);
         rows.push(row);
     }
@@ -85,15 +91,15 @@ fn sizes(family: &'static Family, most: usize) -> Vec<Row> {
 }
 
 /// One size: `before` is the check's time for a fourth of the lines, none within if that was skipped.
-fn size(family: &'static Family, lines: usize, before: Option<Option<f64>>) -> Row {
+fn size(family: &'static Family, lines: usize, profile: Profile, before: Option<Option<f64>>) -> Row {
     let files = (family.feed)(lines);
-    let (quick, outcome) = fastest(Checker::Quick, &files);
+    let (quick, outcome) = fastest(Checker::Quick, &files, profile);
     if let Answer::Refused { number, .. } = outcome.answer {
         stop(&format!("{} of {lines} lines is refused by rule {number}, and a refusal is no measure", family.name));
     }
     let patient = before.map_or(true, |before| before.is_some_and(|before| before * 16.0 <= PATIENCE));
     let check = patient.then(|| {
-        let (time, proved) = fastest(Checker::Proved, &files);
+        let (time, proved) = fastest(Checker::Proved, &files, profile);
         assert!(proved == outcome, "{}: the two checks differ", family.name);
         time
     });

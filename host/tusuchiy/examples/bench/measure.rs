@@ -3,7 +3,7 @@
 use crate::clock;
 use cases::Outcome;
 use model::{Answer, Files, FILES};
-use tusuchiy::Verdict;
+use tusuchiy::{Profile, Verdict};
 
 /// A call is made again until this many seconds are spent, but so many times at most; the fastest counts.
 pub const SPENT: f64 = 0.4;
@@ -18,17 +18,25 @@ pub enum Checker {
     Quick,
 }
 
+/// A profile as quick calls it.
+fn in_quick(profile: Profile) -> model::Profile {
+    match profile {
+        Profile::Plain => model::Profile::Plain,
+        Profile::Boards => model::Profile::Boards,
+    }
+}
+
 impl Checker {
     /// One call, and its time.
-    fn call(self, files: &Files, lent: &mut Outcome) -> f64 {
+    fn call(self, files: &Files, profile: Profile, lent: &mut Outcome) -> f64 {
         let (tables, list) = (&mut lent.tables, &mut lent.list[..]);
         let start = clock::seconds();
         lent.answer = match self {
-            Checker::Quick => quick::check(files, tables, list, [0, 0, 0]),
+            Checker::Quick => quick::check(files, tables, list, [0, 0, 0], in_quick(profile)),
             Checker::Proved => {
                 let files = files.each_ref().map(|file| &file[..]);
                 let tables = tables.each_mut().map(|table| &mut table[..]);
-                words(&tusuchiy::check(files, tables, list, [0, 0, 0]))
+                words(&tusuchiy::check(files, tables, list, [0, 0, 0], profile))
             }
         };
         clock::seconds() - start
@@ -54,11 +62,11 @@ fn lend(files: &Files) -> Outcome {
 }
 
 /// The time of the fastest call, and what a call gave.
-pub fn fastest(checker: Checker, files: &Files) -> (f64, Outcome) {
+pub fn fastest(checker: Checker, files: &Files, profile: Profile) -> (f64, Outcome) {
     let mut lent = lend(files);
     let least = least(|| {
         lent = lend(files);
-        checker.call(files, &mut lent)
+        checker.call(files, profile, &mut lent)
     });
     (least, lent)
 }
@@ -77,12 +85,12 @@ pub fn least(mut call: impl FnMut() -> f64) -> f64 {
     least
 }
 
-/// The parts of a call that takes this long: rules 1 to 4, reading, and all that follows.
+/// The parts of a call that takes this long: rules 1 to 4, reading, and all that follows. The first two don't depend on a profile.
 pub fn parts(checker: Checker, files: &Files, whole: f64) -> [f64; 3] {
     let last = (0..FILES).rfind(|&file| !files[file].is_empty()).expect("a file that is supplied");
-    let (wholes, outcome) = fastest(checker, &unended(files, last));
+    let (wholes, outcome) = fastest(checker, &unended(files, last), Profile::Plain);
     assert_eq!(outcome.answer, Answer::Refused { number: 4, file: last + 1, line: 0, column: 0 });
-    let (read, outcome) = fastest(checker, &malformed(files, last));
+    let (read, outcome) = fastest(checker, &malformed(files, last), Profile::Plain);
     let end = (13, last + 1, model::fields::line_ends(&files[last]));
     let refused = matches!(outcome.answer, Answer::Refused { number, file, line, .. } if (number, file, line) == end);
     assert!(refused, "{:?}, wanted {end:?}", outcome.answer);

@@ -3,6 +3,7 @@
 use crate::measure::{ROOM, RUNS, SPENT};
 use crate::table::Table;
 use cases::large::families::{Family, Kind};
+use tusuchiy::Profile;
 
 /// The aims: growth for four times the lines, ratio on plain feeds, ratio on any.
 const GROWTH: f64 = 5.0;
@@ -60,14 +61,14 @@ pub struct Parts {
     pub quick: [f64; 3],
 }
 
-pub fn introduce(families: &[&Family]) {
+pub fn introduce(families: &[&Family], profile: Profile) {
     for family in families {
         let plain = if family.kind == Kind::Plain { " (a plain feed)" } else { "" };
         println!("{:>12}: {}{plain}", family.name, family.about);
     }
     println!("Every feed counts, those whose trips stand nowhere too. Aims: growth at most {GROWTH:.0} for four times");
     println!("the lines; ratio at most {PLAIN_RATIO:.0} on plain feeds, at most {RATIO:.0} on any.");
-    println!("Processor: {}.", processor());
+    println!("Profile: {profile}. Processor: {}.", processor());
     println!("Processor time of one call: the fastest of {RUNS}, or of as many as {SPENT} s allow.");
     println!("The lent list has room for {ROOM} findings. Growth: the check's time by that in the row above.\n");
     TIMES.head();

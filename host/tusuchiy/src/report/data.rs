@@ -166,7 +166,7 @@ struct Trips<'a> {
 
 /// Rules about the times and the order of a trip's lines.
 fn is_about_time(fault: &Fault) -> bool {
-    matches!((fault.number, fault.file), (26..=29, 5) | (31, 4))
+    matches!((fault.number, fault.file), (26..=29 | 60 | 62, 5) | (31, 4))
 }
 
 impl<'a> Trips<'a> {

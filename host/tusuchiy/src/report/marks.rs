@@ -1,7 +1,7 @@
 //! Lines of a feed in pieces, with the fields marked that a finding or a refusal is about.
 
 use super::Fault;
-use crate::facts::{names, About};
+use crate::facts::{breaking, names, About};
 use crate::feed::{Feed, FILES};
 use crate::fields::{self, split};
 use crate::safe;
@@ -125,6 +125,7 @@ fn columns(number: usize, about: &About) -> Vec<String> {
     if number < 20 || !named.is_empty() {
         return named;
     }
+    let breaking = breaking(number, about);
     let columns: &[&str] = match number {
         22 => &["location_type", "parent_station"],
         23 => &["stop_id"],
@@ -133,6 +134,7 @@ fn columns(number: usize, about: &About) -> Vec<String> {
         28 => &["stop_sequence"],
         29 => &["arrival_time"],
         30 | 31 => &["trip_id"],
+        60.. => &breaking,
         _ => &[],
     };
     columns.iter().map(|column| column.to_string()).collect()

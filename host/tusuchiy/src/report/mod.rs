@@ -18,6 +18,7 @@ use std::fs::File;
 use std::io::{self, BufWriter, IsTerminal, Write};
 use std::os::unix::ffi::OsStrExt;
 use std::path::{Path, PathBuf};
+use tusuchiy::Profile;
 
 const PAGE: &str = include_str!("page.html");
 const STYLE: &str = include_str!("page.css");
@@ -29,6 +30,7 @@ pub struct Asked {
     pub feed: PathBuf,
     /// The file to write; none is standard output.
     pub output: Option<PathBuf>,
+    pub profile: Profile,
     pub follow_links: bool,
 }
 
@@ -39,7 +41,7 @@ pub fn run(asked: &Asked) -> Result<u8, String> {
     }
     let feed = source::read(&asked.feed, asked.follow_links)?;
     let progress = progress::start(&feed);
-    let report = paging::check(&feed, None, &progress)?;
+    let report = paging::check(&feed, None, asked.profile, &progress)?;
     drop(progress);
     match &asked.output {
         None => many::write(|out| write(out, &feed, &report))?,

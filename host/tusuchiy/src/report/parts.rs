@@ -7,9 +7,10 @@ use crate::explain;
 use crate::feed::NAMES;
 use crate::paging::Outcome;
 use crate::safe;
+use crate::text::asked;
 use std::collections::BTreeMap;
 use std::os::unix::ffi::OsStrExt;
-use tusuchiy::{File, MOST_BYTES};
+use tusuchiy::{File, Profile, Rule, MOST_BYTES};
 
 /// How many faults stand in the page for readers without a script.
 const PLAIN: usize = 100;
@@ -60,7 +61,7 @@ pub fn title(subject: &Subject) -> String {
         Outcome::Findings { total, .. } => several(total, "finding"),
         Outcome::Refused { total, .. } => format!("refused, {}", several(total, "fault")),
     };
-    format!("{}: {verdict}", path(subject))
+    format!("{}: {verdict}{}", path(subject), asked(subject.report.profile))
 }
 
 /// The feed's path, and its folder in a zip file.
@@ -74,24 +75,39 @@ pub fn feed(subject: &Subject) -> String {
 pub fn verdict(subject: &Subject) -> String {
     let (kind, sign, head, words) = match subject.report.outcome {
         Outcome::Accepted => ("accepted", "✓", "Accepted".to_string(), "All files can be read, and no rule is broken."),
-        Outcome::Findings { total, .. } => (
-            "findings",
-            "!",
-            several(total, "finding"),
-            "All files can be read, but something in them doesn't fit together. Not accepted until each finding is mended.",
-        ),
-        Outcome::Refused { .. } => (
-            "refused",
-            "✕",
-            "Refused".to_string(),
-            "The files can't be read as they stand.",
-        ),
+        Outcome::Findings { total, .. } => ("findings", "!", several(total, "finding"), unfit(subject)),
+        Outcome::Refused { .. } => ("refused", "✕", "Refused".to_string(), "The files can't be read as they stand."),
     };
     format!(
         "<p class=\"verdict {kind}\" id=\"verdict\"><span class=\"sign\" aria-hidden=\"true\">{sign}</span>{head}</p>\n\
-         <p class=\"lead\">{words}</p>{}",
+         <p class=\"lead\">{words}</p>{}{}",
+        profile(subject),
         refusal(subject)
     )
+}
+
+/// Which rules were asked for, where they aren't those of every check: whoever gets the page forwarded doesn't know the command line.
+fn profile(subject: &Subject) -> String {
+    let name = subject.report.profile;
+    let [when, tested] =
+        if subject.refused() { ["once the files can be read, ", "are tested"] } else { ["", "were tested"] };
+    match name {
+        Profile::Plain => String::new(),
+        Profile::Boards => format!(
+            "\n<p class=\"lead\" id=\"profile\">Profile {name}: {when}rules 60 to 62, which say what a departure board can't show, {tested} \
+             beside rules 20 to 31.</p>"
+        ),
+    }
+}
+
+/// What findings say of a feed: those that only the profile has say less.
+fn unfit(subject: &Subject) -> &'static str {
+    let plain = |fault: &Fault| Rule::new(fault.number).is_some_and(|rule| rule.profile() == Profile::Plain);
+    if subject.faults.iter().any(plain) {
+        "All files can be read, but something in them doesn't fit together. Not accepted until each finding is mended."
+    } else {
+        "All files can be read and fit together, but a departure board can't show all of it. Not accepted for boards until each finding is mended."
+    }
 }
 
 /// Of a refused feed: how many faults there are and what to do, what the verdict names, and what wasn't judged.
@@ -320,7 +336,7 @@ mod tests {
         let wanted = "<p><strong>What.</strong> <code>&lt;A&gt;</code> is <strong>so</strong><br>\nand so.</p>\n\
             <p><strong>Example.</strong> Of</p>\n<pre>A,1\nB,2</pre>\n<p><strong>How.</strong> Mend.</p>\n";
         assert_eq!(marked_up(text), wanted);
-        for number in (1..=14).chain(20..=31) {
+        for number in (1..=14).chain(20..=31).chain(60..=62) {
             let page = explain::page(number).expect("a section");
             let body = marked_up(page);
             assert!(!body.contains("**") && !body.contains('`'), "{number}: {body}");
