@@ -70,33 +70,22 @@ count-small k c i total h g =
 
 -- ---- how many rules are asked for
 
--- boards ask for the most of them
-boards-most : (asked : Profile) (f : ℕ) → ruleCount asked f ≤ ruleCount Boards f
+-- boards ask for the most of them, and for nine at most
+pub most-asked : (asked : Profile) (f : ℕ) → (ruleCount asked f ≤ ruleCount Boards f) × (ruleCount Boards f ≤ 9)
 unfolding ruleCount
-boards-most asked zero = omega arith
-boards-most asked (suc zero) = omega arith
-boards-most asked (suc (suc zero)) = omega arith
-boards-most asked (suc (suc (suc zero))) = omega arith
-boards-most asked (suc (suc (suc (suc zero)))) = omega arith
-boards-most Plain (suc (suc (suc (suc (suc zero))))) = omega arith
-boards-most Boards (suc (suc (suc (suc (suc zero))))) = omega arith
-boards-most asked (suc (suc (suc (suc (suc (suc zero)))))) = omega arith
-boards-most asked (suc (suc (suc (suc (suc (suc (suc f))))))) = omega arith
-
-pub nine-most : (f : ℕ) → ruleCount Boards f ≤ 9
-unfolding ruleCount
-nine-most zero = omega arith
-nine-most (suc zero) = omega arith
-nine-most (suc (suc zero)) = omega arith
-nine-most (suc (suc (suc zero))) = omega arith
-nine-most (suc (suc (suc (suc zero)))) = omega arith
-nine-most (suc (suc (suc (suc (suc zero))))) = omega arith
-nine-most (suc (suc (suc (suc (suc (suc zero)))))) = omega arith
-nine-most (suc (suc (suc (suc (suc (suc (suc f))))))) = omega arith
+most-asked asked zero = omega arith
+most-asked asked (suc zero) = omega arith
+most-asked asked (suc (suc zero)) = omega arith
+most-asked asked (suc (suc (suc zero))) = omega arith
+most-asked asked (suc (suc (suc (suc zero)))) = omega arith
+most-asked Plain (suc (suc (suc (suc (suc zero))))) = omega arith
+most-asked Boards (suc (suc (suc (suc (suc zero))))) = omega arith
+most-asked asked (suc (suc (suc (suc (suc (suc zero)))))) = omega arith
+most-asked asked (suc (suc (suc (suc (suc (suc (suc f))))))) = omega arith
 
 -- .. of the file whose number k is
 pub counted : (asked : Profile) (f k r : ℕ) → f ≡ k → r ≡ ruleCount asked k → (r ≡ ruleCount asked f) × ((r ≤ ruleCount Boards f) × (r ≤ 9))
 counted asked f k r e g =
     let c : r ≡ ruleCount asked f = g ∙ ap (ruleCount asked) (sym e) in
-    let m = boards-most asked f in
-    (c, (omega arith, omega (arith, nine-most f)))
+    let m = most-asked asked f in
+    (c, (omega (arith, m .0), omega (arith, m .0, m .1)))

@@ -128,7 +128,7 @@ fn numbers_of(f: usize) -> [u8; MOST_RULES]
 
 // How many rules of a line of stop_times.txt are asked for.
 fn times_asked(asked: Profile) -> usize
-    ensures { λ r. ⌜ (r ≡ timesAsked asked) × (r ≤ 9) ⌝ }
+    ensures { λ r. ⌜ r ≡ timesAsked asked ⌝ }
 {
     match asked {
         Profile::Plain => 6,

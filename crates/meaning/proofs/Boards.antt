@@ -10,7 +10,7 @@ use mathlib.Core.List.{List, [], _∷_, _++_, map, List·Memᴰ, List·Memᴰ·h
 use lib.IntN.{ℤ}
 use lib.ListN.{length}
 use lib.Dec.{eqb}
-use borrow.Author.Tests.{eqb-true, leb-true, le-leb, not-true, not-false}
+use borrow.Author.Tests.{eqb-true, leb-true, le-leb, not-true}
 use Rattle.meaning.specs.declared.Time.{Time}
 use Rattle.meaning.specs.declared.Time.the-variants.{Seconds, Untimed, NoTime}
 use Rattle.meaning.specs.declared.Choice.{Choice}
@@ -30,7 +30,7 @@ use Rattle.meaning.specs.Outcome.{outcome, readOutcome, refusedOr}
 use Rattle.meaning.specs.Promises.{saysAccepted, BrokenAt}
 use Rattle.meaning.specs.Boards.{OnLine, TwoOrThree, Late, OnRequest, SomeLate, Shown, isAdded, without, ForBoards}
 use Rattle.meaning.proofs.ListLaws.{both, keep-append}
-use Rattle.meaning.proofs.Tests.{either, or-left, or-right}
+use Rattle.meaning.proofs.Tests.{either, or-left, or-right, not-none}
 use Rattle.meaning.proofs.TheList.{listed-exactly, finding-numbers, refused-answer}
 use Rattle.meaning.proofs.Pages.{accepted-exactly}
 
@@ -241,7 +241,7 @@ module _ (w : Feed) where
   -- no finding for boards, and each line is one that they can show
   all-shown : findingsOf Boards w ≡ [] → (i : ℕ) → i < length (w .stopTimes) → Shown (row (w .stopTimes) i)
   all-shown clean i h = record {
-    in-time = not-false _ (timely (timed (row (w .stopTimes) i)) (λ e. none (sixty w (i + 2) .1 (at e))));
+    in-time = not-none _ (λ e. none (sixty w (i + 2) .1 (at e)));
     regular = λ e. none (sixty-one w (i + 2) .1 (at e));
     soon = λ e. none (sixty-two w (i + 2) .1 (at e));
   }
@@ -251,10 +251,6 @@ module _ (w : Feed) where
 
       at : {P : Row → Type 0} → P (row (w .stopTimes) i) → OnLine w (i + 2) P
       at e = record { from = omega arith; to = omega arith; has = rw (add-sub-cancel i 2) e }
-
-      timely : (t : Bool) → (t ≡ false → ⊥) → not t ≡ false
-      timely true k = refl
-      timely false k = absurd (k refl)
 
   -- no plain finding, and no line that boards can't show: no finding for boards
   none-added : findingsOf Plain w ≡ [] → ((i : ℕ) → i < length (w .stopTimes) → Shown (row (w .stopTimes) i)) → findingsOf Boards w ≡ []

@@ -28,7 +28,7 @@ or-right true b e = refl
 or-right false b e = e
 
 -- what isn't false
-not-none : (a : Bool) → (a ≡ false → ⊥) → a ≡ true
+pub not-none : (a : Bool) → (a ≡ false → ⊥) → a ≡ true
 not-none true h = refl
 not-none false h = absurd (h refl)
 

@@ -301,6 +301,24 @@ fn memory_has_a_bound_with_many_findings() {
     assert!(out(&output).starts_with("findings: 131069\n"));
 }
 
+/// The same with the profile for boards, whose three rules each line of stop_times breaks beside 21, 26 and 28; only the first has no line before
+/// it with its sequence. The two trips have no line at all.
+#[test]
+fn memory_has_a_bound_with_many_findings_for_boards() {
+    let own = own();
+    let folder = Folder::new("long-calls");
+    let line = format!("X,,60:00:00,nowhere,9,2,3,{}\n", "x".repeat(228));
+    let header = "trip_id,arrival_time,departure_time,stop_id,stop_sequence,pickup_type,drop_off_type,note\n";
+    let calls = format!("{header}{}", line.repeat(65_535));
+    assert!((16_500_000..16_777_216).contains(&calls.len()));
+    folder.put("stop_times.txt", calls.as_bytes());
+    let output = within(own + FEED, &["check", "--profile", "boards", folder.path()]);
+    assert_eq!(status(&output), 1, "{}", said(&output));
+    assert!(out(&output).starts_with("findings: 393211 (profile boards)\n"), "{}", out(&output));
+    let output = within(own + FEED, &["report", "--profile", "boards", "-o", "/dev/null", folder.path()]);
+    assert_eq!(status(&output), 1, "{}", said(&output));
+}
+
 /// Six files as long as rule 1 allows, with as many faults as there can be: one on each line, on one more without an ending,
 /// and that it has none.
 #[test]

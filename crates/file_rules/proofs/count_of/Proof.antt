@@ -28,7 +28,7 @@ returns-4 c = counted (c .before .args .asked) (c .before .args .f) 4 _ (omega a
 
 returns-5 : tie.Need-returns-5
 unfolding ruleCount
-returns-5 c = counted (c .before .before .args .asked) (c .before .before .args .f) 5 _ (omega arith) (c .times-asked .ensures .0)
+returns-5 c = counted (c .before .before .args .asked) (c .before .before .args .f) 5 _ (omega arith) (c .times-asked .ensures)
 
 returns-6 : tie.Need-returns-6
 unfolding ruleCount

@@ -9,7 +9,7 @@ use Rattle.meaning.specs.declared.Profile.the-variants.{Boards}
 use Rattle.meaning.specs.Tables.{Feed}
 use Rattle.listing.specs.Handing.{state}
 use Rattle.file_rules.specs.Lines.{ruleCount, Ready}
-use Rattle.file_rules.proofs.Walk.{Left, left-first, left-next, left-last, count-first, count-next, count-last, count-small, nine-most}
+use Rattle.file_rules.proofs.Walk.{Left, left-first, left-next, left-last, count-first, count-next, count-last, count-small, most-asked}
 use Rattle.file_rules.proofs.list_file.Statement.{statement}
 use Rattle.file_rules.proofs.list_file.Tie as tie
 
@@ -44,7 +44,7 @@ add-note-line c =
 note-line-requires : tie.Need-note-line-requires Inv-loop μ-loop
 note-line-requires c κs =
     let m = c .before .before .before .before .count-of .ensures in
-    let small = count-small _ _ _ _ (c .before .before .before .loop .inv .1 .1 .0) (nine-most _) in
+    let small = count-small _ _ _ _ (c .before .before .before .loop .inv .1 .1 .0) (most-asked Boards _ .1) in
     let q = c .before .before .before .before .before .before .before .pre in
     (omega (arith, q .1 .0), omega (arith, small, c .before .before .before .loop .inv .1 .0, c .before .before .loop-test .taken, q .1 .1))
 
