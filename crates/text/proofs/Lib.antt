@@ -3,5 +3,6 @@ pub mod Laws
 pub mod Lines
 pub mod Walk
 pub mod Fields
+pub mod Spans
 pub mod Runs
 pub mod Values

@@ -3,10 +3,10 @@ use Prim.Native.Nat.{ℕ, _+_, _≤_}
 use mathlib.Core.Path.{_≡_}
 use mathlib.Core.List.{List, [], _∷_}
 use mathlib.Core.Bool.{Bool, cond, _||_}
-use lib.ListN.{length, take, drop}
+use lib.ListN.{length, set, take, drop}
 use lib.Dec.{ltb, eqb}
 use Rattle.meaning.specs.declared.Bounds.{Bounds}
-use Rattle.meaning.specs.Bytes.{bounds, part, start, next, fieldsGo, value, valuesOf}
+use Rattle.meaning.specs.Bytes.{bounds, part, start, bare, next, fieldsGo, value, valuesOf}
 use Rattle.text.specs.declared.Step.{Step}
 use Rattle.text.specs.declared.Step.the-variants.{Field, Done}
 
@@ -19,6 +19,30 @@ fieldCount q (b ∷ r) = let k = fieldCount (next q b) r in cond (eqb (next q b)
 unfoldable pub fieldLen : ℕ → List ℕ → ℕ
 fieldLen q [] = 0
 fieldLen q (b ∷ r) = let k = fieldLen (next q b) r + 1 in cond (eqb (next q b) start) 0 k
+
+-- how many bytes stand before the first comma or mark
+unfoldable pub toBreak : List ℕ → ℕ
+toBreak [] = 0
+toBreak (b ∷ r) = let k = toBreak r + 1 in cond (eqb b 44) 0 (cond (eqb b 34) 0 k)
+
+-- how many bytes stand before the first mark
+unfoldable pub toMark : List ℕ → ℕ
+toMark [] = 0
+toMark (b ∷ r) = let k = toMark r + 1 in cond (eqb b 34) 0 k
+
+-- the state after so many bytes of a field, none of which is a comma or a mark
+unfoldable pub afterRun : ℕ → ℕ
+afterRun n = cond (eqb n 0) start bare
+
+-- the state at the end of a field from a state on: start where a comma ends it
+unfoldable pub fieldState : ℕ → List ℕ → ℕ
+fieldState q [] = q
+fieldState q (b ∷ r) = let k = fieldState (next q b) r in cond (eqb (next q b) start) start k
+
+-- a table in which the places past the ends of fields are noted, from number n on
+unfoldable pub pastEnds : List Bounds → ℕ → List ℕ → List ℕ
+pastEnds [] n t = t
+pastEnds (b ∷ bs) n t = pastEnds bs (n + 1) (set t n (b .end + 1))
 
 -- does a byte end a line: the LF of its ending, or the CR before it
 unfoldable pub endsLine : ℕ → Bool

@@ -1,13 +1,14 @@
 // From bytes to fields: lines and their endings, quoting, the line cursor, and values.
+ghost use mathlib.Core.Bool.{false};
 ghost use mathlib.Core.Path.{_≡_};
-ghost use Prim.Native.Nat.{_+_, _<_, _≤_};
-ghost use lib.ListN.{length, drop};
+ghost use Prim.Native.Nat.{_+_, _-_, _<_, _≤_};
+ghost use lib.ListN.{length, getD, set, drop};
 ghost use Rattle.meaning.specs.Lists.{same, empty};
-ghost use Rattle.meaning.specs.Bytes.{countLf, startOf, start, classOf, next, good, fields, marked, content, undouble, value};
+ghost use Rattle.meaning.specs.Bytes.{countLf, startOf, start, classOf, quoting, endings, next, good, fields, marked, content, undouble, value};
 ghost use Rattle.meaning.specs.Forms.{noMark};
 ghost use Rattle.meaning.specs.Refusals.{ended, rule5};
 ghost use Rattle.text.specs.Lines.{toLf, lineTo, lineAt};
-ghost use Rattle.text.specs.Fields.{fieldLen, endsLine, fieldRun, fieldOn, stepAt};
+ghost use Rattle.text.specs.Fields.{toBreak, toMark, afterRun, fieldLen, fieldState, pastEnds, endsLine, fieldRun, fieldOn, stepAt};
 ghost use Rattle.text.specs.Values.{widthOf};
 
 // How many LF bytes stand in a file.
@@ -166,14 +167,103 @@ fn class_of(b: u8) -> usize
     2
 }
 
-// The state after a byte.
-fn next_state(q: u8, b: u8) -> u8
-    requires { ⌜ q < 5 ⌝ }
+// The state after a byte, by the quoting table.
+fn next_state(table: &[[u8; 3]; 5], q: u8, b: u8) -> u8
+    requires { ⌜ (now table ≡ quoting) × (q < 5) ⌝ }
     ensures { λ r. ⌜ (r ≡ next q b) × (r < 5) ⌝ }
 {
     let c = class_of(b);
     let k = q as usize;
-    QUOTING[k][c]
+    table[k][c]
+}
+
+// Where the first comma or mark from `at` on stands; the line's end where there is none.
+fn break_from(l: &[u8], at: usize) -> usize
+    ensures { λ r. ⌜ (r ≡ at + toBreak (drop at (now (l .entry)))) × (at ≤ r) ⌝ }
+{
+    let mut i = at;
+    while i < l.len() {
+        if l[i] == b',' {
+            return i;
+        }
+        if l[i] == b'"' {
+            return i;
+        }
+        i += 1;
+    }
+    i
+}
+
+// Where the first mark from `at` on stands; the line's end where there is none.
+fn mark_from(l: &[u8], at: usize) -> usize
+    ensures { λ r. ⌜ (r ≡ at + toMark (drop at (now (l .entry)))) × (at ≤ r) ⌝ }
+{
+    let mut i = at;
+    while i < l.len() {
+        if l[i] == b'"' {
+            return i;
+        }
+        i += 1;
+    }
+    i
+}
+
+// Where a field ends, and whether a line that ends there is good.
+pub struct Span {
+    pub end: usize,
+    pub good: bool,
+}
+
+// The rest of a field from `at` on, by the quoting table from a state on. Between quotes only a mark is looked for.
+fn marked_span(l: &[u8], at: usize, state: u8) -> Span
+    requires { ⌜ state < 5 ⌝ }
+    ensures { λ r. ⌜ (r .end ≡ at + fieldLen state (drop at (now (l .entry))))
+        × (r .good ≡ getD endings (fieldState state (drop at (now (l .entry)))) false) ⌝ }
+{
+    // Made once a field: a constant's array is written anew wherever it is named.
+    let table = QUOTING;
+    let mut q = state;
+    let mut i = at;
+    while i < l.len() {
+        q = next_state(&table, q, l[i]);
+        if q == START {
+            return Span { end: i, good: true };
+        }
+        i += 1;
+        if q == QUOTED {
+            i = mark_from(l, i);
+        }
+    }
+    let k = q as usize;
+    Span {
+        end: i,
+        good: ENDINGS[k],
+    }
+}
+
+// The state after a field's bytes from `at` to i, none of which is a comma or a mark.
+fn state_after(at: usize, i: usize) -> u8
+    ensures { λ r. ⌜ (r ≡ afterRun (i - at)) × (r < 5) ⌝ }
+{
+    if at < i {
+        return BARE;
+    }
+    START
+}
+
+// The field that begins at `at`. Most have no mark, and end at the first comma or with the line.
+pub fn field_span(l: &[u8], at: usize) -> Span
+    ensures { λ r. ⌜ (r .end ≡ at + fieldLen start (drop at (now (l .entry))))
+        × (r .good ≡ getD endings (fieldState start (drop at (now (l .entry)))) false) ⌝ }
+    ensures { λ r. ⌜ (at ≤ r .end) × (at ≤ length (now (l .entry)) → r .end ≤ length (now (l .entry))) ⌝ }
+{
+    let i = break_from(l, at);
+    if i < l.len() {
+        if l[i] == b'"' {
+            return marked_span(l, i, state_after(at, i));
+        }
+    }
+    Span { end: i, good: true }
 }
 
 // What one walk along a line tells: whether the quoting table calls it good, and how many fields it has.
@@ -182,45 +272,48 @@ pub struct Measured {
     pub fields: usize,
 }
 
-// One walk along a line.
+// A number in a table that may be too short for it.
+fn note(t: &mut [usize], n: usize, v: usize)
+    ensures { λ _. ⌜ now (t .exit) ≡ set (now (t .entry)) n v ⌝ }
+{
+    if n < t.len() {
+        t[n] = v;
+    }
+}
+
+// One walk along a line. Past the end of field n, counted from 1, begins the next: that place is noted in number n of a table, as far as it goes.
+pub fn walk_fields(l: &[u8], starts: &mut [usize]) -> Measured
+    ensures { λ r. ⌜ (r .good ≡ good (now (l .entry)))
+        × (r .fields ≡ length (fields (now (l .entry))))
+        × (1 ≤ r .fields)
+        × (r .fields ≤ length (now (l .entry)) + 1) ⌝ }
+    ensures { λ _. ⌜ now (starts .exit) ≡ pastEnds (fields (now (l .entry))) 1 (now (starts .entry)) ⌝ }
+{
+    let mut n: usize = 1;
+    let mut at: usize = 0;
+    loop {
+        let f = field_span(l, at);
+        at = f.end + 1;
+        note(starts, n, at);
+        if l.len() <= f.end {
+            return Measured {
+                good: f.good,
+                fields: n,
+            };
+        }
+        n += 1;
+    }
+}
+
+// The same, and nothing is noted.
 pub fn measure(l: &[u8]) -> Measured
     ensures { λ r. ⌜ (r .good ≡ good (now (l .entry)))
         × (r .fields ≡ length (fields (now (l .entry))))
         × (1 ≤ r .fields)
         × (r .fields ≤ length (now (l .entry)) + 1) ⌝ }
 {
-    let mut q = START;
-    let mut n: usize = 1;
-    let mut i = 0;
-    while i < l.len() {
-        q = next_state(q, l[i]);
-        if q == START {
-            n += 1;
-        }
-        i += 1;
-    }
-    let k = q as usize;
-    Measured {
-        good: ENDINGS[k],
-        fields: n,
-    }
-}
-
-// The end of the field that begins at `at`.
-pub fn field_end(l: &[u8], at: usize) -> usize
-    ensures { λ r. ⌜ (r ≡ at + fieldLen start (drop at (now (l .entry)))) × (at ≤ r) ⌝ }
-    ensures { λ r. ⌜ (at ≤ length (now (l .entry)) → r ≤ length (now (l .entry))) ⌝ }
-{
-    let mut q = START;
-    let mut i = at;
-    while i < l.len() {
-        q = next_state(q, l[i]);
-        if q == START {
-            return i;
-        }
-        i += 1;
-    }
-    i
+    let mut none = [0usize; 1];
+    walk_fields(l, &mut none)
 }
 
 // Does a byte end a line: the LF of its ending, or the CR before it?
@@ -235,13 +328,15 @@ fn run_end(s: &[u8], at: usize) -> usize
     ensures { λ r. ⌜ (r ≡ at + fieldRun start (drop at (now (s .entry)))) × (at ≤ r) ⌝ }
     ensures { λ r. ⌜ (at ≤ length (now (s .entry)) → r ≤ length (now (s .entry))) ⌝ }
 {
+    // Made once a field, as above.
+    let table = QUOTING;
     let mut q = START;
     let mut i = at;
     while i < s.len() {
         if ends_line(s[i]) {
             return i;
         }
-        q = next_state(q, s[i]);
+        q = next_state(&table, q, s[i]);
         if q == START {
             return i;
         }
@@ -291,7 +386,8 @@ impl Cursor {
         if l.len() < at {
             return Step::Done;
         }
-        let end = field_end(l, at);
+        let f = field_span(l, at);
+        let end = f.end;
         Step::Field {
             start: at,
             end,

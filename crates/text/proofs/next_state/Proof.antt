@@ -1,6 +1,5 @@
 -- `text::next_state` meets its contract.
 use Rattle.text.proofs.Fields.{next-at}
-use Rattle.meaning.specs.Bytes.{quoting}
 use borrow.Author.Needs.{needs}
 use Rattle.text.proofs.next_state.Statement.{statement}
 use Rattle.text.proofs.next_state.Tie as tie
@@ -18,8 +17,9 @@ index-2-result : tie.Need-index-2-result
 index-2-result c = search needs
 
 returns : tie.Need-returns
-unfolding quoting
-returns c = next-at (c .before .before .args .q) (c .before .before .args .b) _ (c .before .class-of .ensures .0)
+returns c =
+    let s = c .before .before in
+    rw (s .pre .0) (next-at (s .args .q) (s .args .b) _ (c .before .class-of .ensures .0))
 
 pub next-state-spec : {M : Type 1} → statement M
 next-state-spec =

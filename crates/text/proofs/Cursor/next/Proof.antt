@@ -8,14 +8,14 @@ use Rattle.text.proofs.Cursor.next.Tie as tie
 returns : tie.Need-returns
 returns c = step-over _ _ (c .if1 .taken)
 
-field-end-requires : tie.Need-field-end-requires
-field-end-requires c κs = search needs
+field-span-requires : tie.Need-field-span-requires
+field-span-requires c κs = search needs
 
-add-t5 : tie.Need-add-t5
-add-t5 c = let w = c .field-end .ensures .1 (c .before .if1 .left) in omega arith
+add-t6 : tie.Need-add-t6
+add-t6 c = let w = c .field-span .ensures .1 .1 (c .before .if1 .left) in omega arith
 
 returns-2 : tie.Need-returns-2
-returns-2 c = step-to _ _ _ (c .before .if1 .left) (c .field-end .ensures .0 .0)
+returns-2 c = step-to _ _ _ (c .before .if1 .left) (c .field-span .ensures .0 .0)
 
 pub next-spec : {M : Type 1} → statement M
-next-spec = tie.close (tie.spec returns field-end-requires add-t5 returns-2)
+next-spec = tie.close (tie.spec returns field-span-requires add-t6 returns-2)
