@@ -50,45 +50,6 @@ pub next-at : (q b k : ℕ) → k ≡ classOf b → (getD (getD quoting q []) k 
 unfolding next
 next-at q b k e = rw e (refl, next-lt q b)
 
--- a turn along the bytes, on the last state, the count of fields and the end of this one
-module _ (s : List ℕ) (i : ℕ) (more : i < length s) (q q′ : ℕ) (to : q′ ≡ next q (getD s i 0)) (k : ℕ) where
-  pub run-turn : run q (drop i s) ≡ k → run q′ (drop (i + 1) s) ≡ k
-  unfolding run
-  run-turn inv = rw to (rw (drop-next s i more) at inv)
-
-  pub count-yes : (n : ℕ) → q′ ≡ start → n + fieldCount q (drop i s) ≡ k → n + 1 + fieldCount q′ (drop (i + 1) s) ≡ k
-  unfolding fieldCount
-  count-yes n t inv =
-      let z : fieldCount q (drop i s) ≡ fieldCount q′ (drop (i + 1) s) + 1 = rw (drop-next s i, ← to, eq-eqb _ _ t) in omega arith
-
-  pub count-no : (n : ℕ) → (q′ ≡ start → ⊥) → n + fieldCount q (drop i s) ≡ k → n + fieldCount q′ (drop (i + 1) s) ≡ k
-  unfolding fieldCount
-  count-no n t inv =
-      let z : fieldCount q (drop i s) ≡ fieldCount q′ (drop (i + 1) s) = rw (drop-next s i, ← to, ne-eqb _ _ t) in omega arith
-
-  pub field-yes : q′ ≡ start → i + fieldLen q (drop i s) ≡ k → i ≡ k
-  unfolding fieldLen
-  field-yes t inv =
-      let z : fieldLen q (drop i s) ≡ 0 = rw (drop-next s i, ← to, eq-eqb _ _ t) in omega arith
-
-  pub field-no : (q′ ≡ start → ⊥) → i + fieldLen q (drop i s) ≡ k → i + 1 + fieldLen q′ (drop (i + 1) s) ≡ k
-  unfolding fieldLen
-  field-no t inv =
-      let z : fieldLen q (drop i s) ≡ fieldLen q′ (drop (i + 1) s) + 1 = rw (drop-next s i, ← to, ne-eqb _ _ t) in omega arith
-
-module _ (s : List ℕ) (i : ℕ) (over : length s ≤ i) (q : ℕ) where
-  pub good-over : run q (drop i s) ≡ run start s → getD endings q false ≡ good s
-  unfolding run good
-  good-over inv = rw (← inv, drop-over s i over)
-
-  pub count-over : (n k : ℕ) → n + fieldCount q (drop i s) ≡ k + 1 → n ≡ k
-  unfolding fieldCount
-  count-over n k inv = let z : fieldCount q (drop i s) ≡ 1 = rw (drop-over s i over) in omega arith
-
-  pub field-over : (k : ℕ) → i + fieldLen q (drop i s) ≡ k → i ≡ k
-  unfolding fieldLen
-  field-over k inv = let z : fieldLen q (drop i s) ≡ 0 = rw (drop-over s i over) in omega arith
-
 -- as many fields as the count says
 go-count : (q st at : ℕ) (r : List ℕ) → length (fieldsGo q st at r) ≡ fieldCount q r
 unfolding fieldsGo fieldCount
@@ -103,9 +64,6 @@ go-count q st at (b ∷ r) = go (eqb (next q b) start) (go-count (next q b) (at 
 pub fields-count : (l : List ℕ) → length (fields l) ≡ fieldCount start l
 unfolding fields
 fields-count l = go-count start 0 0 l
-
-pub count-first : (l : List ℕ) → 1 + fieldCount start l ≡ length (fields l) + 1
-count-first l = omega (arith, fields-count l)
 
 -- the end of a field lies within what is left
 field-within : (q : ℕ) (r : List ℕ) → fieldLen q r ≤ length r

@@ -89,10 +89,6 @@ module _ (q : Bool) (s : List ℕ) (n i k : ℕ) (inv : n + length (undouble q (
   pub length-over : length s ≤ i → n ≡ k
   length-over h = omega (arith, ap length (und-over q s i h))
 
-pub length-first : (raw s : List ℕ) (q : Bool) → s ≡ content raw → q ≡ marked raw → 0 + length (undouble q (drop 0 s)) ≡ length (value raw)
-unfolding value
-length-first raw s q e p = rw (← e, ← p) (omega arith)
-
 -- a value is no longer than its content, and empty just when that is
 und-within : (q : Bool) (l : List ℕ) → length (undouble q l) ≤ length l
 unfolding undouble
@@ -108,6 +104,18 @@ und-within q (b ∷ c ∷ r) = go (q && eqb b 34) (und-within q r) (und-within q
 pub value-within : (raw : List ℕ) → length (value raw) ≤ length raw
 unfolding value
 value-within raw = omega (arith, und-within (marked raw) (content raw), content-within raw)
+
+-- the length of a quoted value, and of a bare one
+module _ (raw : List ℕ) (m : Bool) (e : m ≡ marked raw) where
+  pub length-quoted : m ≡ true → (s : List ℕ) → s ≡ content raw → (n : ℕ) → n ≡ length (undouble true s) → (n ≡ length (value raw)) × (n ≤ length raw)
+  unfolding value
+  length-quoted t s p n h =
+      let k : n ≡ length (value raw) = h ∙ rw (← e, t, p) in
+      (k, omega (arith, value-within raw))
+
+  pub length-bare : m ≡ false → (length raw ≡ length (value raw)) × (length raw ≤ length raw)
+  unfolding value content
+  length-bare t = rw (← e, t, und-bare raw) (refl, omega arith)
 
 und-empty : (q : Bool) (l : List ℕ) → eqb (length l) 0 ≡ eqb (length (undouble q l)) 0
 und-empty q [] = rw (und-over q [] 0 (omega arith))

@@ -1,5 +1,5 @@
 // From bytes to fields: lines and their endings, quoting, the line cursor, and values.
-ghost use mathlib.Core.Bool.{false};
+ghost use mathlib.Core.Bool.{true, false};
 ghost use mathlib.Core.Path.{_≡_};
 ghost use Prim.Native.Nat.{_+_, _-_, _<_, _≤_};
 ghost use lib.ListN.{length, getD, set, drop};
@@ -430,19 +430,27 @@ fn width(q: bool, b: u8) -> usize
     1
 }
 
+// How many bytes stand between quotes, a mark that stands twice counted once.
+fn undoubled_length(s: &[u8]) -> usize
+    ensures { λ r. ⌜ r ≡ length (undouble true (now (s .entry))) ⌝ }
+{
+    let mut n: usize = 0;
+    let mut i = 0;
+    while i < s.len() {
+        i += width(true, s[i]);
+        n += 1;
+    }
+    n
+}
+
 // How many bytes the value of a raw field has.
 pub fn value_length(raw: &[u8]) -> usize
     ensures { λ r. ⌜ (r ≡ length (value (now (raw .entry)))) × (r ≤ length (now (raw .entry))) ⌝ }
 {
-    let s = content_of(raw);
-    let q = is_marked(raw);
-    let mut n: usize = 0;
-    let mut i = 0;
-    while i < s.len() {
-        i += width(q, s[i]);
-        n += 1;
+    if is_marked(raw) {
+        return undoubled_length(content_of(raw));
     }
-    n
+    raw.len()
 }
 
 // Is the value of a raw field empty?

@@ -1,67 +1,27 @@
 -- `text::value_length` meets its contract.
-use Rattle.text.proofs.Values.{length-turn, length-over, length-first, value-within}
-use Rattle.meaning.specs.Bytes.{undouble, value}
-use mathlib.Core.Path.{_≡_}
-use Prim.Native.Nat.{_≤_, _-_, _+_}
-use native.Mathlib.Omega.{arith}
-use lib.ListN.{length, drop}
+use Rattle.text.proofs.Values.{length-quoted, length-bare}
 use borrow.Author.Needs.{needs}
 use Rattle.text.proofs.value_length.Statement.{statement}
 use Rattle.text.proofs.value_length.Tie as tie
 
-abbrev Inv-loop : tie.InvT-loop
-Inv-loop raw s q n₀ i₀ n i = (i ≤ length s + 1) × (n ≤ i) × (n + length (undouble q (drop i s)) ≡ length (value raw))
-
-abbrev μ-loop : tie.MeasureT-loop
-μ-loop raw s q n₀ i₀ n i = length s + 1 - i
-
-content-of-requires : tie.Need-content-of-requires Inv-loop μ-loop
-content-of-requires c κs = search needs
-
-is-marked-requires : tie.Need-is-marked-requires Inv-loop μ-loop
+is-marked-requires : tie.Need-is-marked-requires
 is-marked-requires c κs = search needs
 
-loop-holds : tie.Need-loop-holds Inv-loop μ-loop
-loop-holds c = (omega arith, omega arith, length-first _ _ _ (c .before .content-of .ensures .0) (c .is-marked .ensures))
+content-of-requires : tie.Need-content-of-requires
+content-of-requires c κs = search needs
 
-shared-slice-read-width : tie.Need-shared-slice-read-width Inv-loop μ-loop
-shared-slice-read-width c = omega arith
+undoubled-length-requires : tie.Need-undoubled-length-requires
+undoubled-length-requires c κs = search needs
 
-width-requires : tie.Need-width-requires Inv-loop μ-loop
-width-requires c κs = search needs
-
-add-i : tie.Need-add-i Inv-loop μ-loop
-add-i c = omega arith
-
-add-n : tie.Need-add-n Inv-loop μ-loop
-add-n c = omega arith
-
-loop-less : tie.Need-loop-less Inv-loop μ-loop
-loop-less c = omega arith
-
-loop-again : tie.Need-loop-again Inv-loop μ-loop
-loop-again c =
-    let l = c .before .before .before .loop in
-    (omega arith, omega arith, length-turn _ _ _ _ _ (l .inv .2) (c .before .before .loop-test .taken) _ (c .width .ensures .0))
-
-returns : tie.Need-returns Inv-loop μ-loop
+returns : tie.Need-returns
 returns c =
-    let e = length-over _ _ _ _ _ (c .before .loop .inv .2) (c .loop-test .left) in
-    (e, rw e (value-within _))
+    let b = c .before .before .before in
+    length-quoted _ _ (b .is-marked .ensures) (c .before .before .if1 .taken) _ (c .before .content-of .ensures .0) _ (c .undoubled-length .ensures)
+
+returns-2 : tie.Need-returns-2
+returns-2 c = length-bare _ _ (c .before .is-marked .ensures) (c .if1 .left)
 
 pub value-length-spec : {M : Type 1} → statement M
 value-length-spec =
     tie.close
-    (tie.spec
-    Inv-loop
-    μ-loop
-    content-of-requires
-    is-marked-requires
-    loop-holds
-    shared-slice-read-width
-    width-requires
-    add-i
-    add-n
-    loop-less
-    loop-again
-    returns)
+    (tie.spec is-marked-requires content-of-requires undoubled-length-requires returns returns-2)
