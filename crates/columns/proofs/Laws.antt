@@ -16,10 +16,11 @@ use Rattle.meaning.specs.Bytes.{bounds, part, value, fields, values}
 use Rattle.meaning.specs.Columns.{schema, columnOf, countOf, places, fieldAt, cell, rowOf}
 use Rattle.meaning.specs.Refusals.{rule9}
 use Rattle.meaning.proofs.Columns.{row-at}
-use Rattle.text.specs.Fields.{fieldsFrom, valuesFrom, FieldStands}
-use Rattle.text.proofs.Fields.{from-over, from-start, values-over, values-start, field-inside}
+use Rattle.text.specs.Fields.{fieldsFrom, valuesFrom, pastEnds, FieldStands}
+use Rattle.text.proofs.Fields.{from-over, from-start, values-over, values-start, field-inside, fields-begin, fields-adjoin}
+use Rattle.text.proofs.Spans.{past-length, past-before, past-at}
 use Rattle.schema.proofs.Laws.{count-le}
-use Rattle.columns.specs.Columns.{tab, placesOf, lacking, noted, startsOf, endsOf, rowIn}
+use Rattle.columns.specs.Columns.{tab, placesOf, lacking, noted, startsOf, endsOf, fieldBy, Noted, rowIn}
 
 -- a turn along the fields of a header: the test of this field's value, and what is left
 module _ (name h : List ℕ) (at a e m : ℕ) (stands : FieldStands h at a e m) (t : Bool) (test : t ≡ same (value (part h (bounds a e))) name) (n r : ℕ) where
@@ -231,6 +232,98 @@ field-absent l p n h none = go (ltb p n) refl
     go : (t : Bool) → ltb p n ≡ t → 0 ≡ cond (eqb p 0) (bounds 0 0) (getD (fields l) (p - 1) (bounds 0 0)) .start
     go true t = rw (none (ltb-true p n t))
     go false t = let y : n ≤ p = ltb-false p n t in ap (λ (b : Bounds). b .start) (sym (field-over l p (omega arith)))
+
+-- a table of ten made from a list of ten
+tab-all : (g f : ℕ → ℕ) (ps : List ℕ) (j : ℕ) → ((k : ℕ) → g (j + k) ≡ f (getD ps k 0)) → tab g j (length ps) (length ps) ≡ map f ps
+unfolding tab
+tab-all g f [] j h = refl
+tab-all g f (p ∷ ps) j h =
+    let z : j + 0 ≡ j = omega arith in
+    let x : g j ≡ f p = rw z at (h 0) in
+    let y : tab g (j + 1) (length ps) (length ps) ≡ map f ps
+    = tab-all g f ps (j + 1) (λ k. let w : j + 1 + k ≡ j + suc k = omega arith in rw w (h (suc k))) in
+    rw (x, y)
+
+pub tab-map : (f : ℕ → ℕ) (ps : List ℕ) (k n : ℕ) → n ≤ k → k ≤ n → length ps ≡ n → (l : List ℕ) → l ≡ tab (λ k. f (getD ps k 0)) 0 k n → l ≡ map f ps
+tab-map f ps k n a b e l p =
+    let z : k ≡ length ps = omega arith in
+    let y : n ≡ length ps = omega arith in
+    (rw (z, y) at p) ∙ tab-all (λ k. f (getD ps k 0)) f ps 0 (λ k. let w : 0 + k ≡ k = omega arith in rw w)
+
+pub tab-none-yet : (g : ℕ → ℕ) → replicate 10 0 ≡ tab g 0 0 10
+unfolding tab
+tab-none-yet g = refl
+
+-- a field by a table of starts, in the order of the code
+module _ (n : ℕ) (t : List ℕ) (p : ℕ) where
+  pub by-none : p ≡ 0 → bounds 0 0 ≡ fieldBy n t p
+  unfolding fieldBy
+  by-none e = rw (eq-eqb p 0 e)
+
+  pub by-past : (p ≡ 0 → ⊥) → n < p → bounds 0 0 ≡ fieldBy n t p
+  unfolding fieldBy
+  by-past z h = rw (ne-eqb p 0 z, lt-ltb n p h)
+
+  pub by-table : (p ≡ 0 → ⊥) → p ≤ n → bounds (getD t (p - 1) 0) (getD t p 0 - 1) ≡ fieldBy n t p
+  unfolding fieldBy
+  by-table z h = rw (ne-eqb p 0 z, le-ltb n p h)
+
+-- it is the line's, where the table is
+module _ (l t : List ℕ) (n : ℕ) (counted : n ≡ length (fields l)) (noted : Noted l t) (wide : n < length t) where
+  -- a field that is there ends before the place that is noted for it, and starts at the one before
+  by-end : (j : ℕ) → j < length (fields l) → getD t (j + 1) 0 - 1 ≡ getD (fields l) j (bounds 0 0) .end
+  unfolding fieldAt
+  by-end j h =
+      let z : j + 1 ≡ 0 → ⊥ = λ e. omega arith in
+      let y : j + 1 - 1 ≡ j = omega arith in
+      let x : getD t (j + 1) 0 ≡ getD (fields l) j (bounds 0 0) .end + 1 = rw (ne-eqb (j + 1) 0 z, y) at (noted .past (j + 1) (omega arith) (omega arith) (omega arith)) in
+      omega arith
+
+  by-start : (j : ℕ) → j < length (fields l) → getD t j 0 ≡ getD (fields l) j (bounds 0 0) .start
+  unfolding fieldAt
+  by-start zero h = noted .first ∙ sym (fields-begin l)
+  by-start (suc j) h =
+      let z : suc j ≡ 0 → ⊥ = λ e. omega arith in
+      let y : suc j - 1 ≡ j = omega arith in
+      (rw (ne-eqb (suc j) 0 z, y) at (noted .past (suc j) (omega arith) (omega arith) (omega arith))) ∙ sym (fields-adjoin l j h)
+
+  pub by-line : (p : ℕ) → fieldBy n t p ≡ fieldAt l p
+  unfolding fieldBy fieldAt
+  by-line p = go (eqb p 0) (ltb n p) refl refl
+    where
+      go : (u v : Bool) → eqb p 0 ≡ u → ltb n p ≡ v → fieldBy n t p ≡ fieldAt l p
+      go true v e d = rw e
+      go false true e d = sym (by-past n t p (eqb-false p 0 e) (ltb-true n p d)) ∙ sym (field-over l p (rw (← counted) (ltb-true n p d)))
+      go false false e d =
+          let z : p ≡ 0 → ⊥ = eqb-false p 0 e in
+          let h : p ≤ n = ltb-false n p d in
+          let y : p - 1 + 1 ≡ p = omega arith in
+          rw (e, d, by-start (p - 1) (omega arith)) (rw y at (ap (λ (x : ℕ). bounds (getD (fields l) (p - 1) (bounds 0 0) .start) x) (by-end (p - 1) (omega arith))))
+
+  -- so the cells by the table are the line's
+  cells-same : (g : Bounds → ℕ) (ps : List ℕ) → map (λ p. g (fieldBy n t p)) ps ≡ map (λ p. g (fieldAt l p)) ps
+  cells-same g [] = refl
+  cells-same g (p ∷ ps) = rw (by-line p, cells-same g ps)
+
+  pub cells-by : (ps ss es : List ℕ) → (ss ≡ map (λ p. fieldBy n t p .start) ps) × (es ≡ map (λ p. fieldBy n t p .end) ps) → (ss ≡ startsOf l ps) × (es ≡ endsOf l ps)
+  unfolding startsOf endsOf
+  cells-by ps ss es e = (e .0 ∙ cells-same (λ b. b .start) ps, e .1 ∙ cells-same (λ b. b .end) ps)
+
+  -- and no place past an end is 0
+  pub past-some : (k : ℕ) → 0 < k → k ≤ n → 0 < getD t k 0
+  past-some k h w = omega (arith, noted .past k h (omega arith) (omega arith))
+
+-- a walk along a line notes such a table in one that starts with 0
+pub noted-by : (l t u : List ℕ) → getD t 0 0 ≡ 0 → u ≡ pastEnds (fields l) 1 t → Noted l u
+unfolding fieldAt
+noted-by l t u z e = record {
+  first = rw e (past-before (fields l) 1 t 0 (omega arith) ∙ z);
+  past = λ k a b c.
+      let n : k ≡ 0 → ⊥ = λ x. omega arith in
+      let y : 1 + (k - 1) ≡ k = omega arith in
+      let w : length u ≡ length t = rw e (past-length (fields l) 1 t) in
+      rw (e, ne-eqb k 0 n) (rw y at (past-at (fields l) 1 t (k - 1) (omega arith) (omega arith)));
+}
 
 pub fields-first : (l : List ℕ) (at : ℕ) → at ≡ 0 → drop (1 - 1) (fields l) ≡ fieldsFrom l at
 fields-first l at e = rw (e, from-start l)

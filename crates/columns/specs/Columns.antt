@@ -1,10 +1,12 @@
 -- The columns of a header and the fields under them, as tables of ten.
-use Prim.Native.Nat.{ℕ, zero, suc, _+_}
+use Prim.Native.Nat.{ℕ, zero, suc, _+_, _-_, _≤_, _<_}
+use mathlib.Core.Path.{_≡_}
 use mathlib.Core.List.{List, [], _∷_, map}
 use mathlib.Core.Bool.{Bool, cond, _&&_}
-use lib.ListN.{getD}
-use lib.Dec.{eqb}
-use Rattle.meaning.specs.Bytes.{bounds, part, value}
+use lib.ListN.{length, getD}
+use lib.Dec.{eqb, ltb}
+use Rattle.meaning.specs.declared.Bounds.{Bounds}
+use Rattle.meaning.specs.Bytes.{bounds, part, value, fields}
 use Rattle.meaning.specs.Lists.{some}
 use Rattle.meaning.specs.Columns.{Row, columnOf, countOf, places, fieldAt}
 
@@ -35,6 +37,15 @@ startsOf l ps = map (λ p. fieldAt l p .start) ps
 
 unfoldable pub endsOf : List ℕ → List ℕ → List ℕ
 endsOf l ps = map (λ p. fieldAt l p .end) ps
+
+-- the field in column p of n fields, by a table of where they start: number 0 has the first, number k the one past field k
+unfoldable pub fieldBy : ℕ → List ℕ → ℕ → Bounds
+fieldBy n t p = cond (eqb p 0) (bounds 0 0) (cond (ltb n p) (bounds 0 0) (bounds (getD t (p - 1) 0) (getD t p 0 - 1)))
+
+-- such a table has where the fields of a line start, as far as it goes
+pub record Noted (l t : List ℕ) : Type 0 where
+  pub first : getD t 0 0 ≡ 0
+  pub past : (k : ℕ) → 0 < k → k ≤ length (fields l) → k < length t → getD t k 0 ≡ fieldAt l k .end + 1
 
 -- what a line says in fields with these starts and ends
 unfoldable pub rowIn : List ℕ → List ℕ → List ℕ → Row

@@ -1,19 +1,21 @@
 // Where the known columns stand in a header, and where their fields lie in a line.
+use meaning::Bounds;
 use text::Cursor;
 use text::LineStep;
 use text::Step;
 ghost use mathlib.Core.Path.{_≡_};
 ghost use mathlib.Core.Bool.{_&&_};
-ghost use Prim.Native.Nat.{_+_, _≤_, _<_};
+ghost use mathlib.Core.List.{map};
+ghost use Prim.Native.Nat.{ℕ, _+_, _≤_, _<_};
 ghost use lib.Dec.{eqb};
-ghost use lib.ListN.{length};
+ghost use lib.ListN.{length, getD, replicate};
 ghost use Rattle.meaning.specs.Lists.{find, findAgain, lesser};
 ghost use Rattle.meaning.specs.Bytes.{countLf, fields, values};
 ghost use Rattle.meaning.specs.Columns.{nameOf, columnOf, fieldAt};
 ghost use Rattle.meaning.specs.Refusals.{rule8};
 ghost use Rattle.text.specs.Fields.{valuesFrom};
 ghost use Rattle.columns.specs.Heading.{Heading};
-ghost use Rattle.columns.specs.Columns.{placesOf, lacking, noted, startsOf, endsOf};
+ghost use Rattle.columns.specs.Columns.{placesOf, lacking, noted, startsOf, endsOf, fieldBy, Noted};
 
 // The column of each known name in a header, counted from 1, 0 where it is absent; and how many fields the header has.
 pub struct Columns {
@@ -202,8 +204,8 @@ fn note_field(c: Cells, at: [usize; 10], j: usize, a: usize, e: usize) -> Cells
     Cells { start, end }
 }
 
-// The fields of a line under columns, in one walk along the line.
-pub fn locate(l: &[u8], at: [usize; 10]) -> Cells
+// The fields of a line under columns, each noted where it is met: for lines of any number of fields.
+fn wide_cells(l: &[u8], at: [usize; 10]) -> Cells
     ensures { λ r. ⌜ (r .start ≡ startsOf (now (l .entry)) at) × (r .end ≡ endsOf (now (l .entry)) at) ⌝ }
 {
     let mut cells = Cells {
@@ -224,6 +226,67 @@ pub fn locate(l: &[u8], at: [usize; 10]) -> Cells
             }
         }
     }
+}
+
+// The field in column p of a line with so many fields, by where they start.
+fn field_by(count: usize, starts: &[usize], p: usize) -> Bounds
+    requires { ⌜ (count < length (now starts)) × ((k : ℕ) → 0 < k → k ≤ count → 0 < getD (now starts) k 0) ⌝ }
+    ensures { λ r. ⌜ r ≡ fieldBy count (now (starts .entry)) p ⌝ }
+{
+    if p == 0 {
+        return Bounds { start: 0, end: 0 };
+    }
+    if count < p {
+        return Bounds { start: 0, end: 0 };
+    }
+    Bounds {
+        start: starts[p - 1],
+        end: starts[p] - 1,
+    }
+}
+
+// The fields under columns, one look-up each.
+fn near_cells(count: usize, starts: &[usize], at: [usize; 10]) -> Cells
+    requires { ⌜ (count < length (now starts)) × ((k : ℕ) → 0 < k → k ≤ count → 0 < getD (now starts) k 0) ⌝ }
+    ensures { λ r. ⌜ (r .start ≡ map (λ p. fieldBy count (now (starts .entry)) p .start) at) × (r .end ≡ map (λ p. fieldBy count (now (starts .entry)) p .end) at) ⌝ }
+{
+    let mut start = [0usize; 10];
+    let mut end = [0usize; 10];
+    let mut k = 0;
+    while k < 10 {
+        let b = field_by(count, starts, at[k]);
+        start[k] = b.start;
+        end[k] = b.end;
+        k += 1;
+    }
+    Cells { start, end }
+}
+
+// The fields of a line under columns, where a walk along it told how many fields it has and, as far as the table goes, where they start.
+pub fn cells_of(l: &[u8], count: usize, starts: &[usize], at: [usize; 10]) -> Cells
+    requires { ⌜ (count ≡ length (fields (now l))) × Noted (now l) (now starts) ⌝ }
+    ensures { λ r. ⌜ (r .start ≡ startsOf (now (l .entry)) at) × (r .end ≡ endsOf (now (l .entry)) at) ⌝ }
+{
+    if count < starts.len() {
+        return near_cells(count, starts, at);
+    }
+    wide_cells(l, at)
+}
+
+// A table for where the fields of a line start, as many as rule 7 allows, and where one more would.
+pub fn blank_starts() -> [usize; 33]
+    ensures { λ r. ⌜ r ≡ replicate 33 0 ⌝ }
+{
+    [0usize; 33]
+}
+
+// The fields of a line under columns, in one walk along the line.
+pub fn locate(l: &[u8], at: [usize; 10]) -> Cells
+    ensures { λ r. ⌜ (r .start ≡ startsOf (now (l .entry)) at) × (r .end ≡ endsOf (now (l .entry)) at) ⌝ }
+{
+    let mut starts = blank_starts();
+    let m = text::walk_fields(l, &mut starts);
+    cells_of(l, m.fields, &starts, at)
 }
 
 // Where the field in column p of a line begins; 0 where there is none.

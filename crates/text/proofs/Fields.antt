@@ -5,7 +5,7 @@ use mathlib.Core.List.{List, [], _∷_}
 use Prim.Native.Nat.{ℕ, zero, suc, _+_, _-_, _≤_, _<_, zero-le}
 use native.Mathlib.Numerals.{add-one}
 use native.Mathlib.Omega.{arith}
-use native.Mathlib.Nat.{add-zero}
+use native.Mathlib.Nat.{add-zero, not-suc-le-zero, le-of-suc-le-suc}
 use lib.Dec.{eqb, ltb, leb→le}
 use lib.ListN.{length, getD, drop, length-drop}
 use lib.Seq.{drop-drop}
@@ -203,6 +203,47 @@ go-inside q st at (b ∷ r) n h e j =
     go true zero y x = record { ordered = h; within = omega arith }
     go true (suc j) y x = y j
     go false j y x = x j
+
+-- the first field starts where it began, each later one past the end of that before it
+go-first : (q st at : ℕ) (r : List ℕ) → getD (fieldsGo q st at r) 0 (bounds 0 0) .start ≡ st
+unfolding fieldsGo
+go-first q st at [] = refl
+go-first q st at (b ∷ r) = go (eqb (next q b) start) (go-first (next q b) st (at + 1) r)
+  where
+    go : (t : Bool) → getD (fieldsGo (next q b) st (at + 1) r) 0 (bounds 0 0) .start ≡ st
+        → getD (cond t (bounds st at ∷ fieldsGo (next q b) (at + 1) (at + 1) r) (fieldsGo (next q b) st (at + 1) r)) 0 (bounds 0 0) .start ≡ st
+    go true ih = refl
+    go false ih = ih
+
+go-next : (q st at : ℕ) (r : List ℕ) (j : ℕ) → suc j < length (fieldsGo q st at r)
+    → getD (fieldsGo q st at r) (suc j) (bounds 0 0) .start ≡ getD (fieldsGo q st at r) j (bounds 0 0) .end + 1
+unfolding fieldsGo
+go-next q st at [] j h = absurd (not-suc-le-zero (le-of-suc-le-suc h))
+go-next q st at (b ∷ r) j h =
+    go (eqb (next q b) start) j h (go-next (next q b) (at + 1) (at + 1) r) (go-next (next q b) st (at + 1) r) (go-first (next q b) (at + 1) (at + 1) r)
+  where
+    y : List Bounds
+    y = fieldsGo (next q b) (at + 1) (at + 1) r
+
+    n : List Bounds
+    n = fieldsGo (next q b) st (at + 1) r
+
+    go : (t : Bool) (j : ℕ) → suc j < length (cond t (bounds st at ∷ y) n)
+        → ((i : ℕ) → suc i < length y → getD y (suc i) (bounds 0 0) .start ≡ getD y i (bounds 0 0) .end + 1)
+        → ((i : ℕ) → suc i < length n → getD n (suc i) (bounds 0 0) .start ≡ getD n i (bounds 0 0) .end + 1)
+        → getD y 0 (bounds 0 0) .start ≡ at + 1
+        → getD (cond t (bounds st at ∷ y) n) (suc j) (bounds 0 0) .start ≡ getD (cond t (bounds st at ∷ y) n) j (bounds 0 0) .end + 1
+    go true zero h p o f = f
+    go true (suc j) h p o f = p j (le-of-suc-le-suc h)
+    go false j h p o f = o j h
+
+pub fields-begin : (l : List ℕ) → getD (fields l) 0 (bounds 0 0) .start ≡ 0
+unfolding fields
+fields-begin l = go-first start 0 0 l
+
+pub fields-adjoin : (l : List ℕ) (j : ℕ) → suc j < length (fields l) → getD (fields l) (suc j) (bounds 0 0) .start ≡ getD (fields l) j (bounds 0 0) .end + 1
+unfolding fields
+fields-adjoin l j h = go-next start 0 0 l j h
 
 -- every field lies within its line, and so does the default
 pub fields-inside : (l : List ℕ) (j : ℕ) → Inside (length l) (getD (fields l) j (bounds 0 0))

@@ -8,9 +8,10 @@ use native.Mathlib.Omega.{arith}
 use native.Mathlib.Nat.{add-zero, not-suc-le-zero}
 use lib.Dec.{eqb}
 use lib.ListN.{length, getD, set, drop, length-drop, length-set}
-use lib.Seq.{drop-drop, getD-drop}
+use lib.Seq.{drop-drop, getD-drop, getD-set-same, getD-set-other}
 use borrow.Author.Tests.{eq-eqb, ne-eqb, eqb-true, eqb-false}
-use Rattle.meaning.specs.Bytes.{start, bare, quoted, classOf, quoting, endings, next, run, good, fields}
+use Rattle.meaning.specs.declared.Bounds.{Bounds}
+use Rattle.meaning.specs.Bytes.{bounds, start, bare, quoted, classOf, quoting, endings, next, run, good, fields}
 use Rattle.text.specs.Fields.{toBreak, toMark, afterRun, fieldLen, fieldState, fieldsFrom, pastEnds}
 use Rattle.text.proofs.Laws.{drop-next, drop-over}
 use Rattle.text.proofs.Fields.{from-step, from-over, end-within}
@@ -253,3 +254,25 @@ module _ (l : List ℕ) (at : ℕ) (within : at ≤ length l) (e : ℕ) (ends : 
     pub note-last : length l ≤ e → u ≡ v
     unfolding pastEnds
     note-last over = rw noted (rw (from-step l at within e ends, from-over l (e + 1) (omega arith)) at inv)
+
+-- what stands in a table of ends
+pub past-length : (bs : List Bounds) (n : ℕ) (t : List ℕ) → length (pastEnds bs n t) ≡ length t
+unfolding pastEnds
+past-length [] n t = refl
+past-length (b ∷ bs) n t = past-length bs (n + 1) (set t n (b .end + 1)) ∙ length-set t n (b .end + 1)
+
+pub past-before : (bs : List Bounds) (n : ℕ) (t : List ℕ) (k : ℕ) → k < n → getD (pastEnds bs n t) k 0 ≡ getD t k 0
+unfolding pastEnds
+past-before [] n t k h = refl
+past-before (b ∷ bs) n t k h =
+    past-before bs (n + 1) (set t n (b .end + 1)) k (omega arith) ∙ getD-set-other t n k (b .end + 1) 0 (λ e. omega arith)
+
+pub past-at : (bs : List Bounds) (n : ℕ) (t : List ℕ) (k : ℕ) → k < length bs → n + k < length t → getD (pastEnds bs n t) (n + k) 0 ≡ getD bs k (bounds 0 0) .end + 1
+unfolding pastEnds
+past-at [] n t k h w = absurd (not-suc-le-zero h)
+past-at (b ∷ bs) n t zero h w =
+    let z : n + 0 ≡ n = omega arith in
+    rw z (past-before bs (n + 1) (set t n (b .end + 1)) n (omega arith) ∙ getD-set-same t n (b .end + 1) 0 (omega arith))
+past-at (b ∷ bs) n t (suc k) h w =
+    let z : n + suc k ≡ n + 1 + k = omega arith in
+    rw z (past-at bs (n + 1) (set t n (b .end + 1)) k (omega arith) (omega (arith, length-set t n (b .end + 1))))
