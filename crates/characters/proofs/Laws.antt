@@ -1,5 +1,5 @@
 -- Laws of a walk along a line: the classes, the states and their table, runs of ASCII, a turn.
-use Prim.Native.Nat.{ℕ, _+_, _-_, _≤_, _<_}
+use Prim.Native.Nat.{ℕ, suc, _+_, _-_, _≤_, _<_}
 use native.Mathlib.Numerals.{add-one}
 use native.Mathlib.Omega.{arith}
 use mathlib.Core.Path.{_≡_, refl, sym, _∙_}
@@ -8,14 +8,14 @@ use mathlib.Core.List.{List, [], _∷_}
 use lib.Dec.{leb, ltb, eqb}
 use lib.ListN.{length, getD, drop}
 use lib.Seq.{drop-drop}
-use borrow.Author.Tests.{leb-true, eqb-true, ltb-true, lt-ltb, le-ltb}
+use borrow.Author.Tests.{leb-true, leb-false, eqb-true, ltb-true, ltb-false, lt-ltb, le-ltb, le-leb, lt-leb, ne-eqb}
 use Rattle.meaning.specs.Characters.{Range, _to_, sequences, within, begun, awaited, awaitedAfter, wellFormed}
-use Rattle.meaning.specs.Refusals.{rule14}
+use Rattle.meaning.specs.Refusals.{rule5, rule14}
 use Rattle.meaning.proofs.Computed.{is-true, allBelow, below-all}
 use Rattle.meaning.proofs.ListLaws.{both, and-both}
 use Rattle.meaning.proofs.Characters.{within-yes}
 use Rattle.text.proofs.Laws.{drop-next, drop-over}
-use Rattle.characters.specs.States.{states, awaits, classStarts, countTo, classOf, classLetters, nextStates, toHigh}
+use Rattle.characters.specs.States.{states, awaits, classStarts, countTo, classOf, classLetters, nextStates, toHigh, plain}
 
 -- ---- classes
 
@@ -163,3 +163,43 @@ module _ (l : List ℕ) (at : ℕ) (stands : at ≡ 0 + toHigh (drop 0 l)) where
   pub all-ascii : length l ≤ at → false ≡ rule14 l
   unfolding awaitedAfter
   all-ascii over = rw (drop-over l at over) at told-from
+
+-- a turn along the bytes, on whether all are plain
+module _ (s : List ℕ) (i : ℕ) (k : Bool) (inv : plain (drop i s) ≡ k) where
+  pub plain-low : i < length s → getD s i 0 < 0x20 → false ≡ k
+  unfolding plain
+  plain-low more h = rw (drop-next s i more, lt-ltb (getD s i 0) 0x20 h) at inv
+
+  pub plain-high : i < length s → 0x20 ≤ getD s i 0 → 0x80 ≤ getD s i 0 → false ≡ k
+  unfolding plain
+  plain-high more l h = rw (drop-next s i more, le-ltb (getD s i 0) 0x20 l, le-leb 0x80 (getD s i 0) h) at inv
+
+  pub plain-next : i < length s → 0x20 ≤ getD s i 0 → getD s i 0 < 0x80 → plain (drop (i + 1) s) ≡ k
+  unfolding plain
+  plain-next more l h = rw (drop-next s i more, le-ltb (getD s i 0) 0x20 l, lt-leb 0x80 (getD s i 0) h) at inv
+
+  pub plain-over : length s ≤ i → true ≡ k
+  unfolding plain
+  plain-over over = rw (drop-over s i over) at inv
+
+-- a plain line has no stray byte, and is ASCII
+plain-is : (l : List ℕ) → plain l ≡ true → (rule5 l ≡ false) × (toHigh l ≡ length l)
+unfolding plain rule5 toHigh
+plain-is [] p = (refl, refl)
+plain-is (b ∷ r) p = go (ltb b 0x20) refl (leb 0x80 b) refl p (plain-is r)
+  where
+    go : (t : Bool) → ltb b 0x20 ≡ t → (u : Bool) → leb 0x80 b ≡ u → cond t false (cond u false (plain r)) ≡ true
+        → (plain r ≡ true → (rule5 r ≡ false) × (toHigh r ≡ length r)) → (rule5 (b ∷ r) ≡ false) × (toHigh (b ∷ r) ≡ suc (length r))
+    go true e u d q ih = both false q refl
+    go false e true d q ih = both false q refl
+    go false e false d q ih =
+        let h : 0x20 ≤ b = ltb-false b 0x20 e in
+        let w : b < 0x80 = leb-false 0x80 b d in
+        let x = ih q in
+        rw (ne-eqb b 9 (λ z. omega arith), ne-eqb b 13 (λ z. omega arith), lt-ltb b 0x80 w) (x .0, omega (arith, x .1))
+
+pub plain-stray : (l : List ℕ) → plain l ≡ true → rule5 l ≡ false
+plain-stray l p = plain-is l p .0
+
+pub plain-formed : (l : List ℕ) → plain l ≡ true → rule14 l ≡ false
+plain-formed l p = sym (all-ascii l (0 + toHigh (drop 0 l)) refl (omega (arith, plain-is l p .1)))

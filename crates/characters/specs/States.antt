@@ -1,7 +1,7 @@
 -- The states of a walk along a line, by what they await, and the classes of bytes that the table doesn't tell apart.
 use Prim.Native.Nat.{ℕ, _+_}
 use mathlib.Core.List.{List, [], _∷_}
-use mathlib.Core.Bool.{cond}
+use mathlib.Core.Bool.{Bool, true, false, cond}
 use lib.Dec.{leb, ltb}
 use lib.ListN.{getD}
 use Rattle.meaning.specs.Lists.{ascii}
@@ -59,3 +59,8 @@ nextStates =
 unfoldable pub toHigh : List ℕ → ℕ
 toHigh [] = 0
 toHigh (b ∷ r) = let k = toHigh r + 1 in cond (ltb b 0x80) k 0
+
+-- is every byte one of 20 to 7F
+unfoldable pub plain : List ℕ → Bool
+plain [] = true
+plain (b ∷ r) = let k = plain r in cond (ltb b 0x20) false (cond (leb 0x80 b) false k)

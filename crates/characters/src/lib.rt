@@ -7,7 +7,7 @@ ghost use lib.Dec.{eqb};
 ghost use lib.ListN.{length, drop};
 ghost use Rattle.meaning.specs.Characters.{awaited, awaitedAfter};
 ghost use Rattle.meaning.specs.Refusals.{rule14};
-ghost use Rattle.characters.specs.States.{awaits, classOf, classLetters, nextStates, toHigh};
+ghost use Rattle.characters.specs.States.{awaits, classOf, classLetters, nextStates, toHigh, plain};
 
 // Between two characters a walk lacks nothing.
 const START: u8 = 0;
@@ -95,4 +95,21 @@ pub fn is_ill_formed(l: &[u8]) -> bool
         return false;
     }
     awaits_more(l, at)
+}
+
+// Is every byte of a line one of 20 to 7F? Then it breaks neither rule 5 nor rule 14, told by one walk.
+pub fn is_plain(l: &[u8]) -> bool
+    ensures { λ r. ⌜ r ≡ plain (now (l .entry)) ⌝ }
+{
+    let mut i = 0;
+    while i < l.len() {
+        if l[i] < 0x20 {
+            return false;
+        }
+        if 0x80 <= l[i] {
+            return false;
+        }
+        i += 1;
+    }
+    true
 }

@@ -1,10 +1,13 @@
 -- Tables of numbers, made from any schema: reading them is reading the schema. No law names a column.
-use mathlib.Core.Path.{_≡_, refl}
+use mathlib.Core.Path.{_≡_, refl, _∙_}
 use mathlib.Core.Bool.{Bool, true, false, _&&_}
 use mathlib.Core.List.{List, [], _∷_, _++_}
 use Prim.Native.Nat.{ℕ, zero, suc, _+_, _-_, _≤_, _<_}
-use lib.Dec.{T, leb, leb→le}
-use lib.ListN.{length, getD, take, drop}
+use native.Mathlib.Omega.{arith}
+use lib.Dec.{T, eqb, leb, leb→le}
+use lib.ListN.{length, getD, set, take, drop}
+use lib.Seq.{getD-set-same, getD-set-other}
+use borrow.Author.Tests.{eqb-true, eqb-false}
 use Rattle.meaning.specs.declared.Column.{Column}
 use Rattle.meaning.specs.Lists.{same}
 use Rattle.meaning.specs.Columns as X
@@ -41,6 +44,15 @@ module _ {A : Type 0} (g : Known → A) where
 pub column-is : (c : Column) (m i : Bool) (n w : ℕ) → m ≡ c .must → n ≡ c .need → i ≡ c .ident → w ≡ c .form
     → _≡_ {A = Column} (record { must = m; need = n; ident = i; form = w }) c
 column-is c m i n w p q r s = rw (p, q, r, s)
+
+-- a list of columns, one more made
+pub columns-more : (g : ℕ → Column) (d : Column) (l : List Column) (k : ℕ) (v : Column) → k < length l → v ≡ g k
+    → ((j : ℕ) → j < k → getD l j d ≡ g j) → (j : ℕ) → j < k + 1 → getD (set l k v) j d ≡ g j
+columns-more g d l k v h e before j b = go (eqb j k) refl
+  where
+    go : (t : Bool) → eqb j k ≡ t → getD (set l k v) j d ≡ g j
+    go true t = rw (eqb-true j k t) (getD-set-same l k v d h ∙ e)
+    go false t = let n : j ≡ k → ⊥ = eqb-false j k t in getD-set-other l k j v d n ∙ before j (omega arith)
 
 abbrev pub lengths : List (List Known) → List ℕ
 lengths [] = []

@@ -1,10 +1,11 @@
 // The known columns of each file, as data.
 use meaning::Column;
 ghost use mathlib.Core.Path.{_≡_};
-ghost use Prim.Native.Nat.{_<_, _≤_};
+ghost use Prim.Native.Nat.{ℕ, _<_, _≤_};
+ghost use lib.ListN.{getD};
 ghost use Rattle.meaning.specs.Lists.{same};
 ghost use Rattle.meaning.specs.Bytes.{value};
-ghost use Rattle.meaning.specs.Columns.{columnOf, nameOf, countOf};
+ghost use Rattle.meaning.specs.Columns.{unknown, columnOf, nameOf, countOf};
 
 // For each file and known column: must be present, on which lines it needs a value, is an id, form.
 const MUST: [[bool; 10]; 7] = [
@@ -240,6 +241,20 @@ pub fn known(f: usize, k: usize) -> Column
         ident,
         form,
     }
+}
+
+// What the known columns of file f ask. Made once a file: a constant's array is written anew wherever it is named.
+pub fn asked(f: usize) -> [Column; 10]
+    requires { ⌜ f < 7 ⌝ }
+    ensures { λ r. ⌜ ((k : ℕ) → k < 10 → getD r k (unknown .column) ≡ columnOf f k) ⌝ }
+{
+    let mut all = [known(f, 9); 10];
+    let mut k = 0;
+    while k < 10 {
+        all[k] = known(f, k);
+        k += 1;
+    }
+    all
 }
 
 // Is the value of a raw field the name of known column k of file f?

@@ -1,0 +1,62 @@
+-- `characters::is_plain` meets its contract.
+use Rattle.characters.proofs.Laws.{plain-low, plain-high, plain-next, plain-over}
+use Rattle.characters.specs.States.{plain}
+use mathlib.Core.Path.{_≡_, refl}
+use Prim.Native.Nat.{_≤_, _-_}
+use native.Mathlib.Omega.{arith}
+use lib.ListN.{length, drop}
+use Rattle.characters.proofs.is_plain.Statement.{statement}
+use Rattle.characters.proofs.is_plain.Tie as tie
+
+abbrev Inv-loop : tie.InvT-loop
+Inv-loop l i₀ i = (i ≤ length l) × (plain (drop i l) ≡ plain l)
+
+abbrev μ-loop : tie.MeasureT-loop
+μ-loop l i₀ i = length l - i
+
+loop-holds : tie.Need-loop-holds Inv-loop μ-loop
+loop-holds c = (omega arith, refl)
+
+shared-slice-read-if1 : tie.Need-shared-slice-read-if1 Inv-loop μ-loop
+shared-slice-read-if1 c = omega arith
+
+returns : tie.Need-returns Inv-loop μ-loop
+returns c = plain-low _ _ _ (c .before .before .before .loop .inv .1) (c .before .before .loop-test .taken) (c .if1 .taken)
+
+shared-slice-read-if2 : tie.Need-shared-slice-read-if2 Inv-loop μ-loop
+shared-slice-read-if2 c = omega arith
+
+returns-2 : tie.Need-returns-2 Inv-loop μ-loop
+returns-2 c =
+    let b = c .before .before in
+    plain-high _ _ _ (b .before .before .before .loop .inv .1) (b .before .before .loop-test .taken) (b .if1 .left) (c .if2 .taken)
+
+add-i : tie.Need-add-i Inv-loop μ-loop
+add-i c = omega arith
+
+loop-less : tie.Need-loop-less Inv-loop μ-loop
+loop-less c = omega arith
+
+loop-again : tie.Need-loop-again Inv-loop μ-loop
+loop-again c =
+    let b = c .before .before in
+    (omega arith, plain-next _ _ _ (b .before .before .before .loop .inv .1) (b .before .before .loop-test .taken) (b .if1 .left) (c .if2 .left))
+
+returns-3 : tie.Need-returns-3 Inv-loop μ-loop
+returns-3 c = plain-over _ _ _ (c .before .loop .inv .1) (c .loop-test .left)
+
+pub is-plain-spec : {M : Type 1} → statement M
+is-plain-spec =
+    tie.close
+    (tie.spec
+    Inv-loop
+    μ-loop
+    loop-holds
+    shared-slice-read-if1
+    returns
+    shared-slice-read-if2
+    returns-2
+    add-i
+    loop-less
+    loop-again
+    returns-3)
