@@ -21,29 +21,25 @@ use Rattle.text.proofs.Laws.{drop-next, drop-over, same-no}
 use Rattle.digits.proofs.Laws.{none-is-no}
 use Rattle.forms.proofs.Laws.{no-test, digit-long, digit-none}
 
+-- none either way is none
+either : {A : Type 0} (t : Bool) (none : A) → cond t none none ≡ none
+either true none = refl
+either false none = refl
+
 -- The one fact on digits: a run with a mark in it writes no number.
 digits-marked : (n : ℕ) (l : List ℕ) → noMark l ≡ false → digits n l ≡ NoNumber
 unfolding digits noMark isDigit
 digits-marked n [] h = no-test (sym h)
 digits-marked n (b ∷ r) h = go (eqb b 34) refl (digits-marked (n * 10 + (b - 48)) r)
   where
-    none : (t : Bool) → cond t NoNumber NoNumber ≡ NoNumber
-    none true = refl
-    none false = refl
-
     go : (t : Bool) → eqb b 34 ≡ t → (noMark r ≡ false → digits (n * 10 + (b - 48)) r ≡ NoNumber)
         → digits n (b ∷ r) ≡ NoNumber
     go true e ih = rw (lt-leb 48 b (omega (arith, eqb-true b 34 e)))
-    go false e ih = rw (ih (rw e at h)) (none (isDigit b))
+    go false e ih = rw (ih (rw e at h)) (either (isDigit b) NoNumber)
 
 pub sequence-marked : (v : List ℕ) → noMark v ≡ false → sequenceText v ≡ NoNumber
 unfolding sequenceText
-sequence-marked v h = rw (digits-marked 0 v h) (go (ltb (length v) 1) (ltb 9 (length v)))
-  where
-    go : (x y : Bool) → cond x NoNumber (cond y NoNumber NoNumber) ≡ NoNumber
-    go true y = refl
-    go false true = refl
-    go false false = refl
+sequence-marked v h = rw (digits-marked 0 v h, either (ltb 9 (length v)) NoNumber) (either (ltb (length v) 1) NoNumber)
 
 -- so one to nine digits have none
 sequence-clean : (v : List ℕ) (n : ℕ) → sequenceText v ≡ Value n → noMark v ≡ true
@@ -55,11 +51,7 @@ sequence-clean v n e = go (noMark v) refl
 
 pub date-marked : (v : List ℕ) → noMark v ≡ false → dateText v ≡ NoDate
 unfolding dateText
-date-marked v h = rw (sequence-marked v h) (go (eqb (length v) 8))
-  where
-    go : (x : Bool) → cond x NoDate NoDate ≡ NoDate
-    go true = refl
-    go false = refl
+date-marked v h = rw (sequence-marked v h) (either (eqb (length v) 8) NoDate)
 
 -- a text has no mark where its two parts have none
 clean-join : (k : ℕ) (v : List ℕ) → noMark (take k v) ≡ true → noMark (drop k v) ≡ true → noMark v ≡ true
@@ -72,14 +64,16 @@ clean-join (suc k) (b ∷ r) p q = go (eqb b 34) refl (clean-join k r)
     go true e ih = rw e (rw e at p)
     go false e ih = rw e (ih (rw e at p) q)
 
--- a colon is none
+-- a colon is no mark
 clean-colon : (v : List ℕ) (k j : ℕ) → k + 1 ≡ j → k < length v → getD v k 0 ≡ 58 → noMark (drop j v) ≡ true → noMark (drop k v) ≡ true
 unfolding noMark
 clean-colon v k j n h e q = rw (drop-next v k h, e, n) q
 
+-- two bytes without a mark, and none behind them
 clean-two : (v : List ℕ) (k j : ℕ) → k + 2 ≡ j → noMark (take 2 (drop k v)) ≡ true → noMark (drop j v) ≡ true → noMark (drop k v) ≡ true
 clean-two v k j n p q = clean-join 2 (drop k v) p (rw (drop-drop 2 k v, n) q)
 
+-- behind the end stands none
 clean-end : (v : List ℕ) (k : ℕ) → length v ≡ k → noMark (drop k v) ≡ true
 unfolding noMark
 clean-end v k h = rw (drop-over v k (omega arith))
@@ -133,11 +127,7 @@ point-marked (b ∷ r) = go (eqb b 46) refl (point-marked r)
 
 size-marked : (limit : ℕ) (below : Bool) (v : List ℕ) → noMark v ≡ false → sizeText limit below v ≡ NoDegrees
 unfolding sizeText
-size-marked limit below v h = rw (digits-marked 0 (wholeDigits v ++ tailDigits v) (point-marked v ∙ h)) (go (pointed v))
-  where
-    go : (x : Bool) → cond x NoDegrees NoDegrees ≡ NoDegrees
-    go true = refl
-    go false = refl
+size-marked limit below v h = rw (digits-marked 0 (wholeDigits v ++ tailDigits v) (point-marked v ∙ h)) (either (pointed v) NoDegrees)
 
 pub degrees-marked : (limit : ℕ) (v : List ℕ) → noMark v ≡ false → degreesText limit v ≡ NoDegrees
 unfolding degreesText noMark
@@ -158,7 +148,7 @@ digit-marked a m (b ∷ []) h = go (eqb b 34) refl
     go true e = sym (digit-none a m (b ∷ []) refl (omega (arith, eqb-true b 34 e)))
     go false e = no-test (sym (rw e at h))
 
--- a text with a mark is none without
+-- a text with a mark is no text without
 marked-other : (v w : List ℕ) → noMark w ≡ true → noMark v ≡ false → same v w ≡ false
 marked-other v w c h = same-no v w (λ e. no-test (sym h ∙ ap noMark e ∙ c))
 
