@@ -152,19 +152,19 @@ point-within (b ∷ r) = go (eqb b 46) (point-within r)
     go false h = omega arith
 
 -- an answer that says nothing is none that says something
-pub no-time : {A : Type 0} (n : ℕ) → NoTime ≡ Seconds n → A
+no-time : {A : Type 0} (n : ℕ) → NoTime ≡ Seconds n → A
 no-time n z = let w : _≡_ {A = ℕ} 0 1 = cc in absurd (omega arith)
 
-pub no-degrees : {A : Type 0} (k : ℤ) → NoDegrees ≡ TenMillionths k → A
+no-degrees : {A : Type 0} (k : ℤ) → NoDegrees ≡ TenMillionths k → A
 no-degrees k z = let w : _≡_ {A = ℕ} 0 1 = cc in absurd (omega arith)
 
 pub no-choice : {A : Type 0} (n : ℕ) → NoChoice ≡ Picked n → A
 no-choice n z = let w : _≡_ {A = ℕ} 0 1 = cc in absurd (omega arith)
 
-pub no-date : {A : Type 0} (n : ℕ) → NoDate ≡ Day n → A
+no-date : {A : Type 0} (n : ℕ) → NoDate ≡ Day n → A
 no-date n z = let w : _≡_ {A = ℕ} 0 1 = cc in absurd (omega arith)
 
-no-test : {A : Type 0} → false ≡ true → A
+pub no-test : {A : Type 0} → false ≡ true → A
 no-test z = let w : _≡_ {A = ℕ} 0 1 = cc in absurd (omega arith)
 
 pointed-small : (p n : ℕ) → pointedAt p n ≡ true → (1 ≤ p) × (p ≤ 3)
@@ -355,32 +355,18 @@ degrees-fits limit v = go (eqb (getD v 0 0) 45)
     go true = size-fits limit true (drop 1 v)
     go false = size-fits limit false v
 
--- A form read in a raw field's content is that form of its value: the one law on quotes for all forms.
-pub formed-raw :
-    {A : Type 0} (none : A) (read : List ℕ → A) (raw : List ℕ)
-    → formed none read (value raw) ≡ cond (noMark (content raw)) (read (content raw)) none
-unfolding formed
-formed-raw none read raw = go (noMark (content raw)) refl
-  where
-    go :
-        (t : Bool)
-        → noMark (content raw) ≡ t
-        → cond (noMark (value raw)) (read (value raw)) none
-        ≡ cond (noMark (content raw)) (read (content raw)) none
-    go true e = rw (value-mark raw, value-clean raw e)
-    go false e = rw (value-mark raw, e)
+-- A form that has no mark in it, read in a raw field's content, is that form of its value: the one law on quotes for all forms.
+module _ {A : Type 0} (none : A) (read : List ℕ → A) (marked : (w : List ℕ) → noMark w ≡ false → read w ≡ none) where
+  formed-raw : (raw : List ℕ) → formed none read (value raw) ≡ read (content raw)
+  unfolding formed
+  formed-raw raw = go (noMark (content raw)) refl
+    where
+      go : (t : Bool) → noMark (content raw) ≡ t → cond (noMark (value raw)) (read (value raw)) none ≡ read (content raw)
+      go true e = rw (value-mark raw, e, value-clean raw e)
+      go false e = rw (value-mark raw, e, marked (content raw) e)
 
--- the two ways of every form that reads a raw field, with the bound that comes along
-module _
-    {A : Type 0} (P : A → Type 0) (none : A) (read : List ℕ → A) (fits : (w : List ℕ) → P (read w)) (unfit : P none)
-    (raw v : List ℕ) (e : v ≡ content raw) (t : Bool) (p : t ≡ noMark v)
-  where
-    pub raw-yes : t ≡ true → (r : A) → r ≡ read v → (r ≡ formed none read (value raw)) × P r
-    raw-yes q r x =
-        let k : noMark (content raw) ≡ true = rw e at (sym p ∙ q) in
-        (rw (formed-raw none read raw, k, ← e) x, subst P (sym x) (fits v))
-
-    pub raw-no : t ≡ false → (none ≡ formed none read (value raw)) × P none
-    raw-no q =
-        let k : noMark (content raw) ≡ false = rw e at (sym p ∙ q) in
-        (rw (formed-raw none read raw, k), unfit)
+  -- with the bound that comes along
+  pub raw-is :
+      (P : A → Type 0) → ((w : List ℕ) → P (read w)) → (raw v : List ℕ) → v ≡ content raw → (r : A) → r ≡ read v
+      → (r ≡ formed none read (value raw)) × P r
+  raw-is P fits raw v e r x = (rw (formed-raw raw, ← e) x, subst P (sym x) (fits v))

@@ -1,2 +1,3 @@
 -- The laws of value forms.
 pub mod Laws
+pub mod NoMark

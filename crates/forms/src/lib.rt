@@ -291,10 +291,7 @@ pub fn time_of(raw: &[u8]) -> Time
     ensures { λ r. ⌜ (r ≡ timeOf (value (now (raw .entry)))) × TimeFits r ⌝ }
 {
     let v = text::content_of(raw);
-    if text::no_mark(v) {
-        return time_text(v);
-    }
-    Time::NoTime
+    time_text(v)
 }
 
 // The date that a raw field's value writes.
@@ -302,10 +299,7 @@ pub fn date_of(raw: &[u8]) -> Date
     ensures { λ r. ⌜ (r ≡ dateOf (value (now (raw .entry)))) × DateFits r ⌝ }
 {
     let v = text::content_of(raw);
-    if text::no_mark(v) {
-        return date_text(v);
-    }
-    Date::NoDate
+    date_text(v)
 }
 
 // The latitude that a raw field's value writes.
@@ -313,10 +307,7 @@ pub fn latitude_of(raw: &[u8]) -> Degrees
     ensures { λ r. ⌜ (r ≡ latitudeOf (value (now (raw .entry)))) × DegreesFits 90 r ⌝ }
 {
     let v = text::content_of(raw);
-    if text::no_mark(v) {
-        return degrees_text(90, v);
-    }
-    Degrees::NoDegrees
+    degrees_text(90, v)
 }
 
 // The longitude that a raw field's value writes.
@@ -324,10 +315,7 @@ pub fn longitude_of(raw: &[u8]) -> Degrees
     ensures { λ r. ⌜ (r ≡ longitudeOf (value (now (raw .entry)))) × DegreesFits 180 r ⌝ }
 {
     let v = text::content_of(raw);
-    if text::no_mark(v) {
-        return degrees_text(180, v);
-    }
-    Degrees::NoDegrees
+    degrees_text(180, v)
 }
 
 // The stop_sequence that a raw field's value writes.
@@ -335,10 +323,7 @@ pub fn sequence_of(raw: &[u8]) -> Number
     ensures { λ r. ⌜ (r ≡ sequenceOf (value (now (raw .entry)))) × NumberFits r ⌝ }
 {
     let v = text::content_of(raw);
-    if text::no_mark(v) {
-        return digits::number(v);
-    }
-    Number::NoNumber
+    digits::number(v)
 }
 
 // The choice, 0 to m, that a raw field's value writes.
@@ -346,10 +331,7 @@ pub fn choice_of(raw: &[u8], m: u8) -> Choice
     ensures { λ r. ⌜ (r ≡ choiceOf m (value (now (raw .entry)))) × ChoiceFits m r ⌝ }
 {
     let v = text::content_of(raw);
-    if text::no_mark(v) {
-        return digit_text(0, m, v);
-    }
-    Choice::NoChoice
+    digit_text(0, m, v)
 }
 
 // The route type that a raw field's value writes.
@@ -357,10 +339,7 @@ pub fn route_type_of(raw: &[u8]) -> Choice
     ensures { λ r. ⌜ (r ≡ routeTypeOf (value (now (raw .entry)))) × ChoiceFits 12 r ⌝ }
 {
     let v = text::content_of(raw);
-    if text::no_mark(v) {
-        return route_type_text(v);
-    }
-    Choice::NoChoice
+    route_type_text(v)
 }
 
 // The exception_type, 1 or 2, that a raw field's value writes.
@@ -368,8 +347,5 @@ pub fn exception_of(raw: &[u8]) -> Choice
     ensures { λ r. ⌜ (r ≡ exceptionOf (value (now (raw .entry)))) × ChoiceFits 2 r ⌝ }
 {
     let v = text::content_of(raw);
-    if text::no_mark(v) {
-        return digit_text(1, 2, v);
-    }
-    Choice::NoChoice
+    digit_text(1, 2, v)
 }

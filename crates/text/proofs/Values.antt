@@ -163,20 +163,6 @@ module _ (a ca : List ℕ) (qa : Bool) (c : ca ≡ content a) (m : qa ≡ marked
 pub same-bare : (a b : List ℕ) (t : Bool) → t ≡ same (undouble false a) (undouble false b) → t ≡ same a b
 same-bare a b t e = rw (und-bare a, und-bare b) at e
 
--- a turn along the bytes, on whether a mark is left
-module _ (s : List ℕ) (i : ℕ) (k : Bool) (inv : noMark (drop i s) ≡ k) where
-  pub mark-here : i < length s → getD s i 0 ≡ 34 → false ≡ k
-  unfolding noMark
-  mark-here h e = rw (drop-next s i h, eq-eqb _ _ e) at inv
-
-  pub mark-next : i < length s → (getD s i 0 ≡ 34 → ⊥) → noMark (drop (i + 1) s) ≡ k
-  unfolding noMark
-  mark-next h e = rw (drop-next s i h, ne-eqb _ _ e) at inv
-
-  pub mark-over : length s ≤ i → true ≡ k
-  unfolding noMark
-  mark-over h = rw (drop-over s i h) at inv
-
 -- a mark stays one when doubled marks become one
 und-mark : (q : Bool) (l : List ℕ) → noMark (undouble q l) ≡ noMark l
 unfolding undouble noMark

@@ -5,7 +5,6 @@ ghost use Prim.Native.Nat.{_+_, _-_, _<_, _≤_};
 ghost use lib.ListN.{length, getD, set, drop};
 ghost use Rattle.meaning.specs.Lists.{same, empty};
 ghost use Rattle.meaning.specs.Bytes.{countLf, startOf, start, classOf, quoting, endings, next, good, fields, marked, content, undouble, value};
-ghost use Rattle.meaning.specs.Forms.{noMark};
 ghost use Rattle.meaning.specs.Refusals.{ended, rule5};
 ghost use Rattle.text.specs.Lines.{toLf, lineTo, lineAt};
 ghost use Rattle.text.specs.Fields.{toBreak, toMark, afterRun, fieldLen, fieldState, pastEnds, endsLine, fieldRun, fieldOn, stepAt};
@@ -499,18 +498,4 @@ pub fn same_bytes(a: &[u8], b: &[u8]) -> bool
     ensures { λ r. ⌜ r ≡ same (now (a .entry)) (now (b .entry)) ⌝ }
 {
     same_content(a, false, b, false)
-}
-
-// Is there no quotation mark?
-pub fn no_mark(s: &[u8]) -> bool
-    ensures { λ r. ⌜ r ≡ noMark (now (s .entry)) ⌝ }
-{
-    let mut i = 0;
-    while i < s.len() {
-        if s[i] == b'"' {
-            return false;
-        }
-        i += 1;
-    }
-    true
 }

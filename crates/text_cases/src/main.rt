@@ -32,7 +32,6 @@ fn value(raw: &[u8]) {
 // Writes what stands inside the quotes of a raw field.
 fn content(raw: &[u8]) {
     let s = text::content_of(raw);
-    flag(b" markless", text::no_mark(s));
     say(b" |");
     say(s);
     say(b"|\n");

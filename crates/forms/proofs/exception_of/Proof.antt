@@ -1,5 +1,6 @@
 -- `forms::exception_of` meets its contract.
-use Rattle.forms.proofs.Laws.{raw-yes, raw-no, choice-fits, no-choice}
+use Rattle.forms.proofs.Laws.{raw-is, choice-fits}
+use Rattle.forms.proofs.NoMark.{digit-marked}
 use Rattle.forms.specs.Bounds.{ChoiceFits}
 use Rattle.meaning.specs.Forms.{exceptionOf, digitText}
 use Rattle.meaning.specs.declared.Choice.the-variants.{NoChoice}
@@ -10,20 +11,13 @@ use Rattle.forms.proofs.exception_of.Tie as tie
 content-of-requires : tie.Need-content-of-requires
 content-of-requires c κs = search needs
 
-no-mark-requires : tie.Need-no-mark-requires
-no-mark-requires c κs = search needs
-
 digit-text-requires : tie.Need-digit-text-requires
 digit-text-requires c κs = search needs
 
 returns : tie.Need-returns
 unfolding exceptionOf
-returns c = raw-yes (ChoiceFits 2) NoChoice (digitText 1 2) (choice-fits 1 2) (λ n z. no-choice n z) _ _ (c .before .before .before .content-of .ensures .0) _ (c .before .before .no-mark .ensures) (c .before .if1 .taken) _ (c .digit-text .ensures)
-
-returns-2 : tie.Need-returns-2
-unfolding exceptionOf
-returns-2 c = raw-no (ChoiceFits 2) NoChoice (digitText 1 2) (choice-fits 1 2) (λ n z. no-choice n z) _ _ (c .before .before .content-of .ensures .0) _ (c .before .no-mark .ensures) (c .if1 .left)
+returns c = raw-is NoChoice (digitText 1 2) (digit-marked 1 2) (ChoiceFits 2) (choice-fits 1 2) _ _ (c .before .content-of .ensures .0) _ (c .digit-text .ensures)
 
 pub exception-of-spec : {M : Type 1} → statement M
 exception-of-spec =
-    tie.close (tie.spec content-of-requires no-mark-requires digit-text-requires returns returns-2)
+    tie.close (tie.spec content-of-requires digit-text-requires returns)
