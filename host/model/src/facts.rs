@@ -23,7 +23,7 @@ pub enum Fact {
 pub type Facts = Vec<(&'static str, Fact)>;
 
 /// The files, in the order of their numbers.
-const NAMES: [&str; FILES] =
+pub const NAMES: [&str; FILES] =
     ["stops.txt", "routes.txt", "calendar.txt", "trips.txt", "stop_times.txt", "calendar_dates.txt"];
 
 fn text(text: impl AsRef<[u8]>) -> Fact {

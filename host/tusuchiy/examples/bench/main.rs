@@ -1,9 +1,11 @@
-//! A benchmark, not a test: the proved check beside a check by hash maps, on the same feeds, in one run; then the index beside a sort.
-//! Run it with: cargo run --release --example bench -- [--only FEED] [--lines N] [--profile boards], where FEED may be index too
+//! A benchmark, not a test: the proved check beside a check by hash maps, on the same feeds, in one run; then the index beside a sort, and the count of line
+//! ends beside the standard library's.
+//! Run it with: cargo run --release --example bench -- [--only FEED] [--lines N] [--profile boards], where FEED may be index or line-ends too
 #![deny(unsafe_code)]
 
 mod clock;
 mod index;
+mod line_ends;
 mod measure;
 mod report;
 mod table;
@@ -49,16 +51,20 @@ fn main() {
     let Some(options) = options() else { stop(USAGE) };
     let chosen = |family: &&Family| options.only.as_ref().map_or(true, |name| name == family.name);
     let families: Vec<&'static Family> = FAMILIES.iter().filter(chosen).collect();
-    let index = options.only.as_ref().map_or(true, |name| name == index::NAME);
-    if families.is_empty() && !index {
+    let [index, line_ends] =
+        [index::NAME, line_ends::NAME].map(|own| options.only.as_ref().map_or(true, |name| name == own));
+    if families.is_empty() && !index && !line_ends {
         let names = FAMILIES.each_ref().map(|family| family.name).join(", ");
-        stop(&format!("the feeds are: {names}, {}", index::NAME));
+        stop(&format!("the feeds are: {names}, {}, {}", index::NAME, line_ends::NAME));
     }
     if !families.is_empty() {
         feeds(&families, options.lines, options.profile);
     }
     if index {
         index::measure(options.lines);
+    }
+    if line_ends {
+        line_ends::measure();
     }
 }
 

@@ -75,7 +75,7 @@ pub fn introduce(families: &[&Family], profile: Profile) {
 }
 
 /// The processor as the system names it. An emulator hides it or names itself, and its times are no x86-64 times.
-fn processor() -> String {
+pub fn processor() -> String {
     let system = std::fs::read_to_string("/proc/cpuinfo").unwrap_or_default();
     let name = system.lines().find_map(|line| line.strip_prefix("model name")?.split_once(": "));
     let emulated = "none of x86-64, so an emulator: neither times nor ratios are those of x86-64";
@@ -93,7 +93,8 @@ pub fn row(row: &Row) {
 pub fn seconds(seconds: f64) -> String {
     match seconds {
         1.0.. => format!("{seconds:.2} s"),
-        _ => format!("{:.2} ms", seconds * 1000.0),
+        0.0001.. => format!("{:.2} ms", seconds * 1e3),
+        _ => format!("{:.2} µs", seconds * 1e6),
     }
 }
 
