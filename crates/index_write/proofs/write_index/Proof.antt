@@ -12,6 +12,9 @@ returns c = wrote-outside _ _ _ (λ h. omega (arith, h .0, c .if1 .taken))
 returns-2 : tie.Need-returns-2
 returns-2 c = wrote-outside _ _ _ (λ h. omega (arith, h .1, c .if2 .taken))
 
+count-lf-requires : tie.Need-count-lf-requires
+count-lf-requires c κs = search needs
+
 read-alone-requires : tie.Need-read-alone-requires
 read-alone-requires c κs = search needs
 
@@ -41,6 +44,7 @@ write-index-spec =
     (tie.spec
     returns
     returns-2
+    count-lf-requires
     read-alone-requires
     enum-told
     write-alone-requires
