@@ -159,7 +159,7 @@ pub fn list_faults(f: usize, s: &[u8], dated: bool, out: &mut [i32], k: Sink, p:
     ensures { λ r. ⌜ ((files : List (List ℕ)) → dated ≡ not (empty (fileOf files 6)) → state (now (out .exit)) r ≡ adding quad p (fileFaults files f (now (s .entry))) (state (now (out .entry)) k)) ⌝ }
     ensures { λ r. ⌜ r .total ≤ k .total + maxBytes + 4 ⌝ }
 {
-    let whole = reading::whole_of(f, s, 0, dated);
+    let whole = reading::whole_of(f, s, text::count_lf(s), 0, dated);
     let sink = list_whole(f, whole, out, k, p);
     if whole[0] {
         return sink;

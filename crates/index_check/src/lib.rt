@@ -153,12 +153,12 @@ fn fault(f: usize, s: &[u8], b: &[u8], n: usize) -> usize
     0
 }
 
-// What is answered of an index beside a file that can be read.
-fn judge(f: usize, s: &[u8], b: &[u8]) -> IndexAnswer
-    requires { ⌜ Reads f (now s) ⌝ }
+// What is answered of an index beside a file that can be read and has so many LF bytes.
+fn judge(f: usize, s: &[u8], lf: usize, b: &[u8]) -> IndexAnswer
+    requires { ⌜ Reads f (now s) × (lf ≡ countLf (now s)) ⌝ }
     ensures { λ r. ⌜ r ≡ barredOr (spoken (indexTests version1 f (idsOf f (now (s .entry))) (now (b .entry)))) (length (now (b .entry))) ⌝ }
 {
-    let k = fault(f, s, b, text::count_lf(s) - 1);
+    let k = fault(f, s, b, lf - 1);
     if k != 0 {
         return IndexAnswer::Barred(k);
     }
@@ -175,8 +175,9 @@ pub fn check_index(f: usize, s: &[u8], b: &[u8]) -> IndexAnswer
     if 4 < f {
         return IndexAnswer::Barred(42);
     }
-    match alone::read_alone(f, s) {
-        Verdict::Readable => judge(f, s, b),
+    let lf = text::count_lf(s);
+    match alone::read_alone(f, s, lf) {
+        Verdict::Readable => judge(f, s, lf, b),
         Verdict::Unreadable(r) => IndexAnswer::Unread(r),
     }
 }

@@ -193,7 +193,7 @@ pub fn write_index(f: usize, s: &[u8], b: &mut [u8]) -> IndexAnswer
     if 4 < f {
         return IndexAnswer::Barred(42);
     }
-    match alone::read_alone(f, s) {
+    match alone::read_alone(f, s, text::count_lf(s)) {
         Verdict::Readable => write_alone(f, s, b),
         Verdict::Unreadable(r) => IndexAnswer::Unread(r),
     }

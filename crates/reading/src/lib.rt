@@ -18,12 +18,12 @@ use text::LineStep;
 use text::Measured;
 ghost use mathlib.Core.Path.{_≡_};
 ghost use mathlib.Core.Bool.{not, _&&_};
-ghost use mathlib.Core.List.{List, [], _∷_};
+ghost use mathlib.Core.List.{List, [], _∷_, map};
 ghost use Prim.Native.Nat.{ℕ, _*_, _<_, _≤_};
 ghost use lib.Dec.{ltb};
 ghost use lib.ListN.{length};
 ghost use Rattle.meaning.specs.Lists.{empty};
-ghost use Rattle.meaning.specs.Bytes.{linesFrom, linesOf, good, fields, value, values};
+ghost use Rattle.meaning.specs.Bytes.{countLf, linesFrom, linesOf, good, fields, value, values};
 ghost use Rattle.meaning.specs.Columns.{rowOf};
 ghost use Rattle.meaning.specs.Forms.{timeOf, dateOf, latitudeOf, longitudeOf, sequenceOf, choiceOf, routeTypeOf, exceptionOf, isTime, isDate, isDegrees, isNumber, isChoice, shape};
 ghost use Rattle.meaning.specs.Tables.{fileOf, widthOf};
@@ -405,12 +405,11 @@ fn is_unended(f: usize, s: &[u8], dated: bool) -> bool
     !text::ends_with_lf(s)
 }
 
-// Which of rules 1 to 4 a file breaks, with its table's length.
-pub fn whole_of(f: usize, s: &[u8], room: usize, dated: bool) -> [bool; 4]
-    requires { ⌜ (0 < f) × (f < 7) ⌝ }
+// Which of rules 1 to 4 a file breaks, with its LF count and its table's length.
+pub fn whole_of(f: usize, s: &[u8], lf: usize, room: usize, dated: bool) -> [bool; 4]
+    requires { ⌜ (0 < f) × (f < 7) × (lf ≡ countLf (now s)) ⌝ }
     ensures { λ r. ⌜ ((files : List (List ℕ)) → dated ≡ not (empty (fileOf files 6)) → r ≡ wholeOf files f (now (s .entry)) room) ⌝ }
 {
-    let lf = text::count_lf(s);
     let short = is_short(f, room, lf);
     let unended = is_unended(f, s, dated);
     [MAX_BYTES < s.len(), MAX_LINES < lf, short, unended]
@@ -450,7 +449,7 @@ fn order(wholes: [[bool; 4]; 6]) -> Verdict
     Verdict::Readable
 }
 
-// Rules 1 to 4 over the files.
+// Rules 1 to 4 over the files, by their LF counts.
 fn read_wholes(
     s1: &[u8],
     s2: &[u8],
@@ -459,21 +458,23 @@ fn read_wholes(
     s5: &[u8],
     s6: &[u8],
     rooms: [usize; 6],
+    counts: [usize; 6],
 ) -> Verdict
+    requires { ⌜ counts ≡ map countLf (now s1 ∷ now s2 ∷ now s3 ∷ now s4 ∷ now s5 ∷ now s6 ∷ []) ⌝ }
     ensures { λ r. ⌜ r ≡ speaks (wholeClaims (wholesOf (now (s1 .entry) ∷ now (s2 .entry) ∷ now (s3 .entry) ∷ now (s4 .entry) ∷ now (s5 .entry) ∷ now (s6 .entry) ∷ []) rooms)) ⌝ }
 {
     let dated = s6.len() != 0;
     order([
-        whole_of(1, s1, rooms[0], dated),
-        whole_of(2, s2, rooms[1], dated),
-        whole_of(3, s3, rooms[2], dated),
-        whole_of(4, s4, rooms[3], dated),
-        whole_of(5, s5, rooms[4], dated),
-        whole_of(6, s6, rooms[5], dated),
+        whole_of(1, s1, counts[0], rooms[0], dated),
+        whole_of(2, s2, counts[1], rooms[1], dated),
+        whole_of(3, s3, counts[2], rooms[2], dated),
+        whole_of(4, s4, counts[3], rooms[3], dated),
+        whole_of(5, s5, counts[4], rooms[4], dated),
+        whole_of(6, s6, counts[5], rooms[5], dated),
     ])
 }
 
-// Can the six files be read into tables of these lengths? If not, the first broken rule with its file, line and column.
+// Can the six files, which have so many LF bytes each, be read into tables of these lengths? If not, the first broken rule with its file, line and column.
 pub fn verdict(
     stops: &[u8],
     routes: &[u8],
@@ -482,10 +483,21 @@ pub fn verdict(
     stop_times: &[u8],
     dates: &[u8],
     rooms: [usize; 6],
+    counts: [usize; 6],
 ) -> Verdict
+    requires { ⌜ counts ≡ map countLf (now stops ∷ now routes ∷ now calendar ∷ now trips ∷ now «stop_times» ∷ now dates ∷ []) ⌝ }
     ensures { λ r. ⌜ r ≡ verdictOf (now (stops .entry) ∷ now (routes .entry) ∷ now (calendar .entry) ∷ now (trips .entry) ∷ now («stop_times» .entry) ∷ now (dates .entry) ∷ []) rooms ⌝ }
 {
-    let v = read_wholes(stops, routes, calendar, trips, stop_times, dates, rooms);
+    let v = read_wholes(
+        stops,
+        routes,
+        calendar,
+        trips,
+        stop_times,
+        dates,
+        rooms,
+        counts,
+    );
     // A call for each file: slices of several lifetimes can't stand in one array.
     let v = read_on(v, 1, stops);
     let v = read_on(v, 2, routes);

@@ -1,11 +1,11 @@
 -- Laws: what the findings of each file rest on, and those of all files together.
-use Prim.Native.Nat.{ℕ, _+_, _*_, _-_, _≤_}
+use Prim.Native.Nat.{ℕ, zero, suc, _+_, _*_, _-_, _≤_}
 use mathlib.Core.Path.{_≡_, refl, sym, ap, _∙_}
 use mathlib.Core.List.{List, [], _∷_, map}
 use native.Mathlib.Omega.{arith}
 use native.Mathlib.Nat.{mul-le-mul-left}
 use lib.IntN.{ℤ}
-use lib.ListN.{length}
+use lib.ListN.{length, getD}
 use Rattle.meaning.specs.declared.Place.{Place}
 use Rattle.meaning.specs.declared.Profile.{Profile}
 use Rattle.meaning.specs.declared.Profile.the-variants.{Boards}
@@ -22,23 +22,32 @@ use Rattle.text.proofs.Lines.{lines-all}
 use Rattle.file_rules.specs.Lines.{ruleCount, Ready}
 use Rattle.rules.specs.Tabled.{Tabled, tableOf}
 
+-- the LF count of a file among those of all; none of a file that isn't there
+count-at : (files : List (List ℕ)) (i : ℕ) → getD (map countLf files) i 0 ≡ countLf (getD files i [])
+unfolding countLf
+count-at [] i = refl
+count-at (s ∷ r) zero = refl
+count-at (s ∷ r) (suc i) = count-at r i
+
 -- what the findings of each file rest on, which has a record for each line but the header
 pub ready :
     (f : ℕ)
     → 1 ≤ f
     → f ≤ 6
-    → (w : Feed) (files : List (List ℕ)) (tables : List (List ℤ)) (marks : List ℕ)
-    → Tabled w files tables marks
-    → Ready f (countLf (fileOf files f) - 1) w (tableOf tables f) (tableOf tables 1) marks
-unfolding rowsIn recordCount
-ready f low high w files tables marks h =
+    → (w : Feed) (counts : List ℕ) (tables : List (List ℤ)) (marks : List ℕ)
+    → Tabled w counts tables marks
+    → Ready f (getD counts (f - 1) 0 - 1) w (tableOf tables f) (tableOf tables 1) marks
+unfolding rowsIn recordCount fileOf
+ready f low high w counts tables marks h =
     let k = h .filled f low high in
+    let s = fileOf (h .files) f in
+    let n : getD counts (f - 1) 0 ≡ countLf s = ap (λ (l : List ℕ). getD l (f - 1) 0) (h .counted) ∙ count-at (h .files) (f - 1) in
     record {
-      file = fileOf files f;
+      file = s;
       table = k;
-      stops-file = fileOf files 1;
+      stops-file = fileOf (h .files) 1;
       stops-table = h .filled 1 (omega arith) (omega arith);
-      all = sym (ap length (k .read) ∙ rows-count f (fileOf files f) ∙ ap (λ (n : ℕ). n - 1) (lines-all (fileOf files f)));
+      all = sym (ap length (k .read) ∙ rows-count f s ∙ ap (λ (n : ℕ). n - 1) (lines-all s ∙ sym n));
       noted = h .noted;
       trips-noted = h .trips-noted;
       named = h .named;

@@ -1,9 +1,8 @@
 // All findings of a feed whose tables are filled, handed out in order.
 ghost use mathlib.Core.Path.{_≡_};
 ghost use mathlib.Core.List.{[], _∷_};
-ghost use Prim.Native.Nat.{_+_, _*_, _-_, _^_, _≤_};
-ghost use lib.ListN.{length};
-ghost use Rattle.meaning.specs.Bytes.{countLf};
+ghost use Prim.Native.Nat.{ℕ, _+_, _*_, _-_, _^_, _<_, _≤_};
+ghost use lib.ListN.{getD};
 ghost use Rattle.meaning.specs.Tables.{Feed};
 ghost use Rattle.meaning.specs.Rules.{bindingsOf};
 ghost use Rattle.meaning.specs.Findings.{findingsOf};
@@ -21,21 +20,20 @@ struct Wanted {
     asked: Profile,
 }
 
-// How many records a file has: a line each, but for the header.
-fn records_of(s: &[u8]) -> usize
-    ensures { λ r. ⌜ (r ≡ countLf (now (s .entry)) - 1) × (r ≤ length (now (s .entry))) ⌝ }
+// How many records a file of so many lines has: one for each, but for the header.
+fn records_of(lines: usize) -> usize
+    ensures { λ r. ⌜ r ≡ lines - 1 ⌝ }
 {
-    let lines = text::count_lf(s);
     if lines == 0 {
         return 0;
     }
     lines - 1
 }
 
-// What is wanted of the findings of a file, whose bytes tell how many records it has.
+// What is wanted of the findings of a file of so many lines.
 fn list_counted(
     f: usize,
-    s: &[u8],
+    lines: usize,
     t: &[i32],
     stops: &[i32],
     marks: &[u16],
@@ -43,24 +41,19 @@ fn list_counted(
     k: Sink,
     a: Wanted,
 ) -> Sink
-    requires { ⌜ (1 ≤ f) × ((f ≤ 6) × ((countLf (now s) ≤ maxLines) × (k .total ≤ 2 ^ 61))) ⌝ }
-    ensures { λ r. ⌜ ((w : Feed) → Ready f (countLf (now (s .entry)) - 1) w (now (t .entry)) (now (stops .entry)) (now (marks .entry))
+    requires { ⌜ (1 ≤ f) × ((f ≤ 6) × ((lines ≤ maxLines) × (k .total ≤ 2 ^ 61))) ⌝ }
+    ensures { λ r. ⌜ ((w : Feed) → Ready f (lines - 1) w (now (t .entry)) (now (stops .entry)) (now (marks .entry))
         → state (now (out .exit)) r ≡ noting (a .from) (bindingsOf (a .asked) w f) (state (now (out .entry)) k)) ⌝ }
     ensures { λ r. ⌜ r .total ≤ k .total + ruleCount Profile.Boards f * maxLines ⌝ }
 {
     let from = a.from;
     let asked = a.asked;
-    file_rules::list_file(f, records_of(s), t, stops, marks, out, k, from, asked)
+    file_rules::list_file(f, records_of(lines), t, stops, marks, out, k, from, asked)
 }
 
-// All findings by the rules asked for: those after the starting place are written, as many as fit; the rest of the list stays.
+// All findings, of files of so many lines each, by the rules asked for: those after the starting place are written, as many as fit; the rest of the list stays.
 pub fn list_findings(
-    stops: &[u8],
-    routes: &[u8],
-    calendar: &[u8],
-    trips: &[u8],
-    stop_times: &[u8],
-    dates: &[u8],
+    counts: [usize; 6],
     stops_table: &[i32],
     routes_table: &[i32],
     calendar_table: &[i32],
@@ -72,10 +65,9 @@ pub fn list_findings(
     p: Place,
     asked: Profile,
 ) -> Sink
-    requires { ⌜ (countLf (now stops) ≤ maxLines) × ((countLf (now routes) ≤ maxLines) × ((countLf (now calendar) ≤ maxLines) × ((countLf (now trips) ≤ maxLines) × ((countLf (now «stop_times») ≤ maxLines) × (countLf (now dates) ≤ maxLines))))) ⌝ }
+    requires { ⌜ ((i : ℕ) → i < 6 → getD counts i 0 ≤ maxLines) ⌝ }
     ensures { λ r. ⌜ ((w : Feed)
-        → Tabled w
-        (now (stops .entry) ∷ now (routes .entry) ∷ now (calendar .entry) ∷ now (trips .entry) ∷ now («stop_times» .entry) ∷ now (dates .entry) ∷ [])
+        → Tabled w counts
         (now («stops_table» .entry) ∷ now («routes_table» .entry) ∷ now («calendar_table» .entry) ∷ now («trips_table» .entry) ∷ now («times_table» .entry) ∷ now («dates_table» .entry) ∷ [])
         (now (marks .entry))
         → state (now (out .exit)) r ≡ handedOut p (findingsOf asked w) (now (out .entry))) ⌝ }
@@ -86,10 +78,10 @@ pub fn list_findings(
         total: 0,
     };
     let a = Wanted { from: p, asked };
-    let k = list_counted(1, stops, stops_table, stops_table, marks, out, none, a);
-    let k = list_counted(2, routes, routes_table, stops_table, marks, out, k, a);
-    let k = list_counted(3, calendar, calendar_table, stops_table, marks, out, k, a);
-    let k = list_counted(4, trips, trips_table, stops_table, marks, out, k, a);
-    let k = list_counted(5, stop_times, times_table, stops_table, marks, out, k, a);
-    list_counted(6, dates, dates_table, stops_table, marks, out, k, a)
+    let k = list_counted(1, counts[0], stops_table, stops_table, marks, out, none, a);
+    let k = list_counted(2, counts[1], routes_table, stops_table, marks, out, k, a);
+    let k = list_counted(3, counts[2], calendar_table, stops_table, marks, out, k, a);
+    let k = list_counted(4, counts[3], trips_table, stops_table, marks, out, k, a);
+    let k = list_counted(5, counts[4], times_table, stops_table, marks, out, k, a);
+    list_counted(6, counts[5], dates_table, stops_table, marks, out, k, a)
 }

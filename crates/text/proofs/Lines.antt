@@ -18,17 +18,47 @@ use Rattle.text.specs.declared.LineStep.the-variants.{Line, Done}
 use Rattle.text.specs.Lines.{toLf, lineTo, lineAt, LineStands}
 use Rattle.text.proofs.Laws.{drop-next, drop-over, same-no}
 
+-- the LF bytes of two parts
+countLf-append : (a b : List ℕ) → countLf (a ++ b) ≡ countLf a + countLf b
+unfolding countLf
+countLf-append [] b = omega arith
+countLf-append (x ∷ a) b = go (eqb x 10) (countLf-append a b)
+  where
+    go : (t : Bool) → countLf (a ++ b) ≡ countLf a + countLf b
+        → cond t (countLf (a ++ b) + 1) (countLf (a ++ b)) ≡ cond t (countLf a + 1) (countLf a) + countLf b
+    go true h = omega arith
+    go false h = h
+
+-- no more LF bytes than bytes
+pub countLf-most : (s : List ℕ) → countLf s ≤ length s
+unfolding countLf
+countLf-most [] = omega arith
+countLf-most (b ∷ r) = go (eqb b 10) (countLf-most r)
+  where
+    go : (t : Bool) → countLf r ≤ length r → cond t (countLf r + 1) (countLf r) ≤ suc (length r)
+    go true h = omega arith
+    go false h = omega arith
+
+-- a turn along the blocks, from i to j, on how many LF are left
+module _ (s : List ℕ) (i j : ℕ) where
+  pub block-short : (m : ℕ) → j - i ≤ m → length (take (j - i) (drop i s)) ≤ m
+  block-short m k = omega (arith, length-take (j - i) (drop i s))
+
+  pub countLf-block : (n v k : ℕ) → i ≤ j → v ≡ countLf (take (j - i) (drop i s)) → n + countLf (drop i s) ≡ k → n + v + countLf (drop j s) ≡ k
+  countLf-block n v k h e inv =
+      let d : i + (j - i) ≡ j = omega arith in
+      let z : countLf (drop i s) ≡ countLf (take (j - i) (drop i s)) + countLf (drop (j - i) (drop i s)) =
+      ap countLf (sym (take-append-drop (j - i) (drop i s))) ∙ countLf-append (take (j - i) (drop i s)) (drop (j - i) (drop i s)) in
+      let y : countLf (drop (j - i) (drop i s)) ≡ countLf (drop j s) = rw (drop-drop (j - i) i s, d) in
+      omega arith
+
 -- a turn along the bytes, on how many LF are left and how far the first is
 module _ (s : List ℕ) (i : ℕ) (more : i < length s) where
-  pub countLf-yes : (n k : ℕ) → getD s i 0 ≡ 10 → n + countLf (drop i s) ≡ k → n + 1 + countLf (drop (i + 1) s) ≡ k
-  unfolding countLf
-  countLf-yes n k e inv =
-      let z : countLf (drop i s) ≡ countLf (drop (i + 1) s) + 1 = rw (drop-next s i, eq-eqb _ _ e) in omega arith
-
-  pub countLf-no : (n k : ℕ) → (getD s i 0 ≡ 10 → ⊥) → n + countLf (drop i s) ≡ k → n + countLf (drop (i + 1) s) ≡ k
-  unfolding countLf
-  countLf-no n k e inv =
-      let z : countLf (drop i s) ≡ countLf (drop (i + 1) s) = rw (drop-next s i, ne-eqb _ _ e) in omega arith
+  pub countLf-next : (n v k : ℕ) → v ≡ countLf (getD s i 0 ∷ []) → n + countLf (drop i s) ≡ k → n + v + countLf (drop (i + 1) s) ≡ k
+  countLf-next n v k e inv =
+      let z : countLf (drop i s) ≡ countLf (getD s i 0 ∷ []) + countLf (drop (i + 1) s) =
+      ap countLf (drop-next s i more) ∙ countLf-append (getD s i 0 ∷ []) (drop (i + 1) s) in
+      omega arith
 
   pub toLf-yes : (k : ℕ) → getD s i 0 ≡ 10 → i + toLf (drop i s) ≡ k → i ≡ k
   unfolding toLf

@@ -1,4 +1,5 @@
 // Writes what `text` answers at the edges of lines, endings, quoting and values; the file `stdout` has what document 01 says.
+ghost use Prim.Native.Nat.{_≤_};
 use libc::STDOUT_FILENO;
 use text::Cursor;
 use text::LineStep;
@@ -165,6 +166,33 @@ fn quoting() {
     file(b"a\"b,c\"d,e\n");
 }
 
+// Writes what rules 1 to 4 ask of n bytes that are all LF, and of n bytes of which only the last is LF.
+fn block(n: usize)
+    requires { ⌜ (1 ≤ n) × (n ≤ 500) ⌝ }
+{
+    let all = [b'\n'; 500];
+    whole(&all[..n]);
+    let mut last = [b'a'; 500];
+    last[n - 1] = b'\n';
+    whole(&last[..n]);
+}
+
+// LF bytes are counted to the end, however many bytes a turn counts.
+fn blocks() {
+    block(7);
+    block(8);
+    block(9);
+    block(247);
+    block(248);
+    block(249);
+    block(255);
+    block(256);
+    block(257);
+    block(496);
+    block(497);
+    block(500);
+}
+
 // Names and ids are compared by value; case and spaces count.
 fn values() {
     pair(b"\"A\"", b"A");
@@ -182,5 +210,6 @@ fn main() {
     endings();
     strays();
     quoting();
+    blocks();
     values();
 }

@@ -5,6 +5,9 @@ use Rattle.file_faults.proofs.Walk.{file-long, file-many, file-lines, w
 use Rattle.file_faults.proofs.list_faults.Statement.{statement}
 use Rattle.file_faults.proofs.list_faults.Tie as tie
 
+count-lf-requires : tie.Need-count-lf-requires
+count-lf-requires c κs = search needs
+
 whole-of-requires : tie.Need-whole-of-requires
 whole-of-requires c κs = search needs
 
@@ -37,7 +40,7 @@ returns-2 c =
 
 list-lines-requires : tie.Need-list-lines-requires
 list-lines-requires c κs =
-    let s = c .before .before .before .before .before .before .before .before in
+    let s = c .before .before .before .before .before .before .before .before .before in
     let w = c .before .before .before .before .before .before .whole-of .ensures in
     let short = short-file (withDates (s .args .dated)) _ _ _ (w _ (dated-so (s .args .dated))) (c .before .before .if1 .left) in
     (s .pre .1 .0, (short, omega (arith, c .before .before .before .before .list-whole .ensures .1, s .pre .1 .1)))
@@ -47,7 +50,7 @@ same-length-3 c = search needs
 
 returns-3 : tie.Need-returns-3
 returns-3 c =
-    let s = c .before .before .before .before .before .before .before .before .before .before in
+    let s = c .before .before .before .before .before .before .before .before .before .before .before in
     let w = c .before .before .before .before .before .before .before .before .whole-of .ensures in
     let k = c .before .before .before .before .before .before .list-whole .ensures in
     let l = c .before .list-lines .ensures in
@@ -58,6 +61,7 @@ pub list-faults-spec : {M : Type 1} → statement M
 list-faults-spec =
     tie.close
     (tie.spec
+    count-lf-requires
     whole-of-requires
     list-whole-requires
     array-read-if1

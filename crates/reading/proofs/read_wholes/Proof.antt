@@ -2,9 +2,11 @@
 use Rattle.reading.proofs.Wholes.{wholes-are}
 use Rattle.meaning.specs.Lists.{empty}
 use Rattle.meaning.specs.Tables.{fileOf}
-use mathlib.Core.Path.{refl}
-use mathlib.Core.List.{[], _∷_}
+use Prim.Native.Nat.{ℕ}
+use mathlib.Core.Path.{refl, ap}
+use mathlib.Core.List.{List, [], _∷_}
 use native.Mathlib.Omega.{arith}
+use lib.ListN.{getD}
 use borrow.Author.Needs.{needs}
 use Rattle.reading.proofs.read_wholes.Statement.{statement}
 use Rattle.reading.proofs.read_wholes.Tie as tie
@@ -12,38 +14,56 @@ use Rattle.reading.proofs.read_wholes.Tie as tie
 array-read-whole-of : tie.Need-array-read-whole-of
 array-read-whole-of c = search needs
 
-whole-of-requires : tie.Need-whole-of-requires
-whole-of-requires c κs = search needs
-
 array-read-whole-of-2 : tie.Need-array-read-whole-of-2
 array-read-whole-of-2 c = search needs
 
-whole-of-requires-2 : tie.Need-whole-of-requires-2
-whole-of-requires-2 c κs = search needs
+whole-of-requires : tie.Need-whole-of-requires
+whole-of-requires c κs = (omega arith, omega arith, ap (λ (l : List ℕ). getD l 0 0) (c .before .before .before .before .before .before .pre))
 
 array-read-whole-of-3 : tie.Need-array-read-whole-of-3
 array-read-whole-of-3 c = search needs
 
-whole-of-requires-3 : tie.Need-whole-of-requires-3
-whole-of-requires-3 c κs = search needs
-
 array-read-whole-of-4 : tie.Need-array-read-whole-of-4
 array-read-whole-of-4 c = search needs
 
-whole-of-requires-4 : tie.Need-whole-of-requires-4
-whole-of-requires-4 c κs = search needs
+whole-of-requires-2 : tie.Need-whole-of-requires-2
+whole-of-requires-2 c κs = (omega arith, omega arith, ap (λ (l : List ℕ). getD l 1 0) (c .before .before .before .before .before .before .before .pre))
 
 array-read-whole-of-5 : tie.Need-array-read-whole-of-5
 array-read-whole-of-5 c = search needs
 
-whole-of-requires-5 : tie.Need-whole-of-requires-5
-whole-of-requires-5 c κs = search needs
-
 array-read-whole-of-6 : tie.Need-array-read-whole-of-6
 array-read-whole-of-6 c = search needs
 
+whole-of-requires-3 : tie.Need-whole-of-requires-3
+whole-of-requires-3 c κs = (omega arith, omega arith, ap (λ (l : List ℕ). getD l 2 0) (c .before .before .before .before .before .before .before .before .pre))
+
+array-read-whole-of-7 : tie.Need-array-read-whole-of-7
+array-read-whole-of-7 c = search needs
+
+array-read-whole-of-8 : tie.Need-array-read-whole-of-8
+array-read-whole-of-8 c = search needs
+
+whole-of-requires-4 : tie.Need-whole-of-requires-4
+whole-of-requires-4 c κs = (omega arith, omega arith, ap (λ (l : List ℕ). getD l 3 0) (c .before .before .before .before .before .before .before .before .before .pre))
+
+array-read-whole-of-9 : tie.Need-array-read-whole-of-9
+array-read-whole-of-9 c = search needs
+
+array-read-whole-of-10 : tie.Need-array-read-whole-of-10
+array-read-whole-of-10 c = search needs
+
+whole-of-requires-5 : tie.Need-whole-of-requires-5
+whole-of-requires-5 c κs = (omega arith, omega arith, ap (λ (l : List ℕ). getD l 4 0) (c .before .before .before .before .before .before .before .before .before .before .pre))
+
+array-read-whole-of-11 : tie.Need-array-read-whole-of-11
+array-read-whole-of-11 c = search needs
+
+array-read-whole-of-12 : tie.Need-array-read-whole-of-12
+array-read-whole-of-12 c = search needs
+
 whole-of-requires-6 : tie.Need-whole-of-requires-6
-whole-of-requires-6 c κs = search needs
+whole-of-requires-6 c κs = (omega arith, omega arith, ap (λ (l : List ℕ). getD l 5 0) (c .before .before .before .before .before .before .before .before .before .before .before .pre))
 
 order-requires : tie.Need-order-requires
 order-requires c κs = search needs
@@ -76,16 +96,22 @@ read-wholes-spec =
     tie.close
     (tie.spec
     array-read-whole-of
-    whole-of-requires
     array-read-whole-of-2
-    whole-of-requires-2
+    whole-of-requires
     array-read-whole-of-3
-    whole-of-requires-3
     array-read-whole-of-4
-    whole-of-requires-4
+    whole-of-requires-2
     array-read-whole-of-5
-    whole-of-requires-5
     array-read-whole-of-6
+    whole-of-requires-3
+    array-read-whole-of-7
+    array-read-whole-of-8
+    whole-of-requires-4
+    array-read-whole-of-9
+    array-read-whole-of-10
+    whole-of-requires-5
+    array-read-whole-of-11
+    array-read-whole-of-12
     whole-of-requires-6
     order-requires
     returns)

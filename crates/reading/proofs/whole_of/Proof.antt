@@ -5,9 +5,6 @@ use borrow.Author.Needs.{needs}
 use Rattle.reading.proofs.whole_of.Statement.{statement}
 use Rattle.reading.proofs.whole_of.Tie as tie
 
-count-lf-requires : tie.Need-count-lf-requires
-count-lf-requires c κs = search needs
-
 is-short-requires : tie.Need-is-short-requires
 is-short-requires c κs = search needs
 
@@ -16,8 +13,8 @@ is-unended-requires c κs = search needs
 
 returns : tie.Need-returns
 unfolding wholeOf rule1 rule2 rule3
-returns c files e = rw (← c .is-unended .ensures files _ e, ← c .before .before .count-lf .ensures .0, ← c .before .is-short .ensures)
+returns c files e = rw (← c .is-unended .ensures files _ e, ← c .before .before .before .pre .2, ← c .before .is-short .ensures)
 
 pub whole-of-spec : {M : Type 1} → statement M
 whole-of-spec =
-    tie.close (tie.spec count-lf-requires is-short-requires is-unended-requires returns)
+    tie.close (tie.spec is-short-requires is-unended-requires returns)

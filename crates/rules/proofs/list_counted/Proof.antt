@@ -15,8 +15,8 @@ same-length c = search needs
 
 returns : tie.Need-returns
 returns c =
-    let z = c .before .before .before .before .before .before .before in
-    let n = c .before .before .before .records-of .ensures .0 in
+    let z = c .before .before .before .before .before .before in
+    let n = c .before .before .before .records-of .ensures in
     let l = c .before .list-file .ensures in
     (λ w h. l .0 w (rw n h), total-most (z .args .f) _ _ _ _ (l .1) n (z .pre .1 .1 .0))
 
