@@ -11,8 +11,8 @@ ghost use Rattle.text.specs.Lines.{toLf, lineTo, lineAt};
 ghost use Rattle.text.specs.Fields.{toBreak, toMark, afterRun, fieldLen, fieldState, pastEnds, endsLine, fieldRun, fieldOn, stepAt};
 ghost use Rattle.text.specs.Values.{widthOf};
 
-// As many bytes as a turn counts: thirty-one times eight, so that the count of one turn fits a byte.
-const BLOCK: usize = 248;
+// As many bytes as a turn counts: twenty-eight times eight. Their count fits a byte, and wide registers take them with nothing left over.
+const BLOCK: usize = 224;
 
 // 1 for LF, 0 for any other byte.
 fn lf_of(b: u8) -> u8
@@ -26,7 +26,7 @@ fn lf_of(b: u8) -> u8
 
 // How many LF bytes stand in a block. The count is one byte, so that the compiler counts in many lanes at once.
 fn count_block(s: &[u8]) -> u8
-    requires { ⌜ length (now s) ≤ 248 ⌝ }
+    requires { ⌜ length (now s) ≤ 224 ⌝ }
     ensures { λ r. ⌜ r ≡ countLf (now (s .entry)) ⌝ }
 {
     let mut n: u8 = 0;

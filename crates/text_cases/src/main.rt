@@ -182,15 +182,15 @@ fn blocks() {
     block(7);
     block(8);
     block(9);
-    block(247);
-    block(248);
-    block(249);
+    block(223);
+    block(224);
+    block(225);
     block(255);
     block(256);
     block(257);
-    block(496);
-    block(497);
-    block(500);
+    block(447);
+    block(448);
+    block(449);
 }
 
 // Names and ids are compared by value; case and spaces count.

@@ -10,7 +10,7 @@ use Rattle.text.proofs.count_block.Statement.{statement}
 use Rattle.text.proofs.count_block.Tie as tie
 
 abbrev Inv-loop : tie.InvT-loop
-Inv-loop s n₀ i₀ n i = (i ≤ length s) × (length s ≤ 248) × (n + countLf (drop i s) ≡ countLf s)
+Inv-loop s n₀ i₀ n i = (i ≤ length s) × (length s ≤ 224) × (n + countLf (drop i s) ≡ countLf s)
 
 abbrev μ-loop : tie.MeasureT-loop
 μ-loop s n₀ i₀ n i = length s - i

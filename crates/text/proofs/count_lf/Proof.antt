@@ -34,7 +34,7 @@ part-count-block-end : tie.Need-part-count-block-end Inv-loop μ-loop
 part-count-block-end c = search needs
 
 count-block-requires : tie.Need-count-block-requires Inv-loop μ-loop
-count-block-requires c κs = let i = c .before .before .loop .i in block-short _ i (i + 248) _ (omega arith)
+count-block-requires c κs = let i = c .before .before .loop .i in block-short _ i (i + 224) _ (omega arith)
 
 cast-n : tie.Need-cast-n Inv-loop μ-loop
 cast-n c = search needs
@@ -51,7 +51,7 @@ loop-less c = search needs
 loop-again : tie.Need-loop-again Inv-loop μ-loop
 loop-again c =
     let i = c .before .before .before .loop .i in
-    (omega arith, countLf-block _ i (i + 248) _ _ _ (omega arith) (c .count-block .ensures) (c .before .before .before .loop .inv .1))
+    (omega arith, countLf-block _ i (i + 224) _ _ _ (omega arith) (c .count-block .ensures) (c .before .before .before .loop .inv .1))
 
 sub-count-block-2 : tie.Need-sub-count-block-2 Inv-loop μ-loop
 sub-count-block-2 c = search needs
