@@ -4,7 +4,7 @@ use mathlib.Core.List.{List, [], _∷_}
 use mathlib.Core.Bool.{cond}
 use lib.Dec.{ltb, eqb}
 use Rattle.meaning.specs.declared.Column.{Column}
-use Rattle.meaning.specs.Refusals.{Test, testAt, long, blank, formless, leftmost}
+use Rattle.meaning.specs.Refusals.{Test, test, testAt, rule5, rule14, long, blank, formless, leftmost}
 use Rattle.reading.specs.declared.Fault.{Fault}
 
 abbrev pub fault : ℕ → ℕ → Fault
@@ -14,6 +14,10 @@ fault n c = record { rule = n; column = c }
 unfoldable pub first : List Test → Fault
 first [] = fault 0 0
 first (t ∷ r) = let k = first r in cond (t .broken) (fault (t .number) (t .column)) k
+
+-- the tests of a line's bytes, whatever its fields
+unfoldable pub byteTests : List ℕ → List Test
+byteTests l = test 5 (rule5 l) ∷ test 14 (rule14 l) ∷ []
 
 -- rules 11 to 13 of the value under a known column that stands in column p, on a line that may leave so much open
 unfoldable pub columnTests : ℕ → Column → ℕ → List ℕ → List Test

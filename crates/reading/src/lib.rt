@@ -28,9 +28,10 @@ ghost use Rattle.meaning.specs.Columns.{rowOf};
 ghost use Rattle.meaning.specs.Forms.{timeOf, dateOf, latitudeOf, longitudeOf, sequenceOf, choiceOf, routeTypeOf, exceptionOf, isTime, isDate, isDegrees, isNumber, isChoice, shape};
 ghost use Rattle.meaning.specs.Tables.{fileOf, widthOf};
 ghost use Rattle.meaning.specs.Refusals.{textTests, headTests, valueTests, lineTests, onLines, inFile, mayLack, rule4, slack, speaks, verdictOf};
-ghost use Rattle.columns.specs.Columns.{placesOf};
+ghost use Rattle.schema.specs.AllKnown.{AllKnown};
+ghost use Rattle.columns.specs.Columns.{placesOf, Noted};
 ghost use Rattle.values.specs.Located.{Within, Located};
-ghost use Rattle.reading.specs.Tests.{fault, first, columnTests, earlierOf};
+ghost use Rattle.reading.specs.Tests.{fault, first, byteTests, columnTests, earlierOf};
 ghost use Rattle.reading.specs.Wholes.{wholeOf, wholesOf, ruleMarks, firstTrue, wholeClaims, orElse};
 
 // Is the value of a raw field a time, or empty?
@@ -232,11 +233,19 @@ fn earlier(a: Fault, b: Fault) -> Fault
 }
 
 // The first of rules 11 to 13 that the values of a line break, whose known columns stand at `at`, and the leftmost column that breaks it.
-fn row_fault(f: usize, at: [usize; 10], l: &[u8]) -> Fault
-    requires { ⌜ f < 7 ⌝ }
+fn row_fault(
+    f: usize,
+    known: [Column; 10],
+    at: [usize; 10],
+    l: &[u8],
+    count: usize,
+    starts: &[usize],
+) -> Fault
+    requires { ⌜ (f < 7) × AllKnown f known ⌝ }
+    requires { ⌜ (count ≡ length (fields (now l))) × Noted (now l) (now starts) ⌝ }
     ensures { λ r. ⌜ r ≡ first (valueTests f at (now (l .entry))) ⌝ }
 {
-    let cells = columns::locate(l, at);
+    let cells = columns::cells_of(l, count, starts, at);
     let slack = slack_of(f, l, cells);
     let start = cells.start;
     let end = cells.end;
@@ -246,7 +255,7 @@ fn row_fault(f: usize, at: [usize; 10], l: &[u8]) -> Fault
     while k < m {
         let a = start[k];
         let e = end[k];
-        let t = value_fault(schema::known(f, k), slack, at[k], &l[a..e]);
+        let t = value_fault(known[k], slack, at[k], &l[a..e]);
         if t.rule != 0 {
             fault = earlier(fault, t);
         }
@@ -255,16 +264,30 @@ fn row_fault(f: usize, at: [usize; 10], l: &[u8]) -> Fault
     fault
 }
 
-// The first of rules 5, 14, 6 and 7 that a line breaks, by what a walk along it told.
-pub fn text_rule(l: &[u8], m: Measured) -> usize
-    requires { ⌜ (m .good ≡ good (now l)) × (m .fields ≡ length (fields (now l))) ⌝ }
-    ensures { λ r. ⌜ fault r 0 ≡ first (textTests (now (l .entry))) ⌝ }
+// The first of rules 5 and 14 that a line breaks; 0 where it breaks none.
+fn byte_rule(l: &[u8]) -> usize
+    ensures { λ r. ⌜ fault r 0 ≡ first (byteTests (now (l .entry))) ⌝ }
 {
+    if characters::is_plain(l) {
+        return 0;
+    }
     if text::has_stray(l) {
         return 5;
     }
     if characters::is_ill_formed(l) {
         return 14;
+    }
+    0
+}
+
+// The first of rules 5, 14, 6 and 7 that a line breaks, by what a walk along it told.
+pub fn text_rule(l: &[u8], m: Measured) -> usize
+    requires { ⌜ (m .good ≡ good (now l)) × (m .fields ≡ length (fields (now l))) ⌝ }
+    ensures { λ r. ⌜ fault r 0 ≡ first (textTests (now (l .entry))) ⌝ }
+{
+    let t = byte_rule(l);
+    if t != 0 {
+        return t;
     }
     if m.good {
         if 32 < m.fields {
@@ -295,11 +318,12 @@ pub fn header_fault(f: usize, c: Columns, h: &[u8]) -> Fault
 }
 
 // The first rule that a line after the header breaks, and its column.
-pub fn line_fault(f: usize, c: Columns, l: &[u8]) -> Fault
-    requires { ⌜ f < 7 ⌝ }
+pub fn line_fault(f: usize, known: [Column; 10], c: Columns, l: &[u8]) -> Fault
+    requires { ⌜ (f < 7) × AllKnown f known ⌝ }
     ensures { λ r. ⌜ r ≡ first (lineTests f (c .at) (c .count) (now (l .entry))) ⌝ }
 {
-    let m = text::measure(l);
+    let mut starts = columns::blank_starts();
+    let m = text::walk_fields(l, &mut starts);
     let t = text_rule(l, m);
     if t != 0 {
         return Fault { rule: t, column: 0 };
@@ -311,7 +335,7 @@ pub fn line_fault(f: usize, c: Columns, l: &[u8]) -> Fault
         };
     }
     let at = c.at;
-    row_fault(f, at, l)
+    row_fault(f, known, at, l, m.fields, &starts)
 }
 
 // The refusal of a fault at a place.
@@ -331,12 +355,13 @@ fn read_lines(f: usize, c: Columns, s: &[u8], from: usize) -> Verdict
     requires { ⌜ f < 7 ⌝ }
     ensures { λ r. ⌜ r ≡ speaks (onLines f (c .at) (c .count) 2 (linesFrom (now (s .entry)) from)) ⌝ }
 {
+    let known = schema::all_known(f);
     let mut at = from;
     let mut n: usize = 2;
     loop {
         match text::next_line(s, at) {
             LineStep::Line { start, end, next } => {
-                let t = line_fault(f, c, &s[start..end]);
+                let t = line_fault(f, known, c, &s[start..end]);
                 if t.rule != 0 {
                     return refuse(t, f, n);
                 }

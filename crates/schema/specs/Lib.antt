@@ -1,1 +1,2 @@
--- The schema has no definitions of its own: those of `meaning` serve.
+-- What the known columns of a file ask, as a list.
+pub mod AllKnown

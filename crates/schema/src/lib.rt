@@ -1,11 +1,11 @@
 // The known columns of each file, as data.
 use meaning::Column;
 ghost use mathlib.Core.Path.{_≡_};
-ghost use Prim.Native.Nat.{ℕ, _<_, _≤_};
-ghost use lib.ListN.{getD};
+ghost use Prim.Native.Nat.{_<_, _≤_};
 ghost use Rattle.meaning.specs.Lists.{same};
 ghost use Rattle.meaning.specs.Bytes.{value};
-ghost use Rattle.meaning.specs.Columns.{unknown, columnOf, nameOf, countOf};
+ghost use Rattle.meaning.specs.Columns.{columnOf, nameOf, countOf};
+ghost use Rattle.schema.specs.AllKnown.{AllKnown};
 
 // For each file and known column: must be present, on which lines it needs a value, is an id, form.
 const MUST: [[bool; 10]; 7] = [
@@ -244,9 +244,9 @@ pub fn known(f: usize, k: usize) -> Column
 }
 
 // What the known columns of file f ask. Made once a file: a constant's array is written anew wherever it is named.
-pub fn asked(f: usize) -> [Column; 10]
+pub fn all_known(f: usize) -> [Column; 10]
     requires { ⌜ f < 7 ⌝ }
-    ensures { λ r. ⌜ ((k : ℕ) → k < 10 → getD r k (unknown .column) ≡ columnOf f k) ⌝ }
+    ensures { λ r. ⌜ AllKnown f r ⌝ }
 {
     let mut all = [known(f, 9); 10];
     let mut k = 0;

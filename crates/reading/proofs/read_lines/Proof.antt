@@ -12,10 +12,13 @@ use Rattle.reading.proofs.read_lines.Statement.{statement}
 use Rattle.reading.proofs.read_lines.Tie as tie
 
 abbrev Inv-loop : tie.InvT-loop
-Inv-loop f c s from at₀ n₀ at n = (n ≤ at + 2) × (speaks (onLines f (c .at) (c .count) n (linesFrom s at)) ≡ speaks (onLines f (c .at) (c .count) 2 (linesFrom s from)))
+Inv-loop f c s from known at₀ n₀ at n = (n ≤ at + 2) × (speaks (onLines f (c .at) (c .count) n (linesFrom s at)) ≡ speaks (onLines f (c .at) (c .count) 2 (linesFrom s from)))
 
 abbrev μ-loop : tie.MeasureT-loop
-μ-loop f c s from at₀ n₀ at n = length s - at
+μ-loop f c s from known at₀ n₀ at n = length s - at
+
+all-known-requires : tie.Need-all-known-requires Inv-loop μ-loop
+all-known-requires c κs = search needs
 
 loop-holds : tie.Need-loop-holds Inv-loop μ-loop
 loop-holds c = (omega arith, refl)
@@ -85,6 +88,7 @@ read-lines-spec =
     (tie.spec
     Inv-loop
     μ-loop
+    all-known-requires
     loop-holds
     next-line-requires
     enum-known-start

@@ -13,16 +13,16 @@ use Rattle.reading.proofs.row_fault.Statement.{statement}
 use Rattle.reading.proofs.row_fault.Tie as tie
 
 abbrev Inv-loop : tie.InvT-loop
-Inv-loop f l at slack start end m fault₀ k₀ fault k = (k ≤ m) × (fault ≡ first (valueTestsTo slack f at l k))
+Inv-loop f l count starts known at slack start end m fault₀ k₀ fault k = (k ≤ m) × (fault ≡ first (valueTestsTo slack f at l k))
 
 abbrev μ-loop : tie.MeasureT-loop
-μ-loop f l at slack start end m fault₀ k₀ fault k = m - k
+μ-loop f l count starts known at slack start end m fault₀ k₀ fault k = m - k
 
-locate-requires : tie.Need-locate-requires Inv-loop μ-loop
-locate-requires c κs = search needs
+cells-of-requires : tie.Need-cells-of-requires Inv-loop μ-loop
+cells-of-requires c κs = c .before .before .pre .1
 
 slack-of-requires : tie.Need-slack-of-requires Inv-loop μ-loop
-slack-of-requires c κs = let g = c .locate .ensures in within _ _ _ _ (g .0) (g .1)
+slack-of-requires c κs = let g = c .cells-of .ensures in within _ _ _ _ (g .0) (g .1)
 
 count-requires : tie.Need-count-requires Inv-loop μ-loop
 count-requires c κs = search needs
@@ -42,28 +42,31 @@ mul-e c = omega arith
 array-read-e : tie.Need-array-read-e Inv-loop μ-loop
 array-read-e c = omega arith
 
-known-requires : tie.Need-known-requires Inv-loop μ-loop
-known-requires c κs = search needs
-
 mul-value-fault : tie.Need-mul-value-fault Inv-loop μ-loop
 mul-value-fault c = omega arith
+
+array-copy-out-value-fault : tie.Need-array-copy-out-value-fault Inv-loop μ-loop
+array-copy-out-value-fault c = omega arith
+
+mul-value-fault-2 : tie.Need-mul-value-fault-2 Inv-loop μ-loop
+mul-value-fault-2 c = omega arith
 
 array-read-value-fault : tie.Need-array-read-value-fault Inv-loop μ-loop
 array-read-value-fault c = omega arith
 
 sub-value-fault : tie.Need-sub-value-fault Inv-loop μ-loop
 sub-value-fault c =
-    let g = c .before .before .before .before .before .before .before .locate .ensures in
+    let g = c .before .before .before .before .before .before .before .cells-of .ensures in
     located-inside _ _ _ _ (g .0) (g .1) (c .before .before .loop .k) .0
 
 part-value-fault-start : tie.Need-part-value-fault-start Inv-loop μ-loop
 part-value-fault-start c =
-    let g = c .before .before .before .before .before .before .before .locate .ensures in
+    let g = c .before .before .before .before .before .before .before .cells-of .ensures in
     located-inside _ _ _ _ (g .0) (g .1) (c .before .before .loop .k) .0
 
 part-value-fault-end : tie.Need-part-value-fault-end Inv-loop μ-loop
 part-value-fault-end c =
-    let g = c .before .before .before .before .before .before .before .locate .ensures in
+    let g = c .before .before .before .before .before .before .before .cells-of .ensures in
     located-inside _ _ _ _ (g .0) (g .1) (c .before .before .loop .k) .1
 
 value-fault-requires : tie.Need-value-fault-requires Inv-loop μ-loop
@@ -82,19 +85,20 @@ loop-again : tie.Need-loop-again Inv-loop μ-loop
 unfolding part
 loop-again c =
     let v = c .before .before in
-    let b = v .before .before in
-    let i = b .before .before .loop in
-    let g = b .before .before .before .before .before .before .before .locate .ensures in
-    let cell = located-cell _ _ _ _ (g .0) (g .1) (i .k) in
+    let i = v .before .before .before .before in
+    let b = i .before .before .before .before .before in
+    let g = b .cells-of .ensures in
+    let known = b .before .before .before .pre .0 .1 (i .loop .k) (omega arith) in
+    let cell = located-cell _ _ _ _ (g .0) (g .1) (i .loop .k) in
     ⊎-elim
-    (λ w. (omega arith, rw (w .2) (row-turn _ _ _ _ _ _ _ _ (i .inv .1) _ (b .known .ensures) _ cell (v .value-fault .ensures) (w .1 .ensures))))
-    (λ w. (omega arith, rw (w .1) (row-kept _ _ _ _ _ _ _ (i .inv .1) _ (b .known .ensures) _ cell (v .value-fault .ensures) (w .0 .left))))
+    (λ w. (omega arith, rw (w .2) (row-turn _ _ _ _ _ _ _ _ (i .loop .inv .1) _ known _ cell (v .value-fault .ensures) (w .1 .ensures))))
+    (λ w. (omega arith, rw (w .1) (row-kept _ _ _ _ _ _ _ (i .loop .inv .1) _ known _ cell (v .value-fault .ensures) (w .0 .left))))
     (c .if1 .came)
 
 returns : tie.Need-returns Inv-loop μ-loop
 returns c =
     let b = c .before .before .before .before .before in
-    let g = b .before .locate .ensures in
+    let g = b .before .cells-of .ensures in
     row-end _ _ _ _ _ _ (c .before .loop .inv .1) (omega arith) (b .slack-of .ensures _ (located-there _ _ _ _ (g .0) (g .1)))
 
 pub row-fault-spec : {M : Type 1} → statement M
@@ -103,7 +107,7 @@ row-fault-spec =
     (tie.spec
     Inv-loop
     μ-loop
-    locate-requires
+    cells-of-requires
     slack-of-requires
     count-requires
     loop-holds
@@ -111,8 +115,9 @@ row-fault-spec =
     array-read-a
     mul-e
     array-read-e
-    known-requires
     mul-value-fault
+    array-copy-out-value-fault
+    mul-value-fault-2
     array-read-value-fault
     sub-value-fault
     part-value-fault-start

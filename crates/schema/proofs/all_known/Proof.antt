@@ -1,4 +1,4 @@
--- `schema::asked` meets its contract.
+-- `schema::all_known` meets its contract.
 use Rattle.schema.proofs.Laws.{columns-more}
 use Rattle.meaning.specs.Columns.{unknown, columnOf}
 use mathlib.Core.Path.{_≡_, _∙_}
@@ -7,8 +7,8 @@ use native.Mathlib.Omega.{arith}
 use native.Mathlib.Nat.{not-suc-le-zero}
 use lib.ListN.{length, getD, length-set}
 use borrow.Author.Needs.{needs}
-use Rattle.schema.proofs.asked.Statement.{statement}
-use Rattle.schema.proofs.asked.Tie as tie
+use Rattle.schema.proofs.all_known.Statement.{statement}
+use Rattle.schema.proofs.all_known.Tie as tie
 
 abbrev Inv-loop : tie.InvT-loop
 Inv-loop f all₀ k₀ all k = (k ≤ 10) × (length all ≡ 10) × ((j : ℕ) → j < k → getD all j (unknown .column) ≡ columnOf f j)
@@ -45,8 +45,8 @@ loop-again c =
 returns : tie.Need-returns Inv-loop μ-loop
 returns c k h = c .before .loop .inv .2 k (omega arith)
 
-pub asked-spec : {M : Type 1} → statement M
-asked-spec =
+pub all-known-spec : {M : Type 1} → statement M
+all-known-spec =
     tie.close
     (tie.spec
     Inv-loop
