@@ -7,6 +7,7 @@ ghost use lib.ListN.{length};
 ghost use Rattle.meaning.specs.Lists.{empty};
 ghost use Rattle.meaning.specs.Tables.{fileOf};
 ghost use Rattle.meaning.specs.Refusals.{maxBytes, test, textTests, lineTests};
+ghost use Rattle.schema.specs.AllKnown.{AllKnown};
 ghost use Rattle.reading.specs.Tests.{first};
 ghost use Rattle.listing.specs.Handing.{state, adding};
 ghost use Rattle.faults.specs.List.{textsFrom, textsOf, faultAt, headSaid, testsUnder, laterFaults, lineFaults, fileFaults};
@@ -14,6 +15,7 @@ ghost use Rattle.faults.specs.Told.{quad};
 ghost use Rattle.file_faults.specs.Walk.{anyAt, faultOf, Heads, Header, markedFaults};
 use columns::Columns;
 use listing::Sink;
+use meaning::Column;
 use meaning::Place;
 use reading::Fault;
 use text::LineStep;
@@ -73,12 +75,12 @@ fn list_whole(f: usize, whole: [bool; 4], out: &mut [i32], k: Sink, p: Place) ->
 }
 
 // The first rule that a line after the header breaks: of all its rules where the header is good, else of those that don't look at it.
-fn later_fault(f: usize, good: bool, c: Columns, l: &[u8]) -> Fault
-    requires { ⌜ f < 7 ⌝ }
+fn later_fault(f: usize, known: [Column; 10], good: bool, c: Columns, l: &[u8]) -> Fault
+    requires { ⌜ (f < 7) × AllKnown f known ⌝ }
     ensures { λ r. ⌜ r ≡ first (cond good (lineTests f (c .at) (c .count) (now (l .entry))) (textTests (now (l .entry)))) ⌝ }
 {
     if good {
-        return reading::line_fault(f, c, l);
+        return reading::line_fault(f, known, c, l);
     }
     let rule = reading::text_rule(l, text::measure(l));
     Fault { rule, column: 0 }
@@ -87,6 +89,7 @@ fn later_fault(f: usize, good: bool, c: Columns, l: &[u8]) -> Fault
 // The fault of line n, after the header.
 fn list_line(
     f: usize,
+    known: [Column; 10],
     good: bool,
     c: Columns,
     l: &[u8],
@@ -96,11 +99,12 @@ fn list_line(
     p: Place,
 ) -> Sink
     requires { ⌜ (f < 7) × ((n < 2 ^ 31) × (k .total < 2 ^ 62)) ⌝ }
+    requires { ⌜ AllKnown f known ⌝ }
     requires { ⌜ Header f good (c .at) (c .count) ⌝ }
     ensures { λ r. ⌜ ((h : List ℕ) → Heads f h good (c .at) (c .count) → state (now (out .exit)) r ≡ adding quad p (faultAt f n (testsUnder (headSaid f h) f h (now (l .entry)))) (state (now (out .entry)) k)) ⌝ }
     ensures { λ r. ⌜ r .total ≤ k .total + 1 ⌝ }
 {
-    note_fault(out, k, p, f, n, later_fault(f, good, c, l))
+    note_fault(out, k, p, f, n, later_fault(f, known, good, c, l))
 }
 
 // The faults of the lines after the header, from byte `from` on, counted from 2.
@@ -119,13 +123,14 @@ fn list_later(
     ensures { λ r. ⌜ ((h : List ℕ) → Heads f h good (c .at) (c .count) → state (now (out .exit)) r ≡ adding quad p (laterFaults f h 2 (textsFrom (now (s .entry)) from)) (state (now (out .entry)) k)) ⌝ }
     ensures { λ r. ⌜ r .total ≤ k .total + length (now (s .entry)) ⌝ }
 {
+    let known = schema::all_known(f);
     let mut at = from;
     let mut n: usize = 2;
     let mut sink = k;
     loop {
         match any_line(s, at) {
             LineStep::Line { start, end, next } => {
-                sink = list_line(f, good, c, &s[start..end], n, out, sink, p);
+                sink = list_line(f, known, good, c, &s[start..end], n, out, sink, p);
                 n += 1;
                 at = next;
             }

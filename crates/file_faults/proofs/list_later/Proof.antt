@@ -16,12 +16,15 @@ use Rattle.file_faults.proofs.list_later.Statement.{statement}
 use Rattle.file_faults.proofs.list_later.Tie as tie
 
 abbrev Inv-loop : tie.InvT-loop
-Inv-loop f good c s from out₀ p at₀ n₀ sink₀ out at n sink =
+Inv-loop f good c s from out₀ p known at₀ n₀ sink₀ out at n sink =
     ((h : List ℕ) → Heads f h good (c .at) (c .count) → adding quad p (laterFaults f h n (textsFrom s at)) (state out sink) ≡ adding quad p (laterFaults f h 2 (textsFrom s from)) (state out₀ sink₀))
     × ((from ≤ at) × ((n ≤ at + 2) × ((at - from ≤ length s) × ((sink .total ≤ sink₀ .total + (at - from)) × (length out ≡ length out₀)))))
 
 abbrev μ-loop : tie.MeasureT-loop
-μ-loop f good c s from out₀ p at₀ n₀ sink₀ out at n sink = length s - at
+μ-loop f good c s from out₀ p known at₀ n₀ sink₀ out at n sink = length s - at
+
+all-known-requires : tie.Need-all-known-requires Inv-loop μ-loop
+all-known-requires c κs = search needs
 
 loop-holds : tie.Need-loop-holds Inv-loop μ-loop
 loop-holds c = (λ h k. refl, (omega arith, (omega arith, (omega arith, (omega arith, refl)))))
@@ -52,8 +55,9 @@ list-line-requires c κs =
     let b = c .before .before .before in
     let s = any-found _ _ _ _ _ (sym (b .before .before .any-line .ensures) ∙ b .start .given .1) in
     let l = b .before .before .before .loop .inv .1 in
-    let q = b .before .before .before .before .before .pre in
-    ((q .0 .0, (omega (arith, l .1 .0, s .further, s .inside, q .0 .1 .0), omega (arith, l .1 .1 .0, l .1 .1 .1 .0, q .0 .1 .0, q .0 .1 .1))), q .1)
+    let a = b .before .before .before .before in
+    let q = a .before .before .pre in
+    ((q .0 .0, (omega (arith, l .1 .0, s .further, s .inside, q .0 .1 .0), omega (arith, l .1 .1 .0, l .1 .1 .1 .0, q .0 .1 .0, q .0 .1 .1))), (a .all-known .ensures, q .1))
 
 add-n : tie.Need-add-n Inv-loop μ-loop
 add-n c =
@@ -96,6 +100,7 @@ list-later-spec =
     (tie.spec
     Inv-loop
     μ-loop
+    all-known-requires
     loop-holds
     any-line-requires
     enum-known-start

@@ -6,12 +6,12 @@ use Rattle.file_faults.proofs.list_line.Statement.{statement}
 use Rattle.file_faults.proofs.list_line.Tie as tie
 
 later-fault-requires : tie.Need-later-fault-requires
-later-fault-requires c κs = search needs
+later-fault-requires c κs = let p = c .before .before .pre in (p .0 .0, p .1 .0)
 
 note-fault-requires : tie.Need-note-fault-requires
 note-fault-requires c κs =
     let s = c .before .before .before in
-    let h = s .pre .1 in
+    let h = s .pre .1 .1 in
     let e = c .later-fault .ensures in
     let n = s .pre .0 .1 .0 in
     let rule = later-rule _ (h .text) _ _ _ (h .heads) _ (s .args .n) _ e in
