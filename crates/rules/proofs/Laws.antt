@@ -23,7 +23,7 @@ use Rattle.file_rules.specs.Lines.{ruleCount, Ready}
 use Rattle.rules.specs.Tabled.{Tabled, tableOf}
 
 -- the LF count of a file among those of all; none of a file that isn't there
-count-at : (files : List (List ℕ)) (i : ℕ) → getD (map countLf files) i 0 ≡ countLf (getD files i [])
+pub count-at : (files : List (List ℕ)) (i : ℕ) → getD (map countLf files) i 0 ≡ countLf (getD files i [])
 unfolding countLf
 count-at [] i = refl
 count-at (s ∷ r) zero = refl

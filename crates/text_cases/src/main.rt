@@ -166,15 +166,26 @@ fn quoting() {
     file(b"a\"b,c\"d,e\n");
 }
 
-// Writes what rules 1 to 4 ask of n bytes that are all LF, and of n bytes of which only the last is LF.
+// Bytes that are all one.
+fn filled(b: u8) -> [u8; 500] {
+    [b; 500]
+}
+
+// Writes what rules 1 to 4 ask of n bytes, the last of which is LF and all others b.
+fn ended(b: u8, n: usize)
+    requires { ⌜ (1 ≤ n) × (n ≤ 500) ⌝ }
+{
+    let mut s = filled(b);
+    s[n - 1] = b'\n';
+    whole(&s[..n]);
+}
+
+// Writes it of n bytes that are all LF, and of n bytes of which only the last is LF.
 fn block(n: usize)
     requires { ⌜ (1 ≤ n) × (n ≤ 500) ⌝ }
 {
-    let all = [b'\n'; 500];
-    whole(&all[..n]);
-    let mut last = [b'a'; 500];
-    last[n - 1] = b'\n';
-    whole(&last[..n]);
+    ended(b'\n', n);
+    ended(b'a', n);
 }
 
 // LF bytes are counted to the end, however many bytes a turn counts.

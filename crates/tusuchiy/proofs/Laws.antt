@@ -1,11 +1,11 @@
 -- Laws: a readable feed is ready to be filled, and a filled one to be judged.
-use Prim.Native.Nat.{ℕ, zero, suc, _+_, _-_, _≤_}
+use Prim.Native.Nat.{ℕ, zero, suc, _+_, _-_, _<_, _≤_}
 use mathlib.Core.Path.{_≡_, refl, ap}
 use mathlib.Core.List.{List, [], _∷_, map}
 use mathlib.Core.Bool.{false, cond}
 use native.Mathlib.Omega.{arith}
 use lib.IntN.{ℤ}
-use lib.ListN.{length, length-map}
+use lib.ListN.{length, getD, length-map}
 use lib.Dec.{eqb}
 use Rattle.meaning.specs.declared.Refusal.{Refusal}
 use Rattle.meaning.specs.declared.Verdict.the-variants.{Readable, Unreadable}
@@ -31,6 +31,7 @@ use Rattle.listing.specs.declared.Sink.{Sink}
 use Rattle.held.specs.Held.{Filled}
 use Rattle.file_rules.specs.Lines.{Named}
 use Rattle.rules.specs.Tabled.{tableOf, Tabled}
+use Rattle.rules.proofs.Laws.{count-at}
 
 -- the rows of a file are those that its bytes have
 rows-read : (files : List (List ℕ)) (f : ℕ) → 1 ≤ f → f ≤ 6 → rowsIn (feedOf files) f ≡ rowsOf f (fileOf files f)
@@ -71,8 +72,11 @@ module _ (files : List (List ℕ)) (tables : List (List ℤ)) (six : length file
   pub roomy : (f : ℕ) → 1 ≤ f → f ≤ 6 → mayLack files f ≡ false → Room f (fileOf files f) (tableOf tables f)
   roomy f low high m = room-kept files f (fileOf files f) (tableOf tables f) (kept f low high) m
 
-  pub few-lines : (f : ℕ) → 1 ≤ f → f ≤ 6 → countLf (fileOf files f) ≤ maxLines
-  few-lines f low high = kept f low high .few
+  pub few-lines : (counts : List ℕ) → counts ≡ map countLf files → (i : ℕ) → i < 6 → getD counts i 0 ≤ maxLines
+  unfolding fileOf
+  few-lines counts e i h =
+      let back : i + 1 - 1 ≡ i = omega arith in
+      rw (e, count-at files i) (rw back at (kept (i + 1) (omega arith) (omega arith) .few))
 
   -- rule 12: a readable feed has no trip without a route, a service or an id, and no line of stop_times without a trip or a stop
   named : Named (feedOf files)
@@ -102,8 +106,8 @@ module _ (files : List (List ℕ)) (tables : List (List ℤ)) (six : length file
         }
 
     -- once its tables are filled and its marks set, the rules can be judged
-    pub tabled : (marks : List ℕ) → Noted (feedOf files) marks → TripsNoted (feedOf files) marks → Tabled (feedOf files) files held marks
-    tabled marks m o = record { filled = filled-each; noted = m; trips-noted = o; named = named }
+    pub tabled : (counts : List ℕ) → counts ≡ map countLf files → (marks : List ℕ) → Noted (feedOf files) marks → TripsNoted (feedOf files) marks → Tabled (feedOf files) counts held marks
+    tabled counts e marks m o = record { files = files; counted = e; filled = filled-each; noted = m; trips-noted = o; named = named }
 
     -- and the outcome is what is answered and held
     pub outcome-read :

@@ -1,9 +1,10 @@
 // The whole check, and every refusal at once.
 ghost use mathlib.Core.Path.{_≡_};
-ghost use mathlib.Core.List.{_∷_, []};
+ghost use mathlib.Core.List.{_∷_, [], map};
 ghost use mathlib.Core.Bool.{cond};
 ghost use lib.Dec.{eqb};
 ghost use lib.ListN.{length};
+ghost use Rattle.meaning.specs.Bytes.{countLf};
 ghost use Rattle.meaning.specs.Refusals.{maxBytes, verdictOf};
 ghost use Rattle.meaning.specs.Outcome.{readOutcome, outcome};
 ghost use Prim.Native.Nat.{_+_, _*_, _≤_};
@@ -29,7 +30,28 @@ fn answer_of(k: Sink) -> Answer
     }
 }
 
-// A readable feed: its tables are filled and its findings handed out.
+// How many LF bytes each file has.
+fn count_all(
+    stops: &[u8],
+    routes: &[u8],
+    calendar: &[u8],
+    trips: &[u8],
+    stop_times: &[u8],
+    calendar_dates: &[u8],
+) -> [usize; 6]
+    ensures { λ r. ⌜ r ≡ map countLf (now (stops .entry) ∷ now (routes .entry) ∷ now (calendar .entry) ∷ now (trips .entry) ∷ now («stop_times» .entry) ∷ now («calendar_dates» .entry) ∷ []) ⌝ }
+{
+    [
+        text::count_lf(stops),
+        text::count_lf(routes),
+        text::count_lf(calendar),
+        text::count_lf(trips),
+        text::count_lf(stop_times),
+        text::count_lf(calendar_dates),
+    ]
+}
+
+// A readable feed, whose files have so many LF bytes each: its tables are filled and its findings handed out.
 fn checked(
     stops: &[u8],
     routes: &[u8],
@@ -37,6 +59,7 @@ fn checked(
     trips: &[u8],
     stop_times: &[u8],
     calendar_dates: &[u8],
+    counts: [usize; 6],
     stops_table: &mut [i32],
     routes_table: &mut [i32],
     calendar_table: &mut [i32],
@@ -49,6 +72,7 @@ fn checked(
 ) -> Answer
     requires { ⌜ verdictOf (now stops ∷ now routes ∷ now calendar ∷ now trips ∷ now «stop_times» ∷ now «calendar_dates» ∷ [])
         (length (now «stops_table») ∷ length (now «routes_table») ∷ length (now «calendar_table») ∷ length (now «trips_table») ∷ length (now «stop_times_table») ∷ length (now «calendar_dates_table») ∷ []) ≡ Verdict.Readable ⌝ }
+    requires { ⌜ counts ≡ map countLf (now stops ∷ now routes ∷ now calendar ∷ now trips ∷ now «stop_times» ∷ now «calendar_dates» ∷ []) ⌝ }
     ensures { λ r. ⌜ readOutcome
         (now (stops .entry) ∷ now (routes .entry) ∷ now (calendar .entry) ∷ now (trips .entry) ∷ now («stop_times» .entry) ∷ now («calendar_dates» .entry) ∷ [])
         (now («stops_table» .entry) ∷ now («routes_table» .entry) ∷ now («calendar_table» .entry) ∷ now («trips_table» .entry) ∷ now («stop_times_table» .entry) ∷ now («calendar_dates_table» .entry) ∷ [])
@@ -73,12 +97,7 @@ fn checked(
         &mut marks,
     );
     let k = rules::list_findings(
-        stops,
-        routes,
-        calendar,
-        trips,
-        stop_times,
-        calendar_dates,
+        counts,
         stops_table,
         routes_table,
         calendar_table,
@@ -118,6 +137,7 @@ pub fn check(
         ≡ record { answer = r; tables = now («stops_table» .exit) ∷ now («routes_table» .exit) ∷ now («calendar_table» .exit) ∷ now («trips_table» .exit) ∷ now («stop_times_table» .exit) ∷ now («calendar_dates_table» .exit) ∷ []; list = now (findings .exit) } ⌝ }
     ensures { λ r. ⌜ Small r ⌝ }
 {
+    let counts = count_all(stops, routes, calendar, trips, stop_times, calendar_dates);
     let rooms = [
         stops_table.len(),
         routes_table.len(),
@@ -134,6 +154,7 @@ pub fn check(
         stop_times,
         calendar_dates,
         rooms,
+        counts,
     ) {
         Verdict::Readable => checked(
             stops,
@@ -142,6 +163,7 @@ pub fn check(
             trips,
             stop_times,
             calendar_dates,
+            counts,
             stops_table,
             routes_table,
             calendar_table,

@@ -7,6 +7,9 @@ use borrow.Author.Needs.{needs}
 use Rattle.tusuchiy.proofs.check.Statement.{statement}
 use Rattle.tusuchiy.proofs.check.Tie as tie
 
+count-all-requires : tie.Need-count-all-requires
+count-all-requires c κs = search needs
+
 verdict-requires : tie.Need-verdict-requires
 verdict-requires c κs = search needs
 
@@ -14,7 +17,9 @@ enum-told : tie.Need-enum-told
 enum-told c = search needs
 
 checked-requires : tie.Need-checked-requires
-checked-requires c κs = sym (c .before .before .before .before .before .before .before .before .before .verdict .ensures) ∙ c .before .before .before .before .before .before .before .enum-told .given .1
+checked-requires c κs =
+    let v = c .before .before .before .before .before .before .before .before .before in
+    (sym (v .verdict .ensures) ∙ c .before .before .before .before .before .before .before .enum-told .given .1, v .before .count-all .ensures)
 
 enum-known-r : tie.Need-enum-known-r
 enum-known-r c = search needs
@@ -55,6 +60,7 @@ pub check-spec : {M : Type 1} → statement M
 check-spec =
     tie.close
     (tie.spec
+    count-all-requires
     verdict-requires
     enum-told
     checked-requires

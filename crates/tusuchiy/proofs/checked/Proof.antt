@@ -23,17 +23,17 @@ fill-all-requires c κs =
     let z = c .before .before .before .before .before .before .before .before .before .before .before .before .before .before in
     let files = z .args .stops .now ∷ z .args .routes .now ∷ z .args .calendar .now ∷ z .args .trips .now ∷ z .args .stop-times .now ∷ z .args .calendar-dates .now ∷ [] in
     let tables = z .args .stops-table .now ∷ z .args .routes-table .now ∷ z .args .calendar-table .now ∷ z .args .trips-table .now ∷ z .args .stop-times-table .now ∷ z .args .calendar-dates-table .now ∷ [] in (
-      roomy files tables refl refl (z .pre) 1 (omega arith) (omega arith) refl,
+      roomy files tables refl refl (z .pre .0) 1 (omega arith) (omega arith) refl,
       (
-        roomy files tables refl refl (z .pre) 2 (omega arith) (omega arith) refl,
+        roomy files tables refl refl (z .pre .0) 2 (omega arith) (omega arith) refl,
         (
-          fits files tables refl refl (z .pre) 3 (omega arith) (omega arith),
+          fits files tables refl refl (z .pre .0) 3 (omega arith) (omega arith),
           (
-            roomy files tables refl refl (z .pre) 4 (omega arith) (omega arith) refl,
+            roomy files tables refl refl (z .pre .0) 4 (omega arith) (omega arith) refl,
             (
-              roomy files tables refl refl (z .pre) 5 (omega arith) (omega arith) refl,
+              roomy files tables refl refl (z .pre .0) 5 (omega arith) (omega arith) refl,
               (
-                fits files tables refl refl (z .pre) 6 (omega arith) (omega arith),
+                fits files tables refl refl (z .pre .0) 6 (omega arith) (omega arith),
                 (c .before .before .before .before .before .before .before .blank .ensures, search needs),
               ),
             ),
@@ -50,22 +50,8 @@ unfolding fileOf
 list-findings-requires c κs =
     let z = c .before .before .before .before .before .before .before .before .before .before .before .before .before .before .before .before .before .before .before .before .before .before .before .before .before .before .before .before .before .before in
     let files = z .args .stops .now ∷ z .args .routes .now ∷ z .args .calendar .now ∷ z .args .trips .now ∷ z .args .stop-times .now ∷ z .args .calendar-dates .now ∷ [] in
-    let tables = z .args .stops-table .now ∷ z .args .routes-table .now ∷ z .args .calendar-table .now ∷ z .args .trips-table .now ∷ z .args .stop-times-table .now ∷ z .args .calendar-dates-table .now ∷ [] in (
-      few-lines files tables refl refl (z .pre) 1 (omega arith) (omega arith),
-      (
-        few-lines files tables refl refl (z .pre) 2 (omega arith) (omega arith),
-        (
-          few-lines files tables refl refl (z .pre) 3 (omega arith) (omega arith),
-          (
-            few-lines files tables refl refl (z .pre) 4 (omega arith) (omega arith),
-            (
-              few-lines files tables refl refl (z .pre) 5 (omega arith) (omega arith),
-              few-lines files tables refl refl (z .pre) 6 (omega arith) (omega arith),
-            ),
-          ),
-        ),
-      ),
-    )
+    let tables = z .args .stops-table .now ∷ z .args .routes-table .now ∷ z .args .calendar-table .now ∷ z .args .trips-table .now ∷ z .args .stop-times-table .now ∷ z .args .calendar-dates-table .now ∷ [] in
+    few-lines files tables refl refl (z .pre .0) _ (z .pre .1)
 
 answer-of-requires : tie.Need-answer-of-requires
 answer-of-requires c κs = search needs
@@ -99,8 +85,8 @@ returns c =
     let f = c .before .before .before .before .before .before .before .before .before .before .before .before .before .before .before .before .before .before .fill-all .ensures in
     let all = all-filled (feedOf files) _ _ _ _ _ _ (z .args .stops-table .now) (z .args .routes-table .now) (z .args .calendar-table .now) (z .args .trips-table .now) (z .args .stop-times-table .now) (z .args .calendar-dates-table .now) _ _ _ _ _ _ (f .0) (f .1 .0) (f .1 .1 .0) (f .1 .1 .1 .0) (f .1 .1 .1 .1 .0) (f .1 .1 .1 .1 .1 .0) in
     let k = c .before .before .list-findings .ensures in
-    let h = k .0 _ (tabled files tables refl refl (z .pre) _ all _ (f .1 .1 .1 .1 .1 .1 .0) (f .1 .1 .1 .1 .1 .1 .1)) in (
-      outcome-read files tables refl refl (z .pre) _ all (z .args .findings .now) _ (z .args .from) (z .args .asked) (c .before .before .list-findings .result) _ h (c .answer-of .ensures),
+    let h = k .0 _ (tabled files tables refl refl (z .pre .0) _ all _ (z .pre .1) _ (f .1 .1 .1 .1 .1 .1 .0) (f .1 .1 .1 .1 .1 .1 .1)) in (
+      outcome-read files tables refl refl (z .pre .0) _ all (z .args .findings .now) _ (z .args .from) (z .args .asked) (c .before .before .list-findings .result) _ h (c .answer-of .ensures),
       small-findings (z .args .from) _ (z .args .findings .now) _ (c .before .before .list-findings .result) _ h (k .1) (c .answer-of .ensures),
     )
 
