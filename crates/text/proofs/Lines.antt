@@ -2,7 +2,7 @@
 use mathlib.Core.Path.{_≡_, refl, sym, ap, _∙_}
 use mathlib.Core.Bool.{Bool, true, false, cond, _&&_}
 use mathlib.Core.List.{List, [], _∷_, _++_}
-use Prim.Native.Nat.{ℕ, suc, _+_, _-_, _≤_, _<_}
+use Prim.Native.Nat.{ℕ, zero, suc, _+_, _-_, _≤_, _<_}
 use native.Mathlib.Numerals.{add-one}
 use native.Mathlib.Omega.{arith}
 use native.Mathlib.Nat.{not-suc-le-zero, add-zero}
@@ -51,6 +51,24 @@ module _ (s : List ℕ) (i j : ℕ) where
       ap countLf (sym (take-append-drop (j - i) (drop i s))) ∙ countLf-append (take (j - i) (drop i s)) (drop (j - i) (drop i s)) in
       let y : countLf (drop (j - i) (drop i s)) ≡ countLf (drop j s) = rw (drop-drop (j - i) i s, d) in
       omega arith
+
+-- bytes without an LF are before the first
+lf-past : (n : ℕ) (r : List ℕ) → n ≤ length r → countLf (take n r) ≡ 0 → toLf r ≡ n + toLf (drop n r)
+unfolding countLf toLf
+lf-past zero r h e = omega arith
+lf-past (suc n) [] h e = absurd (not-suc-le-zero h)
+lf-past (suc n) (b ∷ r) h e = go (eqb b 10) refl (lf-past n r (omega arith))
+  where
+    go : (t : Bool) → eqb b 10 ≡ t → (countLf (take n r) ≡ 0 → toLf r ≡ n + toLf (drop n r)) → toLf (b ∷ r) ≡ suc n + toLf (drop n r)
+    go true d ih = let z : countLf (take n r) + 1 ≡ 0 = rw d at e in absurd (omega arith)
+    go false d ih = let z : countLf (take n r) ≡ 0 = rw d at e in rw d (omega (arith, ih z))
+
+pub toLf-block : (s : List ℕ) (i j v k : ℕ) → i ≤ j → j ≤ length s → v ≡ countLf (take (j - i) (drop i s)) → v ≡ 0 → i + toLf (drop i s) ≡ k → j + toLf (drop j s) ≡ k
+toLf-block s i j v k h w e z inv =
+    let d : i + (j - i) ≡ j = omega arith in
+    let y : toLf (drop i s) ≡ j - i + toLf (drop (j - i) (drop i s)) = lf-past (j - i) (drop i s) (omega (arith, length-drop i s)) (sym e ∙ z) in
+    let x : toLf (drop (j - i) (drop i s)) ≡ toLf (drop j s) = rw (drop-drop (j - i) i s, d) in
+    omega arith
 
 -- a turn along the bytes, on how many LF are left and how far the first is
 module _ (s : List ℕ) (i : ℕ) (more : i < length s) where

@@ -91,11 +91,28 @@ pub enum LineStep {
     Done,
 }
 
+// A byte from `at` on that no LF stands before, eight bytes a turn: the first LF is one of the eight from there on, or fewer are left.
+fn near_lf(s: &[u8], at: usize) -> usize
+    ensures { λ r. ⌜ (r + toLf (drop r (now (s .entry))) ≡ at + toLf (drop at (now (s .entry)))) × (at ≤ r) ⌝ }
+{
+    let mut i = at;
+    while i < s.len() {
+        if s.len() - i < 8 {
+            return i;
+        }
+        if count_block(&s[i..i + 8]) != 0 {
+            return i;
+        }
+        i += 8;
+    }
+    i
+}
+
 // Where the first LF from `at` on stands; the file's end where there is none.
 fn lf_from(s: &[u8], at: usize) -> usize
     ensures { λ r. ⌜ (r ≡ at + toLf (drop at (now (s .entry)))) × (at ≤ r) ⌝ }
 {
-    let mut i = at;
+    let mut i = near_lf(s, at);
     while i < s.len() {
         if s[i] == b'\n' {
             return i;

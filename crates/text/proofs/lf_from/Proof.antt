@@ -1,10 +1,11 @@
 -- `text::lf_from` meets its contract.
 use Rattle.text.proofs.Lines.{toLf-yes, toLf-no, toLf-over}
 use Rattle.text.specs.Lines.{toLf}
-use mathlib.Core.Path.{_≡_, refl}
+use mathlib.Core.Path.{_≡_}
 use Prim.Native.Nat.{_≤_, _-_, _+_}
 use native.Mathlib.Omega.{arith}
 use lib.ListN.{length, drop}
+use borrow.Author.Needs.{needs}
 use Rattle.text.proofs.lf_from.Statement.{statement}
 use Rattle.text.proofs.lf_from.Tie as tie
 
@@ -14,8 +15,11 @@ Inv-loop s at i₀ i = (at ≤ i) × (i + toLf (drop i s) ≡ at + toLf (drop at
 abbrev μ-loop : tie.MeasureT-loop
 μ-loop s at i₀ i = length s - i
 
+near-lf-requires : tie.Need-near-lf-requires Inv-loop μ-loop
+near-lf-requires c κs = search needs
+
 loop-holds : tie.Need-loop-holds Inv-loop μ-loop
-loop-holds c = (omega arith, refl)
+loop-holds c = (c .near-lf .ensures .1, c .near-lf .ensures .0)
 
 shared-slice-read-if1 : tie.Need-shared-slice-read-if1 Inv-loop μ-loop
 shared-slice-read-if1 c = omega arith
@@ -41,6 +45,7 @@ lf-from-spec =
     (tie.spec
     Inv-loop
     μ-loop
+    near-lf-requires
     loop-holds
     shared-slice-read-if1
     returns
