@@ -46,7 +46,6 @@ slice-aggregate-list-findings : tie.Need-slice-aggregate-list-findings
 slice-aggregate-list-findings c = search needs
 
 list-findings-requires : tie.Need-list-findings-requires
-unfolding fileOf
 list-findings-requires c κs =
     let z = c .before .before .before .before .before .before .before .before .before .before .before .before .before .before .before .before .before .before .before .before .before .before .before .before .before .before .before .before .before .before in
     let files = z .args .stops .now ∷ z .args .routes .now ∷ z .args .calendar .now ∷ z .args .trips .now ∷ z .args .stop-times .now ∷ z .args .calendar-dates .now ∷ [] in
