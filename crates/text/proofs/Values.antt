@@ -113,9 +113,11 @@ module _ (raw : List ℕ) (m : Bool) (e : m ≡ marked raw) where
       let k : n ≡ length (value raw) = h ∙ rw (← e, t, p) in
       (k, omega (arith, value-within raw))
 
-  pub length-bare : m ≡ false → (length raw ≡ length (value raw)) × (length raw ≤ length raw)
-  unfolding value content
-  length-bare t = rw (← e, t, und-bare raw) (refl, omega arith)
+  pub length-bare : m ≡ false → (s : List ℕ) → s ≡ content raw → (length s ≡ length (value raw)) × (length s ≤ length raw)
+  unfolding value
+  length-bare t s p =
+      let k : length s ≡ length (value raw) = rw (← e, t, und-bare (content raw), p) in
+      (k, omega (arith, value-within raw))
 
 und-empty : (q : Bool) (l : List ℕ) → eqb (length l) 0 ≡ eqb (length (undouble q l)) 0
 und-empty q [] = rw (und-over q [] 0 (omega arith))

@@ -251,9 +251,9 @@ fn mark_from(l: &[u8], at: usize) -> usize
 }
 
 // Where a field ends, and whether a line that ends there is good.
-pub struct Span {
-    pub end: usize,
-    pub good: bool,
+struct Span {
+    end: usize,
+    good: bool,
 }
 
 // The rest of a field from `at` on, by the quoting table from a state on. Between quotes only a mark is looked for.
@@ -294,7 +294,7 @@ fn state_after(at: usize, i: usize) -> u8
 }
 
 // The field that begins at `at`. Most have no mark, and end at the first comma or with the line.
-pub fn field_span(l: &[u8], at: usize) -> Span
+fn field_span(l: &[u8], at: usize) -> Span
     ensures { λ r. ⌜ (r .end ≡ at + fieldLen start (drop at (now (l .entry))))
         × (r .good ≡ getD endings (fieldState start (drop at (now (l .entry)))) false) ⌝ }
     ensures { λ r. ⌜ (at ≤ r .end) × (at ≤ length (now (l .entry)) → r .end ≤ length (now (l .entry))) ⌝ }
@@ -489,10 +489,11 @@ fn undoubled_length(s: &[u8]) -> usize
 pub fn value_length(raw: &[u8]) -> usize
     ensures { λ r. ⌜ (r ≡ length (value (now (raw .entry)))) × (r ≤ length (now (raw .entry))) ⌝ }
 {
+    let s = content_of(raw);
     if is_marked(raw) {
-        return undoubled_length(content_of(raw));
+        return undoubled_length(s);
     }
-    raw.len()
+    s.len()
 }
 
 // Is the value of a raw field empty?
