@@ -1,7 +1,7 @@
 // Runs of digits: the number that one to nine write, and what the decimals behind a point write.
 use meaning::Number;
 ghost use mathlib.Core.Path.{_≡_};
-ghost use mathlib.Core.Bool.{Bool, _||_};
+ghost use mathlib.Core.Bool.{Bool};
 ghost use Prim.Native.Nat.{ℕ, _<_, _^_};
 ghost use lib.ListN.{length};
 ghost use Rattle.meaning.specs.Forms.{isDigit, sequenceText};
@@ -25,13 +25,6 @@ pub fn is_digit(b: u8) -> bool
     ensures { λ r. ⌜ r ≡ isDigit b ⌝ }
 {
     b'0' <= b && b <= b'9'
-}
-
-// Does one of two tests hold?
-fn either(a: bool, b: bool) -> bool
-    ensures { λ r. ⌜ r ≡ (a || b) ⌝ }
-{
-    a || b
 }
 
 // The number that one to nine digits write.
@@ -71,7 +64,7 @@ pub fn decimals(v: &[u8]) -> Decimal
         if is_digit(b) {
             n += (b - b'0') as u32 * unit;
             unit /= 10;
-            some = either(some, b != b'0');
+            some = text::either(some, b != b'0');
             i += 1;
         } else {
             return Decimal::NoDecimal;

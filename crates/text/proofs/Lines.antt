@@ -1,6 +1,6 @@
 -- Laws of lines: the LF count, the mark at a file's start, and a step along a file.
 use mathlib.Core.Path.{_≡_, refl, sym, ap, _∙_}
-use mathlib.Core.Bool.{Bool, true, false, cond, _&&_}
+use mathlib.Core.Bool.{Bool, true, false, cond, _&&_, _||_}
 use mathlib.Core.List.{List, [], _∷_, _++_}
 use Prim.Native.Nat.{ℕ, zero, suc, _+_, _-_, _≤_, _<_}
 use native.Mathlib.Numerals.{add-one}
@@ -10,12 +10,12 @@ use lib.Dec.{eqb, ltb}
 use lib.ListN.{length, getD, take, drop, length-drop, length-take, length-map, take-append-drop}
 use lib.Seq.{drop-drop}
 use borrow.Author.Tests.{eq-eqb, ne-eqb, lt-ltb, le-ltb, ltb-true, ltb-false}
-use Rattle.meaning.specs.Lists.{same}
+use Rattle.meaning.specs.Lists.{same, any}
 use Rattle.meaning.specs.Bytes.{bounds, leadingMark, startOf, countLf, cuts, endOf, lineOf, linesFrom, linesOf}
 use Rattle.meaning.specs.Refusals.{ended}
-use Rattle.meaning.proofs.ListLaws.{same-equal}
+use Rattle.meaning.proofs.ListLaws.{same-equal, both}
 use Rattle.text.specs.declared.LineStep.the-variants.{Line, Done}
-use Rattle.text.specs.Lines.{toLf, lineTo, lineAt, LineStands}
+use Rattle.text.specs.Lines.{isLf, toLf, lineTo, lineAt, LineStands}
 use Rattle.text.proofs.Laws.{drop-next, drop-over, same-no}
 
 -- the LF bytes of two parts
@@ -53,22 +53,40 @@ module _ (s : List ℕ) (i j : ℕ) where
       omega arith
 
 -- bytes without an LF are before the first
-lf-past : (n : ℕ) (r : List ℕ) → n ≤ length r → countLf (take n r) ≡ 0 → toLf r ≡ n + toLf (drop n r)
-unfolding countLf toLf
+lf-past : (n : ℕ) (r : List ℕ) → n ≤ length r → any isLf (take n r) ≡ false → toLf r ≡ n + toLf (drop n r)
+unfolding any toLf
 lf-past zero r h e = omega arith
 lf-past (suc n) [] h e = absurd (not-suc-le-zero h)
 lf-past (suc n) (b ∷ r) h e = go (eqb b 10) refl (lf-past n r (omega arith))
   where
-    go : (t : Bool) → eqb b 10 ≡ t → (countLf (take n r) ≡ 0 → toLf r ≡ n + toLf (drop n r)) → toLf (b ∷ r) ≡ suc n + toLf (drop n r)
-    go true d ih = let z : countLf (take n r) + 1 ≡ 0 = rw d at e in absurd (omega arith)
-    go false d ih = let z : countLf (take n r) ≡ 0 = rw d at e in rw d (omega (arith, ih z))
+    go : (t : Bool) → eqb b 10 ≡ t → (any isLf (take n r) ≡ false → toLf r ≡ n + toLf (drop n r)) → toLf (b ∷ r) ≡ suc n + toLf (drop n r)
+    go true d ih = both true refl (rw d at e)
+    go false d ih = rw d (omega (arith, ih (rw d at e)))
 
-pub toLf-block : (s : List ℕ) (i j v k : ℕ) → i ≤ j → j ≤ length s → v ≡ countLf (take (j - i) (drop i s)) → v ≡ 0 → i + toLf (drop i s) ≡ k → j + toLf (drop j s) ≡ k
+pub toLf-block : (s : List ℕ) (i j : ℕ) (v : Bool) (k : ℕ) → i ≤ j → j ≤ length s → v ≡ any isLf (take (j - i) (drop i s)) → v ≡ false → i + toLf (drop i s) ≡ k → j + toLf (drop j s) ≡ k
 toLf-block s i j v k h w e z inv =
     let d : i + (j - i) ≡ j = omega arith in
     let y : toLf (drop i s) ≡ j - i + toLf (drop (j - i) (drop i s)) = lf-past (j - i) (drop i s) (omega (arith, length-drop i s)) (sym e ∙ z) in
     let x : toLf (drop (j - i) (drop i s)) ≡ toLf (drop j s) = rw (drop-drop (j - i) i s, d) in
     omega arith
+
+-- a turn along the bytes, on whether one is LF
+pub any-turn : (s : List ℕ) (i : ℕ) → i < length s → (t u k : Bool) → u ≡ (t || eqb (getD s i 0) 10) → (t || any isLf (drop i s)) ≡ k → (u || any isLf (drop (i + 1) s)) ≡ k
+unfolding any
+any-turn s i more t u k e inv = rw e (go t (eqb (getD s i 0) 10) refl (rw (drop-next s i more) at inv))
+  where
+    go : (t v : Bool) → eqb (getD s i 0) 10 ≡ v → (t || cond v true (any isLf (drop (i + 1) s))) ≡ k → ((t || v) || any isLf (drop (i + 1) s)) ≡ k
+    go true v p q = q
+    go false true p q = q
+    go false false p q = q
+
+pub any-over : (s : List ℕ) (i : ℕ) → length s ≤ i → (t k : Bool) → (t || any isLf (drop i s)) ≡ k → t ≡ k
+unfolding any
+any-over s i over t k inv = go t (rw (drop-over s i over) at inv)
+  where
+    go : (t : Bool) → (t || false) ≡ k → t ≡ k
+    go true q = q
+    go false q = q
 
 -- a turn along the bytes, on how many LF are left and how far the first is
 module _ (s : List ℕ) (i : ℕ) (more : i < length s) where

@@ -2,12 +2,16 @@
 use Prim.Native.Nat.{ℕ, _+_, _≤_, _<_}
 use mathlib.Core.Path.{_≡_}
 use mathlib.Core.List.{List, [], _∷_}
-use mathlib.Core.Bool.{cond}
+use mathlib.Core.Bool.{Bool, cond}
 use lib.ListN.{length, drop}
 use lib.Dec.{ltb, eqb}
 use Rattle.meaning.specs.Bytes.{bounds, part, endOf, linesFrom}
 use Rattle.text.specs.declared.LineStep.{LineStep}
 use Rattle.text.specs.declared.LineStep.the-variants.{Line, Done}
+
+-- is a byte LF
+abbrev pub isLf : ℕ → Bool
+isLf b = eqb b 10
 
 -- how many bytes stand before the first LF
 unfoldable pub toLf : List ℕ → ℕ

@@ -1,13 +1,13 @@
 // From bytes to fields: lines and their endings, quoting, the line cursor, and values.
-ghost use mathlib.Core.Bool.{true, false};
+ghost use mathlib.Core.Bool.{true, false, _||_};
 ghost use mathlib.Core.Path.{_≡_};
 ghost use mathlib.Core.List.{[], _∷_};
 ghost use Prim.Native.Nat.{_+_, _-_, _<_, _≤_};
 ghost use lib.ListN.{length, getD, set, drop};
-ghost use Rattle.meaning.specs.Lists.{same, empty};
+ghost use Rattle.meaning.specs.Lists.{same, any, empty};
 ghost use Rattle.meaning.specs.Bytes.{countLf, startOf, start, classOf, quoting, endings, next, good, fields, marked, content, undouble, value};
 ghost use Rattle.meaning.specs.Refusals.{ended, rule5};
-ghost use Rattle.text.specs.Lines.{toLf, lineTo, lineAt};
+ghost use Rattle.text.specs.Lines.{isLf, toLf, lineTo, lineAt};
 ghost use Rattle.text.specs.Fields.{toBreak, toMark, afterRun, fieldLen, fieldState, pastEnds, endsLine, fieldRun, fieldOn, stepAt};
 ghost use Rattle.text.specs.Values.{widthOf};
 
@@ -91,6 +91,26 @@ pub enum LineStep {
     Done,
 }
 
+// Does one of two tests hold? Both are made, so that the compiler can make many at once.
+pub fn either(a: bool, b: bool) -> bool
+    ensures { λ r. ⌜ r ≡ (a || b) ⌝ }
+{
+    a || b
+}
+
+// Is one of these bytes LF? No byte is left out, so that the compiler looks at several at once.
+fn has_lf(s: &[u8]) -> bool
+    ensures { λ r. ⌜ r ≡ any isLf (now (s .entry)) ⌝ }
+{
+    let mut some = false;
+    let mut i = 0;
+    while i < s.len() {
+        some = either(some, s[i] == b'\n');
+        i += 1;
+    }
+    some
+}
+
 // A byte from `at` on that no LF stands before, eight bytes a turn: the first LF is one of the eight from there on, or fewer are left.
 fn near_lf(s: &[u8], at: usize) -> usize
     ensures { λ r. ⌜ (r + toLf (drop r (now (s .entry))) ≡ at + toLf (drop at (now (s .entry)))) × (at ≤ r) ⌝ }
@@ -100,7 +120,7 @@ fn near_lf(s: &[u8], at: usize) -> usize
         if s.len() - i < 8 {
             return i;
         }
-        if count_block(&s[i..i + 8]) != 0 {
+        if has_lf(&s[i..i + 8]) {
             return i;
         }
         i += 8;

@@ -204,6 +204,34 @@ fn blocks() {
     block(449);
 }
 
+// Writes a line, how many fields it has, and a table of four in which the places past their ends are noted from number 1 on; 9 stands where none is.
+fn past(l: &[u8]) {
+    let mut t = [9usize; 4];
+    let m = text::walk_fields(l, &mut t);
+    say(l);
+    flag(b" good", m.good);
+    count(b" fields ", m.fields);
+    count(b" past ", t[0]);
+    count(b" ", t[1]);
+    count(b" ", t[2]);
+    count(b" ", t[3]);
+    say(b"\n");
+}
+
+// The next field begins past the end of the one before; a table that is too short has the first of them.
+fn starts() {
+    past(b"");
+    past(b"a");
+    past(b"a,b");
+    past(b",,");
+    past(b"a,b,c,d");
+    past(b"\"a,b\",c");
+    past(b"\"a\"\"\",b");
+    past(b"\"a,b");
+    past(b"a\"b,c");
+    past(b"a,\"b\"c,de");
+}
+
 // Names and ids are compared by value; case and spaces count.
 fn values() {
     pair(b"\"A\"", b"A");
@@ -222,5 +250,6 @@ fn main() {
     strays();
     quoting();
     blocks();
+    starts();
     values();
 }

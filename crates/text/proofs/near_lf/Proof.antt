@@ -1,10 +1,11 @@
 -- `text::near_lf` meets its contract.
-use Rattle.text.proofs.Lines.{block-short, toLf-block}
+use Rattle.text.proofs.Lines.{toLf-block}
 use Rattle.text.specs.Lines.{toLf}
 use mathlib.Core.Path.{_≡_, refl}
 use Prim.Native.Nat.{_≤_, _-_, _+_}
 use native.Mathlib.Omega.{arith}
 use lib.ListN.{length, drop}
+use borrow.Author.Needs.{needs}
 use Rattle.text.proofs.near_lf.Statement.{statement}
 use Rattle.text.proofs.near_lf.Tie as tie
 
@@ -23,20 +24,20 @@ sub-if1 c = omega arith
 returns : tie.Need-returns Inv-loop μ-loop
 returns c = (c .before .before .loop .inv .1, omega arith)
 
-add-count-block : tie.Need-add-count-block Inv-loop μ-loop
-add-count-block c = omega arith
+add-has-lf : tie.Need-add-has-lf Inv-loop μ-loop
+add-has-lf c = omega arith
 
-sub-count-block : tie.Need-sub-count-block Inv-loop μ-loop
-sub-count-block c = omega arith
+sub-has-lf : tie.Need-sub-has-lf Inv-loop μ-loop
+sub-has-lf c = omega arith
 
-part-count-block-start : tie.Need-part-count-block-start Inv-loop μ-loop
-part-count-block-start c = omega arith
+part-has-lf-start : tie.Need-part-has-lf-start Inv-loop μ-loop
+part-has-lf-start c = omega arith
 
-part-count-block-end : tie.Need-part-count-block-end Inv-loop μ-loop
-part-count-block-end c = omega arith
+part-has-lf-end : tie.Need-part-has-lf-end Inv-loop μ-loop
+part-has-lf-end c = omega arith
 
-count-block-requires : tie.Need-count-block-requires Inv-loop μ-loop
-count-block-requires c κs = let i = c .before .before .before .loop .i in block-short _ i (i + 8) _ (omega arith)
+has-lf-requires : tie.Need-has-lf-requires Inv-loop μ-loop
+has-lf-requires c κs = search needs
 
 returns-2 : tie.Need-returns-2 Inv-loop μ-loop
 returns-2 c = (c .before .before .before .before .before .loop .inv .1, omega arith)
@@ -50,7 +51,7 @@ loop-less c = omega arith
 loop-again : tie.Need-loop-again Inv-loop μ-loop
 loop-again c =
     let w = c .before .before .before .before .before .loop in
-    (omega arith, toLf-block _ (w .i) (w .i + 8) _ _ (omega arith) (omega arith) (c .before .count-block .ensures) (c .if2 .left) (w .inv .1))
+    (omega arith, toLf-block _ (w .i) (w .i + 8) _ _ (omega arith) (omega arith) (c .before .has-lf .ensures) (c .if2 .left) (w .inv .1))
 
 returns-3 : tie.Need-returns-3 Inv-loop μ-loop
 returns-3 c = (c .before .loop .inv .1, omega arith)
@@ -64,11 +65,11 @@ near-lf-spec =
     loop-holds
     sub-if1
     returns
-    add-count-block
-    sub-count-block
-    part-count-block-start
-    part-count-block-end
-    count-block-requires
+    add-has-lf
+    sub-has-lf
+    part-has-lf-start
+    part-has-lf-end
+    has-lf-requires
     returns-2
     add-i
     loop-less
