@@ -103,10 +103,11 @@ pub fn is_plain(l: &[u8]) -> bool
 {
     let mut i = 0;
     while i < l.len() {
-        if l[i] < 0x20 {
+        let b = l[i];
+        if b < 0x20 {
             return false;
         }
-        if 0x80 <= l[i] {
+        if 0x80 <= b {
             return false;
         }
         i += 1;

@@ -17,19 +17,18 @@ abbrev μ-loop : tie.MeasureT-loop
 loop-holds : tie.Need-loop-holds Inv-loop μ-loop
 loop-holds c = (omega arith, refl)
 
-shared-slice-read-if1 : tie.Need-shared-slice-read-if1 Inv-loop μ-loop
-shared-slice-read-if1 c = omega arith
+shared-slice-read-b : tie.Need-shared-slice-read-b Inv-loop μ-loop
+shared-slice-read-b c = omega arith
 
 returns : tie.Need-returns Inv-loop μ-loop
-returns c = plain-low _ _ _ (c .before .before .before .loop .inv .1) (c .before .before .loop-test .taken) (c .if1 .taken)
-
-shared-slice-read-if2 : tie.Need-shared-slice-read-if2 Inv-loop μ-loop
-shared-slice-read-if2 c = omega arith
+returns c =
+    let w = c .before .before in
+    plain-low _ _ _ (w .before .loop .inv .1) (w .loop-test .taken) (c .if1 .taken)
 
 returns-2 : tie.Need-returns-2 Inv-loop μ-loop
 returns-2 c =
-    let b = c .before .before in
-    plain-high _ _ _ (b .before .before .before .loop .inv .1) (b .before .before .loop-test .taken) (b .if1 .left) (c .if2 .taken)
+    let w = c .before .before .before in
+    plain-high _ _ _ (w .before .loop .inv .1) (w .loop-test .taken) (c .before .if1 .left) (c .if2 .taken)
 
 add-i : tie.Need-add-i Inv-loop μ-loop
 add-i c = omega arith
@@ -39,8 +38,8 @@ loop-less c = omega arith
 
 loop-again : tie.Need-loop-again Inv-loop μ-loop
 loop-again c =
-    let b = c .before .before in
-    (omega arith, plain-next _ _ _ (b .before .before .before .loop .inv .1) (b .before .before .loop-test .taken) (b .if1 .left) (c .if2 .left))
+    let w = c .before .before .before in
+    (omega arith, plain-next _ _ _ (w .before .loop .inv .1) (w .loop-test .taken) (c .before .if1 .left) (c .if2 .left))
 
 returns-3 : tie.Need-returns-3 Inv-loop μ-loop
 returns-3 c = plain-over _ _ _ (c .before .loop .inv .1) (c .loop-test .left)
@@ -52,9 +51,8 @@ is-plain-spec =
     Inv-loop
     μ-loop
     loop-holds
-    shared-slice-read-if1
+    shared-slice-read-b
     returns
-    shared-slice-read-if2
     returns-2
     add-i
     loop-less
