@@ -1,7 +1,7 @@
 // The writer of an index: the one that lists every record of its file once, in rising order of ids.
 ghost use mathlib.Core.Path.{_≡_};
 ghost use mathlib.Core.Bool.{false};
-ghost use Prim.Native.Nat.{ℕ, _+_, _*_, _-_, _/_, _%_, _^_, _<_, _≤_};
+ghost use Prim.Native.Nat.{_+_, _*_, _-_, _/_, _%_, _^_, _<_, _≤_};
 ghost use lib.ListN.{length, set, take, drop};
 ghost use mathlib.Core.List.{_++_};
 ghost use Rattle.meaning.specs.Bytes.{countLf, linesFrom, linesOf};

@@ -11,7 +11,7 @@ use lib.ListN.{length, getD, drop, length-drop}
 use lib.Seq.{drop-drop}
 use borrow.Author.Tests.{eq-eqb, ne-eqb, lt-ltb, le-ltb, eqb-true, ltb-true, ltb-false}
 use Rattle.meaning.specs.declared.Bounds.{Bounds}
-use Rattle.meaning.specs.Bytes.{bounds, part, start, classOf, quoting, endings, next, run, good, fieldsGo, fields, value, valuesOf, values}
+use Rattle.meaning.specs.Bytes.{bounds, part, start, classOf, quoting, next, fieldsGo, fields, value, valuesOf, values}
 use Rattle.meaning.specs.Columns.{fieldAt}
 use Rattle.meaning.specs.Refusals.{rule5}
 use Rattle.text.specs.declared.Cursor.{Cursor}

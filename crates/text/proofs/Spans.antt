@@ -1,5 +1,5 @@
 -- Laws of a field's end: bytes that change no state are passed over, and a walk from field to field tells of the whole line.
-use mathlib.Core.Path.{_≡_, refl, sym, ap, _∙_}
+use mathlib.Core.Path.{_≡_, refl, sym, _∙_}
 use mathlib.Core.Bool.{Bool, true, false, cond}
 use mathlib.Core.List.{List, [], _∷_}
 use Prim.Native.Nat.{ℕ, zero, suc, _+_, _-_, _≤_, _<_}
@@ -9,9 +9,9 @@ use native.Mathlib.Nat.{add-zero, not-suc-le-zero}
 use lib.Dec.{eqb}
 use lib.ListN.{length, getD, set, drop, length-drop, length-set}
 use lib.Seq.{drop-drop, getD-drop, getD-set-same, getD-set-other}
-use borrow.Author.Tests.{eq-eqb, ne-eqb, eqb-true, eqb-false}
+use borrow.Author.Tests.{eq-eqb, ne-eqb, eqb-true}
 use Rattle.meaning.specs.declared.Bounds.{Bounds}
-use Rattle.meaning.specs.Bytes.{bounds, start, bare, quoted, classOf, quoting, endings, next, run, good, fields}
+use Rattle.meaning.specs.Bytes.{bounds, start, bare, classOf, quoting, endings, next, run}
 use Rattle.text.specs.Fields.{toBreak, toMark, afterRun, fieldLen, fieldState, fieldsFrom, pastEnds}
 use Rattle.text.proofs.Laws.{drop-next, drop-over}
 use Rattle.text.proofs.Fields.{from-step, from-over, end-within}

@@ -6,7 +6,6 @@ use Prim.Native.Nat.{_≤_, _-_}
 use native.Mathlib.Omega.{arith}
 use lib.ListN.{length, getD}
 use Rattle.meaning.specs.declared.Bounds.{Bounds}
-use borrow.Author.Needs.{needs}
 use Rattle.columns.proofs.near_cells.Statement.{statement}
 use Rattle.columns.proofs.near_cells.Tie as tie
 

@@ -2,7 +2,6 @@
 use Rattle.index_check.proofs.Laws.{barred, whole}
 use Rattle.id_places.proofs.Own.{sized}
 use native.Mathlib.Omega.{arith}
-use borrow.Author.Needs.{needs}
 use Rattle.index_check.proofs.judge.Statement.{statement}
 use Rattle.index_check.proofs.judge.Tie as tie
 

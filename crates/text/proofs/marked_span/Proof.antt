@@ -3,7 +3,7 @@ use Rattle.text.proofs.Spans.{Left, left-quoted, left-end, left-next, l
 use Rattle.text.specs.Fields.{fieldLen, fieldState}
 use Rattle.meaning.specs.Bytes.{quoting, endings}
 use mathlib.Core.Bool.{false}
-use mathlib.Core.Path.{refl, sym, ap}
+use mathlib.Core.Path.{refl, ap}
 use Prim.Native.Nat.{ℕ, _<_, _-_, _+_}
 use native.Mathlib.Omega.{arith}
 use lib.ListN.{length, getD, drop}
