@@ -14,6 +14,7 @@ use Rattle.meaning.specs.Refusals.{rule5, rule14}
 use Rattle.meaning.proofs.Computed.{is-true, allBelow, below-all}
 use Rattle.meaning.proofs.ListLaws.{both, and-both}
 use Rattle.meaning.proofs.Characters.{within-yes}
+use Rattle.text.specs.Lines.{toFirst}
 use Rattle.text.proofs.Laws.{drop-next, drop-over}
 use Rattle.characters.specs.States.{states, awaits, classStarts, countTo, classOf, classLetters, nextStates, toHigh, plain}
 
@@ -94,27 +95,13 @@ unfolding awaited begun sequences
 ascii-awaited b h = rw (within-yes (0x00 to 0x7F) b (omega arith) (omega arith))
 
 ascii-passed : (s : List ℕ) → awaitedAfter [] s ≡ awaitedAfter [] (drop (toHigh s) s)
-unfolding awaitedAfter toHigh
+unfolding awaitedAfter toFirst
 ascii-passed [] = refl
-ascii-passed (b ∷ r) = go (ltb b 0x80) refl (ascii-passed r)
+ascii-passed (b ∷ r) = go (leb 0x80 b) refl (ascii-passed r)
   where
-    go : (t : Bool) → ltb b 0x80 ≡ t → awaitedAfter [] r ≡ awaitedAfter [] (drop (toHigh r) r) → awaitedAfter (awaited [] b) r ≡ awaitedAfter [] (drop (cond t (toHigh r + 1) 0) (b ∷ r))
-    go true e ih = rw (ascii-awaited b (ltb-true b 0x80 e), add-one) ih
-    go false e ih = refl
-
--- a turn along ASCII bytes
-module _ (s : List ℕ) (i : ℕ) (k : ℕ) (inv : i + toHigh (drop i s) ≡ k) where
-  pub high-yes : i < length s → 0x80 ≤ getD s i 0 → i ≡ k
-  unfolding toHigh
-  high-yes more h = let z : toHigh (drop i s) ≡ 0 = rw (drop-next s i more, le-ltb (getD s i 0) 0x80 h) in omega arith
-
-  pub high-no : i < length s → getD s i 0 < 0x80 → i + 1 + toHigh (drop (i + 1) s) ≡ k
-  unfolding toHigh
-  high-no more h = let z : toHigh (drop i s) ≡ toHigh (drop (i + 1) s) + 1 = rw (drop-next s i more, lt-ltb (getD s i 0) 0x80 h) in omega arith
-
-  pub high-over : length s ≤ i → i ≡ k
-  unfolding toHigh
-  high-over over = let z : toHigh (drop i s) ≡ 0 = rw (drop-over s i over) in omega arith
+    go : (t : Bool) → leb 0x80 b ≡ t → awaitedAfter [] r ≡ awaitedAfter [] (drop (toHigh r) r) → awaitedAfter (awaited [] b) r ≡ awaitedAfter [] (drop (cond t 0 (toHigh r + 1)) (b ∷ r))
+    go true e ih = refl
+    go false e ih = rw (ascii-awaited b (leb-false 0x80 b e), add-one) ih
 
 -- ---- a turn along a line, and its end
 
@@ -184,7 +171,7 @@ module _ (s : List ℕ) (i : ℕ) (k : Bool) (inv : plain (drop i s) ≡ k) wher
 
 -- a plain line has no stray byte, and is ASCII
 plain-is : (l : List ℕ) → plain l ≡ true → (rule5 l ≡ false) × (toHigh l ≡ length l)
-unfolding plain rule5 toHigh
+unfolding plain rule5 toFirst
 plain-is [] p = (refl, refl)
 plain-is (b ∷ r) p = go (ltb b 0x20) refl (leb 0x80 b) refl p (plain-is r)
   where
@@ -194,9 +181,8 @@ plain-is (b ∷ r) p = go (ltb b 0x20) refl (leb 0x80 b) refl p (plain-is r)
     go false e true d q ih = both false q refl
     go false e false d q ih =
         let h : 0x20 ≤ b = ltb-false b 0x20 e in
-        let w : b < 0x80 = leb-false 0x80 b d in
         let x = ih q in
-        rw (ne-eqb b 9 (λ z. omega arith), ne-eqb b 13 (λ z. omega arith), lt-ltb b 0x80 w) (x .0, omega (arith, x .1))
+        rw (ne-eqb b 9 (λ z. omega arith), ne-eqb b 13 (λ z. omega arith), d) (x .0, omega (arith, x .1))
 
 pub plain-stray : (l : List ℕ) → plain l ≡ true → rule5 l ≡ false
 plain-stray l p = plain-is l p .0

@@ -6,6 +6,7 @@ use lib.Dec.{leb, ltb}
 use lib.ListN.{getD}
 use Rattle.meaning.specs.Lists.{ascii}
 use Rattle.meaning.specs.Characters.{Range, _to_, never}
+use Rattle.text.specs.Lines.{toFirst}
 
 -- what each state awaits
 unfoldable pub states : List (List Range)
@@ -55,10 +56,13 @@ nextStates =
     ∷ (8 ∷ 8 ∷ 8 ∷ 8 ∷ 8 ∷ 8 ∷ 8 ∷ 8 ∷ 8 ∷ 8 ∷ 8 ∷ 8 ∷ 8 ∷ 8 ∷ [])
     ∷ []
 
+-- is a byte no ASCII
+abbrev pub isHigh : ℕ → Bool
+isHigh b = leb 0x80 b
+
 -- how many bytes stand before the first that is no ASCII
-unfoldable pub toHigh : List ℕ → ℕ
-toHigh [] = 0
-toHigh (b ∷ r) = let k = toHigh r + 1 in cond (ltb b 0x80) k 0
+abbrev pub toHigh : List ℕ → ℕ
+toHigh r = toFirst isHigh r
 
 -- is every byte one of 20 to 7F
 unfoldable pub plain : List ℕ → Bool

@@ -14,7 +14,7 @@ use Rattle.meaning.specs.Lists.{empty}
 use Rattle.meaning.specs.Bytes.{part, countLf}
 use Rattle.text.specs.declared.LineStep.{LineStep}
 use Rattle.text.specs.declared.LineStep.the-variants.{Line, Done}
-use Rattle.text.specs.Lines.{toLf, lineTo, lineAt}
+use Rattle.text.specs.Lines.{toFirst, toLf, lineTo, lineAt}
 use Rattle.text.proofs.Laws.{drop-over}
 use Rattle.text.proofs.Lines.{line-found, line-none, lines-over}
 use Rattle.faults.specs.List.{afterLf, unended, textsFrom}
@@ -23,7 +23,7 @@ use Rattle.file_faults.specs.Walk.{anyAt, AnyStands}
 -- ---- the bytes after the last LF, by the first LF
 
 no-lf : (r : List ℕ) → length r ≤ toLf r → countLf r ≡ 0
-unfolding countLf toLf
+unfolding countLf toFirst
 no-lf [] h = refl
 no-lf (b ∷ r) h = go (eqb b 10) refl (no-lf r)
   where
@@ -32,7 +32,7 @@ no-lf (b ∷ r) h = go (eqb b 10) refl (no-lf r)
     go false e rest = let z : suc (length r) ≤ toLf r + 1 = rw e at h in rw e (rest (omega arith))
 
 some-lf : (r : List ℕ) → toLf r < length r → countLf r ≡ 0 → ⊥
-unfolding countLf toLf
+unfolding countLf toFirst
 some-lf [] h z = not-suc-le-zero h
 some-lf (b ∷ r) h z = go (eqb b 10) refl (some-lf r)
   where
@@ -51,7 +51,7 @@ after-all (b ∷ r) h = rw (eq-eqb (countLf (b ∷ r)) 0 (no-lf (b ∷ r) h))
 
 -- else they are those after what follows the first
 after-step : (r : List ℕ) → toLf r < length r → afterLf r ≡ afterLf (drop (toLf r + 1) r)
-unfolding afterLf toLf
+unfolding afterLf toFirst
 after-step [] h = absurd (not-suc-le-zero h)
 after-step (b ∷ r) h = rw (ne-eqb (countLf (b ∷ r)) 0 (some-lf (b ∷ r) h)) (go (eqb b 10) refl (after-step r))
   where

@@ -1,40 +1,25 @@
 -- A line in its file: it ends where its ending begins, and no byte of it is one of an ending.
-use mathlib.Core.Path.{_≡_, refl, sym, ap, _∙_}
+use mathlib.Core.Path.{_≡_, refl, sym, _∙_}
 use mathlib.Core.Bool.{Bool, true, false, cond, _&&_, _||_}
-use mathlib.Core.List.{List, [], _∷_, _++_}
+use mathlib.Core.List.{List, [], _∷_}
 use Prim.Native.Nat.{ℕ, zero, suc, _+_, _-_, _≤_, _<_}
-use native.Mathlib.Numerals.{add-one}
 use native.Mathlib.Omega.{arith}
 use lib.Dec.{eqb, ltb}
 use lib.ListN.{length, getD, take, drop, length-drop}
 use lib.Seq.{getD-drop}
-use borrow.Author.Tests.{eq-eqb, eqb-true, ltb-true}
+use borrow.Author.Tests.{eqb-true, ltb-true}
 use Rattle.meaning.specs.Lists.{any}
 use Rattle.meaning.specs.Bytes.{bounds, part, endOf}
 use Rattle.meaning.specs.Refusals.{rule5}
 use Rattle.meaning.proofs.ListLaws.{both, and-both}
 use Rattle.text.specs.declared.LineStep.the-variants.{Line, Done}
-use Rattle.text.specs.Lines.{toLf, lineTo, lineAt}
+use Rattle.text.specs.Lines.{toFirst, isLf, toLf, lineTo, lineAt}
+use Rattle.text.proofs.Lines.{first-stands}
 use Rattle.text.specs.Fields.{endsLine}
 
--- an LF stands where the first one is looked for
-lf-there : (r : List ℕ) → toLf r < length r → getD r (toLf r) 0 ≡ 10
-unfolding toLf
-lf-there [] h = absurd (omega arith)
-lf-there (b ∷ r) h = go (eqb b 10) refl (lf-there r)
-  where
-    go : (t : Bool) → eqb b 10 ≡ t → (toLf r < length r → getD r (toLf r) 0 ≡ 10) → getD (b ∷ r) (cond (eqb b 10) 0 (toLf r + 1)) 0 ≡ 10
-    go true e ih = rw e (eqb-true b 10 e)
-    go false e ih =
-        let z : toLf r + 1 < suc (length r) = rw e at h in
-        rw (e, add-one (toLf r)) (ih (omega arith))
-
--- and none before it
-abbrev pub isLf : ℕ → Bool
-isLf b = eqb b 10
-
+-- no LF stands before the first
 no-lf : (k : ℕ) (r : List ℕ) → k ≤ toLf r → any isLf (take k r) ≡ false
-unfolding toLf any
+unfolding toFirst any
 no-lf zero r h = refl
 no-lf (suc k) [] h = refl
 no-lf (suc k) (b ∷ r) h = go (eqb b 10) refl (no-lf k r)
@@ -86,5 +71,5 @@ line-ends s at a e n p = go (at + toLf (drop at s)) refl
             let i : at ≡ a = cc in
             let j : x ≡ e = cc in
             let h : x < length s = ltb-true x (length s) t in
-            let b : getD s x 0 ≡ 10 = rw q (sym (getD-drop at s (toLf (drop at s)) 0) ∙ lf-there (drop at s) (omega (arith, length-drop at s))) in
+            let b : getD s x 0 ≡ 10 = rw q (sym (getD-drop at s (toLf (drop at s)) 0) ∙ eqb-true _ _ (first-stands isLf (drop at s) (omega (arith, length-drop at s)))) in
             (rw (← j) (lf (getD s x 0) b), rw (← i) (no-lf (e - at) (drop at s) (omega arith)))

@@ -3,15 +3,13 @@ use mathlib.Core.Path.{_≡_, refl, sym, ap, _∙_}
 use mathlib.Core.Bool.{Bool, true, false, cond}
 use mathlib.Core.List.{List, [], _∷_, _++_}
 use Prim.Native.Nat.{ℕ, zero, suc, _+_, _-_, _≤_, _<_}
-use native.Mathlib.Numerals.{add-one}
 use native.Mathlib.Omega.{arith}
 use lib.Dec.{eqb, ltb}
-use lib.ListN.{length, getD, take, drop, length-drop, length-map, length-take, take-append-drop, List·getD-eq-default}
-use lib.Seq.{take-append-le, drop-append-le, drop-drop, getD-drop}
-use borrow.Author.Tests.{eq-eqb, ne-eqb, eqb-true, eqb-false, ltb-true, ltb-false}
-use Rattle.meaning.specs.declared.Bounds.{Bounds}
+use lib.ListN.{length, getD, drop, length-drop, take-append-drop, List·getD-eq-default}
+use lib.Seq.{take-append-le, drop-append-le, drop-drop}
+use borrow.Author.Tests.{ltb-true, ltb-false}
 use Rattle.meaning.specs.Lists.{any, empty}
-use Rattle.meaning.specs.Bytes.{Line, bounds, part, start, fields, marked, content, undouble, value, linesFrom, linesOf, startOf}
+use Rattle.meaning.specs.Bytes.{Line, bounds, part, start, fields, marked, content, undouble, value, linesFrom}
 use Rattle.meaning.specs.Columns.{fieldAt, cell}
 use Rattle.meaning.specs.Refusals.{rule5}
 use Rattle.meaning.specs.Promises.{noLine}
@@ -26,7 +24,8 @@ use Rattle.text.proofs.Fields.{from-step, from-over, from-start, field-inside}
 use Rattle.text.proofs.Runs.{run-is}
 use Rattle.ordering.specs.Ids.{valueOn}
 use Rattle.id_places.specs.Places.{startIn}
-use Rattle.id_places.proofs.Ends.{isLf, calm, line-ends}
+use Rattle.text.specs.Lines.{isLf}
+use Rattle.id_places.proofs.Ends.{calm, line-ends}
 
 -- a line as it stands in its file, up to byte n, where the next one starts
 pub record Stood (s : List ℕ) (l : Line) (n : ℕ) : Type 0 where

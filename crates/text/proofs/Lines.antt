@@ -15,7 +15,7 @@ use Rattle.meaning.specs.Bytes.{bounds, leadingMark, startOf, countLf, cuts, en
 use Rattle.meaning.specs.Refusals.{ended}
 use Rattle.meaning.proofs.ListLaws.{same-equal, both}
 use Rattle.text.specs.declared.LineStep.the-variants.{Line, Done}
-use Rattle.text.specs.Lines.{isLf, toLf, lineTo, lineAt, LineStands}
+use Rattle.text.specs.Lines.{toFirst, isLf, toLf, lineTo, lineAt, LineStands}
 use Rattle.text.proofs.Laws.{drop-next, drop-over, same-no}
 
 -- the LF bytes of two parts
@@ -52,9 +52,35 @@ module _ (s : List ℕ) (i j : ℕ) where
       let y : countLf (drop (j - i) (drop i s)) ≡ countLf (drop j s) = rw (drop-drop (j - i) i s, d) in
       omega arith
 
+-- a turn along the bytes, on how far the first is of which a test holds
+module _ (P : ℕ → Bool) (s : List ℕ) (i k : ℕ) (inv : i + toFirst P (drop i s) ≡ k) where
+  pub first-here : i < length s → P (getD s i 0) ≡ true → i ≡ k
+  unfolding toFirst
+  first-here more e = let z : toFirst P (drop i s) ≡ 0 = rw (drop-next s i, e) in omega arith
+
+  pub first-next : i < length s → P (getD s i 0) ≡ false → i + 1 + toFirst P (drop (i + 1) s) ≡ k
+  unfolding toFirst
+  first-next more e = let z : toFirst P (drop i s) ≡ toFirst P (drop (i + 1) s) + 1 = rw (drop-next s i, e) in omega arith
+
+  pub first-over : length s ≤ i → i ≡ k
+  unfolding toFirst
+  first-over over = let z : toFirst P (drop i s) ≡ 0 = rw (drop-over s i over) in omega arith
+
+-- where bytes are left, the first is one of them
+pub first-stands : (P : ℕ → Bool) (r : List ℕ) → toFirst P r < length r → P (getD r (toFirst P r) 0) ≡ true
+unfolding toFirst
+first-stands P [] h = absurd (not-suc-le-zero h)
+first-stands P (b ∷ r) h = go (P b) refl (first-stands P r)
+  where
+    go : (t : Bool) → P b ≡ t → (toFirst P r < length r → P (getD r (toFirst P r) 0) ≡ true) → P (getD (b ∷ r) (cond (P b) 0 (toFirst P r + 1)) 0) ≡ true
+    go true e ih = rw e e
+    go false e ih =
+        let z : toFirst P r + 1 < suc (length r) = rw e at h in
+        rw (e, add-one (toFirst P r)) (ih (omega arith))
+
 -- bytes without an LF are before the first
 lf-past : (n : ℕ) (r : List ℕ) → n ≤ length r → any isLf (take n r) ≡ false → toLf r ≡ n + toLf (drop n r)
-unfolding any toLf
+unfolding any toFirst
 lf-past zero r h e = omega arith
 lf-past (suc n) [] h e = absurd (not-suc-le-zero h)
 lf-past (suc n) (b ∷ r) h e = go (eqb b 10) refl (lf-past n r (omega arith))
@@ -96,21 +122,9 @@ module _ (s : List ℕ) (i : ℕ) (more : i < length s) where
       ap countLf (drop-next s i more) ∙ countLf-append (getD s i 0 ∷ []) (drop (i + 1) s) in
       omega arith
 
-  pub toLf-yes : (k : ℕ) → getD s i 0 ≡ 10 → i + toLf (drop i s) ≡ k → i ≡ k
-  unfolding toLf
-  toLf-yes k e inv = let z : toLf (drop i s) ≡ 0 = rw (drop-next s i, eq-eqb _ _ e) in omega arith
-
-  pub toLf-no : (k : ℕ) → (getD s i 0 ≡ 10 → ⊥) → i + toLf (drop i s) ≡ k → i + 1 + toLf (drop (i + 1) s) ≡ k
-  unfolding toLf
-  toLf-no k e inv = let z : toLf (drop i s) ≡ toLf (drop (i + 1) s) + 1 = rw (drop-next s i, ne-eqb _ _ e) in omega arith
-
 pub countLf-over : (s : List ℕ) (i n k : ℕ) → length s ≤ i → n + countLf (drop i s) ≡ k → n ≡ k
 unfolding countLf
 countLf-over s i n k h inv = let z : countLf (drop i s) ≡ 0 = rw (drop-over s i h) in omega arith
-
-pub toLf-over : (s : List ℕ) (i k : ℕ) → length s ≤ i → i + toLf (drop i s) ≡ k → i ≡ k
-unfolding toLf
-toLf-over s i k h inv = let z : toLf (drop i s) ≡ 0 = rw (drop-over s i h) in omega arith
 
 -- an empty file has no last byte
 pub unended : (s : List ℕ) → length s ≤ 0 → false ≡ ended s
@@ -186,7 +200,7 @@ module _ (s : List ℕ) (at e : ℕ) where
 
 -- the lines from a byte on, by the first LF there
 cuts-end : (st at : ℕ) (r : List ℕ) → length r ≤ toLf r → cuts st at r ≡ []
-unfolding cuts toLf
+unfolding cuts toFirst
 cuts-end st at [] h = refl
 cuts-end st at (b ∷ r) h = go (eqb b 10) refl (cuts-end st (at + 1) r)
   where
@@ -196,7 +210,7 @@ cuts-end st at (b ∷ r) h = go (eqb b 10) refl (cuts-end st (at + 1) r)
 
 cuts-step : (st at : ℕ) (r : List ℕ) → toLf r < length r
     → cuts st at r ≡ bounds st (at + toLf r) ∷ cuts (at + toLf r + 1) (at + toLf r + 1) (drop (toLf r + 1) r)
-unfolding cuts toLf
+unfolding cuts toFirst
 cuts-step st at [] h = absurd (not-suc-le-zero h)
 cuts-step st at (b ∷ r) h = go (eqb b 10) refl (cuts-step st (at + 1) r)
   where

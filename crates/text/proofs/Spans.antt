@@ -12,43 +12,22 @@ use lib.Seq.{drop-drop, getD-drop, getD-set-same, getD-set-other}
 use borrow.Author.Tests.{eq-eqb, ne-eqb, eqb-true}
 use Rattle.meaning.specs.declared.Bounds.{Bounds}
 use Rattle.meaning.specs.Bytes.{bounds, start, bare, classOf, quoting, endings, next, run}
-use Rattle.text.specs.Fields.{toBreak, toMark, afterRun, fieldLen, fieldState, fieldsFrom, pastEnds}
+use Rattle.text.specs.Lines.{toFirst}
+use Rattle.text.specs.Fields.{isBreak, toBreak, toMark, afterRun, fieldLen, fieldState, fieldsFrom, pastEnds}
 use Rattle.text.proofs.Laws.{drop-next, drop-over}
+use Rattle.text.proofs.Lines.{first-stands}
 use Rattle.text.proofs.Fields.{from-step, from-over, end-within}
 
--- a turn along the bytes, on how far the first comma or mark is
-module _ (s : List ℕ) (i k : ℕ) where
-  module _ (more : i < length s) where
-    pub break-comma : getD s i 0 ≡ 44 → i + toBreak (drop i s) ≡ k → i ≡ k
-    unfolding toBreak
-    break-comma e inv = let z : toBreak (drop i s) ≡ 0 = rw (drop-next s i, eq-eqb _ _ e) in omega arith
+-- whether a byte is a comma or a mark, by two tests
+module _ (b : ℕ) where
+  pub is-comma : b ≡ 44 → isBreak b ≡ true
+  is-comma e = rw (eq-eqb b 44 e)
 
-    pub break-mark : (getD s i 0 ≡ 44 → ⊥) → getD s i 0 ≡ 34 → i + toBreak (drop i s) ≡ k → i ≡ k
-    unfolding toBreak
-    break-mark d e inv = let z : toBreak (drop i s) ≡ 0 = rw (drop-next s i, ne-eqb _ _ d, eq-eqb _ _ e) in omega arith
+  pub is-mark : (b ≡ 44 → ⊥) → b ≡ 34 → isBreak b ≡ true
+  is-mark d e = rw (ne-eqb b 44 d, eq-eqb b 34 e)
 
-    pub break-no : (getD s i 0 ≡ 44 → ⊥) → (getD s i 0 ≡ 34 → ⊥) → i + toBreak (drop i s) ≡ k → i + 1 + toBreak (drop (i + 1) s) ≡ k
-    unfolding toBreak
-    break-no d e inv =
-        let z : toBreak (drop i s) ≡ toBreak (drop (i + 1) s) + 1 = rw (drop-next s i, ne-eqb _ _ d, ne-eqb _ _ e) in omega arith
-
-    pub mark-yes : getD s i 0 ≡ 34 → i + toMark (drop i s) ≡ k → i ≡ k
-    unfolding toMark
-    mark-yes e inv = let z : toMark (drop i s) ≡ 0 = rw (drop-next s i, eq-eqb _ _ e) in omega arith
-
-    pub mark-no : (getD s i 0 ≡ 34 → ⊥) → i + toMark (drop i s) ≡ k → i + 1 + toMark (drop (i + 1) s) ≡ k
-    unfolding toMark
-    mark-no e inv =
-        let z : toMark (drop i s) ≡ toMark (drop (i + 1) s) + 1 = rw (drop-next s i, ne-eqb _ _ e) in omega arith
-
-  module _ (over : length s ≤ i) where
-    pub break-over : i + toBreak (drop i s) ≡ k → i ≡ k
-    unfolding toBreak
-    break-over inv = let z : toBreak (drop i s) ≡ 0 = rw (drop-over s i over) in omega arith
-
-    pub mark-over : i + toMark (drop i s) ≡ k → i ≡ k
-    unfolding toMark
-    mark-over inv = let z : toMark (drop i s) ≡ 0 = rw (drop-over s i over) in omega arith
+  pub is-other : (b ≡ 44 → ⊥) → (b ≡ 34 → ⊥) → isBreak b ≡ false
+  is-other d e = rw (ne-eqb b 44 d, ne-eqb b 34 e)
 
 -- what a byte does that is neither comma nor mark
 other-class : (b : ℕ) → eqb b 44 ≡ false → eqb b 34 ≡ false → classOf b ≡ 2
@@ -78,7 +57,7 @@ module _ (r : List ℕ) where
   Passes q p n = (fieldLen q r ≡ n + fieldLen p (drop n r)) × (fieldState q r ≡ fieldState p (drop n r))
 
 bare-run : (r : List ℕ) → Passes r 1 1 (toBreak r)
-unfolding toBreak fieldLen fieldState
+unfolding toFirst fieldLen fieldState
 bare-run [] = (refl, refl)
 bare-run (b ∷ r) = go (eqb b 44) (eqb b 34) refl refl (bare-run r)
   where
@@ -89,7 +68,7 @@ bare-run (b ∷ r) = go (eqb b 44) (eqb b 34) refl refl (bare-run r)
 
 -- from a field's first byte on
 first-run : (r : List ℕ) → Passes r 0 (afterRun (toBreak r)) (toBreak r)
-unfolding toBreak fieldLen fieldState afterRun
+unfolding toFirst fieldLen fieldState afterRun
 first-run [] = (refl, refl)
 first-run (b ∷ r) = go (eqb b 44) (eqb b 34) refl refl (bare-run r)
   where
@@ -102,7 +81,7 @@ first-run (b ∷ r) = go (eqb b 44) (eqb b 34) refl refl (bare-run r)
 
 -- a run of bytes that are no mark, between quotes
 quoted-run : (r : List ℕ) → Passes r 2 2 (toMark r)
-unfolding toMark fieldLen fieldState
+unfolding toFirst fieldLen fieldState
 quoted-run [] = (refl, refl)
 quoted-run (b ∷ r) = go (eqb b 34) refl (quoted-run r)
   where
@@ -141,19 +120,13 @@ module _ (l : List ℕ) (q i e z : ℕ) (h : Left l q i e z) where
   unfolding fieldLen fieldState
   left-over over = rw (drop-over l i over, add-zero) at h
 
--- where bytes are left, the first comma or mark is one of them
-broken : (r : List ℕ) → toBreak r < length r → (getD r (toBreak r) 0 ≡ 34 → ⊥) → getD r (toBreak r) 0 ≡ 44
-unfolding toBreak
-broken [] h n = absurd (not-suc-le-zero h)
-broken (b ∷ r) h n = go (eqb b 44) (eqb b 34) refl refl (broken r)
+-- a comma or a mark that is no mark
+is-comma-else : (b : ℕ) → isBreak b ≡ true → (b ≡ 34 → ⊥) → b ≡ 44
+is-comma-else b e n = go (eqb b 44) refl
   where
-    go : (t u : Bool) → eqb b 44 ≡ t → eqb b 34 ≡ u → (toBreak r < length r → (getD r (toBreak r) 0 ≡ 34 → ⊥) → getD r (toBreak r) 0 ≡ 44)
-        → getD (b ∷ r) (toBreak (b ∷ r)) 0 ≡ 44
-    go true u d e ih = rw d (eqb-true b 44 d)
-    go false true d e ih = absurd ((rw (d, e) at n) (eqb-true b 34 e))
-    go false false d e ih =
-        let x : toBreak r + 1 < suc (length r) = rw (d, e) at h in
-        rw (d, e, add-one (toBreak r)) (ih (omega arith) (rw (d, e, add-one (toBreak r)) at n))
+    go : (t : Bool) → eqb b 44 ≡ t → b ≡ 44
+    go true d = eqb-true b 44 d
+    go false d = absurd (n (eqb-true b 34 (rw d at e)))
 
 -- a field's first bytes are passed over up to a comma or a mark
 module _ (l : List ℕ) (at i : ℕ) (to : i ≡ at + toBreak (drop at l)) where
@@ -190,7 +163,7 @@ module _ (l : List ℕ) (at i : ℕ) (to : i ≡ at + toBreak (drop at l)) where
   ends-comma more n =
       let g : getD (drop at l) (toBreak (drop at l)) 0 ≡ getD l i 0 = rw to (getD-drop at l (toBreak (drop at l)) 0) in
       let h : toBreak (drop at l) < length (drop at l) = omega (arith, length-drop at l) in
-      let b : getD l i 0 ≡ 44 = rw (← g) (broken (drop at l) h (rw (← g) at n)) in
+      let b : getD l i 0 ≡ 44 = is-comma-else (getD l i 0) (rw g at (first-stands isBreak (drop at l) h)) n in
       let c : next (afterRun (i - at)) (getD l i 0) ≡ start = rw b (next-comma (i - at)) in
       ends-marked (afterRun (i - at)) i true refl (rw (drop-next l i more, eq-eqb _ _ c, add-zero)) (rw (drop-next l i more, eq-eqb _ _ c))
 

@@ -7,6 +7,7 @@ use lib.ListN.{length, set, take, drop}
 use lib.Dec.{ltb, eqb}
 use Rattle.meaning.specs.declared.Bounds.{Bounds}
 use Rattle.meaning.specs.Bytes.{bounds, part, start, bare, next, fieldsGo, value, valuesOf}
+use Rattle.text.specs.Lines.{toFirst}
 use Rattle.text.specs.declared.Step.{Step}
 use Rattle.text.specs.declared.Step.the-variants.{Field, Done}
 
@@ -20,15 +21,19 @@ unfoldable pub fieldLen : ℕ → List ℕ → ℕ
 fieldLen q [] = 0
 fieldLen q (b ∷ r) = let k = fieldLen (next q b) r + 1 in cond (eqb (next q b) start) 0 k
 
--- how many bytes stand before the first comma or mark
-unfoldable pub toBreak : List ℕ → ℕ
-toBreak [] = 0
-toBreak (b ∷ r) = let k = toBreak r + 1 in cond (eqb b 44) 0 (cond (eqb b 34) 0 k)
+-- is a byte a quotation mark; is it one or a comma, at which a field may end
+abbrev pub isMark : ℕ → Bool
+isMark b = eqb b 34
 
--- how many bytes stand before the first mark
-unfoldable pub toMark : List ℕ → ℕ
-toMark [] = 0
-toMark (b ∷ r) = let k = toMark r + 1 in cond (eqb b 34) 0 k
+abbrev pub isBreak : ℕ → Bool
+isBreak b = eqb b 44 || isMark b
+
+-- how many bytes stand before the first mark, and before the first comma or mark
+abbrev pub toMark : List ℕ → ℕ
+toMark r = toFirst isMark r
+
+abbrev pub toBreak : List ℕ → ℕ
+toBreak r = toFirst isBreak r
 
 -- the state after so many bytes of a field, none of which is a comma or a mark
 unfoldable pub afterRun : ℕ → ℕ

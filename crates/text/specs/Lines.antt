@@ -13,10 +13,14 @@ use Rattle.text.specs.declared.LineStep.the-variants.{Line, Done}
 abbrev pub isLf : ℕ → Bool
 isLf b = eqb b 10
 
--- how many bytes stand before the first LF
-unfoldable pub toLf : List ℕ → ℕ
-toLf [] = 0
-toLf (b ∷ r) = let k = toLf r + 1 in cond (eqb b 10) 0 k
+-- how many bytes stand before the first of which a test holds
+unfoldable pub toFirst : (ℕ → Bool) → List ℕ → ℕ
+toFirst P [] = 0
+toFirst P (b ∷ r) = let k = toFirst P r + 1 in cond (P b) 0 k
+
+-- how many stand before the first LF
+abbrev pub toLf : List ℕ → ℕ
+toLf r = toFirst isLf r
 
 -- the step where a line begins at `at` and the next LF, if there is one, stands at e
 unfoldable pub lineTo : List ℕ → ℕ → ℕ → LineStep

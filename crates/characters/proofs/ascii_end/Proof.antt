@@ -1,10 +1,11 @@
 -- `characters::ascii_end` meets its contract.
-use Rattle.characters.proofs.Laws.{high-yes, high-no, high-over}
-use Rattle.characters.specs.States.{toHigh}
+use Rattle.text.proofs.Lines.{first-here, first-next, first-over}
+use Rattle.characters.specs.States.{isHigh, toHigh}
 use mathlib.Core.Path.{_≡_, refl}
 use Prim.Native.Nat.{_≤_, _-_, _+_}
 use native.Mathlib.Omega.{arith}
 use lib.ListN.{length, drop}
+use borrow.Author.Tests.{le-leb, lt-leb}
 use Rattle.characters.proofs.ascii_end.Statement.{statement}
 use Rattle.characters.proofs.ascii_end.Tie as tie
 
@@ -21,7 +22,7 @@ shared-slice-read-if1 : tie.Need-shared-slice-read-if1 Inv-loop μ-loop
 shared-slice-read-if1 c = omega arith
 
 returns : tie.Need-returns Inv-loop μ-loop
-returns c = (high-yes _ _ _ (c .before .before .before .loop .inv .1) (c .before .before .loop-test .taken) (c .if1 .taken), omega arith)
+returns c = (first-here isHigh _ _ _ (c .before .before .before .loop .inv .1) (c .before .before .loop-test .taken) (le-leb _ _ (c .if1 .taken)), omega arith)
 
 add-i : tie.Need-add-i Inv-loop μ-loop
 add-i c = omega arith
@@ -30,10 +31,10 @@ loop-less : tie.Need-loop-less Inv-loop μ-loop
 loop-less c = omega arith
 
 loop-again : tie.Need-loop-again Inv-loop μ-loop
-loop-again c = (omega arith, high-no _ _ _ (c .before .before .before .loop .inv .1) (c .before .before .loop-test .taken) (c .if1 .left))
+loop-again c = (omega arith, first-next isHigh _ _ _ (c .before .before .before .loop .inv .1) (c .before .before .loop-test .taken) (lt-leb _ _ (c .if1 .left)))
 
 returns-2 : tie.Need-returns-2 Inv-loop μ-loop
-returns-2 c = (high-over _ _ _ (c .before .loop .inv .1) (c .loop-test .left), omega arith)
+returns-2 c = (first-over isHigh _ _ _ (c .before .loop .inv .1) (c .loop-test .left), omega arith)
 
 pub ascii-end-spec : {M : Type 1} → statement M
 ascii-end-spec =

@@ -1,6 +1,7 @@
 -- `text::break_from` meets its contract.
-use Rattle.text.proofs.Spans.{break-comma, break-mark, break-no, break-over}
-use Rattle.text.specs.Fields.{toBreak}
+use Rattle.text.proofs.Lines.{first-here, first-next, first-over}
+use Rattle.text.proofs.Spans.{is-comma, is-mark, is-other}
+use Rattle.text.specs.Fields.{isBreak, toBreak}
 use mathlib.Core.Path.{_≡_, refl}
 use Prim.Native.Nat.{_≤_, _-_, _+_}
 use native.Mathlib.Omega.{arith}
@@ -23,7 +24,7 @@ shared-slice-read-if1 c = omega arith
 returns : tie.Need-returns Inv-loop μ-loop
 returns c =
     let w = c .before .before in
-    (break-comma _ _ _ (w .loop-test .taken) (c .if1 .taken) (w .before .loop .inv .1), omega arith)
+    (first-here isBreak _ _ _ (w .before .loop .inv .1) (w .loop-test .taken) (is-comma _ (c .if1 .taken)), omega arith)
 
 shared-slice-read-if2 : tie.Need-shared-slice-read-if2 Inv-loop μ-loop
 shared-slice-read-if2 c = omega arith
@@ -32,7 +33,7 @@ returns-2 : tie.Need-returns-2 Inv-loop μ-loop
 returns-2 c =
     let b = c .before .before in
     let w = b .before .before in
-    (break-mark _ _ _ (w .loop-test .taken) (b .if1 .left) (c .if2 .taken) (w .before .loop .inv .1), omega arith)
+    (first-here isBreak _ _ _ (w .before .loop .inv .1) (w .loop-test .taken) (is-mark _ (b .if1 .left) (c .if2 .taken)), omega arith)
 
 add-i : tie.Need-add-i Inv-loop μ-loop
 add-i c = omega arith
@@ -44,10 +45,10 @@ loop-again : tie.Need-loop-again Inv-loop μ-loop
 loop-again c =
     let b = c .before .before in
     let w = b .before .before in
-    (omega arith, break-no _ _ _ (w .loop-test .taken) (b .if1 .left) (c .if2 .left) (w .before .loop .inv .1))
+    (omega arith, first-next isBreak _ _ _ (w .before .loop .inv .1) (w .loop-test .taken) (is-other _ (b .if1 .left) (c .if2 .left)))
 
 returns-3 : tie.Need-returns-3 Inv-loop μ-loop
-returns-3 c = (break-over _ _ _ (c .loop-test .left) (c .before .loop .inv .1), omega arith)
+returns-3 c = (first-over isBreak _ _ _ (c .before .loop .inv .1) (c .loop-test .left), omega arith)
 
 pub break-from-spec : {M : Type 1} → statement M
 break-from-spec =

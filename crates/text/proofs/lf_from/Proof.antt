@@ -1,10 +1,11 @@
 -- `text::lf_from` meets its contract.
-use Rattle.text.proofs.Lines.{toLf-yes, toLf-no, toLf-over}
-use Rattle.text.specs.Lines.{toLf}
+use Rattle.text.proofs.Lines.{first-here, first-next, first-over}
+use Rattle.text.specs.Lines.{isLf, toLf}
 use mathlib.Core.Path.{_≡_}
 use Prim.Native.Nat.{_≤_, _-_, _+_}
 use native.Mathlib.Omega.{arith}
 use lib.ListN.{length, drop}
+use borrow.Author.Tests.{eq-eqb, ne-eqb}
 use borrow.Author.Needs.{needs}
 use Rattle.text.proofs.lf_from.Statement.{statement}
 use Rattle.text.proofs.lf_from.Tie as tie
@@ -25,7 +26,7 @@ shared-slice-read-if1 : tie.Need-shared-slice-read-if1 Inv-loop μ-loop
 shared-slice-read-if1 c = omega arith
 
 returns : tie.Need-returns Inv-loop μ-loop
-returns c = (toLf-yes _ _ (c .before .before .loop-test .taken) _ (c .if1 .taken) (c .before .before .before .loop .inv .1), omega arith)
+returns c = (first-here isLf _ _ _ (c .before .before .before .loop .inv .1) (c .before .before .loop-test .taken) (eq-eqb _ _ (c .if1 .taken)), omega arith)
 
 add-i : tie.Need-add-i Inv-loop μ-loop
 add-i c = omega arith
@@ -34,10 +35,10 @@ loop-less : tie.Need-loop-less Inv-loop μ-loop
 loop-less c = omega arith
 
 loop-again : tie.Need-loop-again Inv-loop μ-loop
-loop-again c = (omega arith, toLf-no _ _ (c .before .before .loop-test .taken) _ (c .if1 .left) (c .before .before .before .loop .inv .1))
+loop-again c = (omega arith, first-next isLf _ _ _ (c .before .before .before .loop .inv .1) (c .before .before .loop-test .taken) (ne-eqb _ _ (c .if1 .left)))
 
 returns-2 : tie.Need-returns-2 Inv-loop μ-loop
-returns-2 c = (toLf-over _ _ _ (c .loop-test .left) (c .before .loop .inv .1), omega arith)
+returns-2 c = (first-over isLf _ _ _ (c .before .loop .inv .1) (c .loop-test .left), omega arith)
 
 pub lf-from-spec : {M : Type 1} → statement M
 lf-from-spec =
