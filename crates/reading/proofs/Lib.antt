@@ -4,3 +4,4 @@ pub mod Values
 pub mod Speaks
 pub mod Wholes
 pub mod Files
+pub mod Dated
