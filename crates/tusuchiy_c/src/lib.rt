@@ -106,13 +106,13 @@ fn profile_of(number: i32) -> Profile
 // The check over six files, six lent tables and a lent list, from a starting place, for boards where `profile` isn't 0. An empty slice of file 3 or 6
 // means: not supplied.
 #[no_mangle]
-pub extern "C" fn tusuchiy_check(
-    stops: &[u8],
-    routes: &[u8],
-    calendar: &[u8],
-    trips: &[u8],
-    stop_times: &[u8],
-    calendar_dates: &[u8],
+pub extern "C" fn tusuchiy_check<'a>(
+    stops: &'a [u8],
+    routes: &'a [u8],
+    calendar: &'a [u8],
+    trips: &'a [u8],
+    stop_times: &'a [u8],
+    calendar_dates: &'a [u8],
     stops_table: &mut [i32],
     routes_table: &mut [i32],
     calendar_table: &mut [i32],
@@ -142,13 +142,9 @@ pub extern "C" fn tusuchiy_check(
 {
     let from = place_of(after_file, after_line, after_rule);
     let asked = profile_of(profile);
+    let files = [stops, routes, calendar, trips, stop_times, calendar_dates];
     told(tusuchiy::check(
-        stops,
-        routes,
-        calendar,
-        trips,
-        stop_times,
-        calendar_dates,
+        files,
         stops_table,
         routes_table,
         calendar_table,
@@ -181,13 +177,13 @@ fn told_faults(k: Sink) -> TusuchiyFaultsAnswer
 
 // Every refusal of six files at once, four numbers each into a lent list: file, line, number, column; those after a starting place.
 #[no_mangle]
-pub extern "C" fn tusuchiy_faults(
-    stops: &[u8],
-    routes: &[u8],
-    calendar: &[u8],
-    trips: &[u8],
-    stop_times: &[u8],
-    calendar_dates: &[u8],
+pub extern "C" fn tusuchiy_faults<'a>(
+    stops: &'a [u8],
+    routes: &'a [u8],
+    calendar: &'a [u8],
+    trips: &'a [u8],
+    stop_times: &'a [u8],
+    calendar_dates: &'a [u8],
     faults: &mut [i32],
     after_file: i32,
     after_line: i32,
@@ -198,16 +194,8 @@ pub extern "C" fn tusuchiy_faults(
         (record { file = «after_file»; line = «after_line»; rule = «after_number» }) (now (faults .entry))) r (now (faults .exit)) ⌝ }
 {
     let from = place_of(after_file, after_line, after_number);
-    told_faults(tusuchiy::faults(
-        stops,
-        routes,
-        calendar,
-        trips,
-        stop_times,
-        calendar_dates,
-        faults,
-        from,
-    ))
+    let files = [stops, routes, calendar, trips, stop_times, calendar_dates];
+    told_faults(tusuchiy::faults(files, faults, from))
 }
 
 // The answer about an index: number 0 written or accepted, 1 to 14 the file's own refusal with its file, line and column, or 40 to 46; the index's length.
