@@ -13,6 +13,7 @@ ghost use Rattle.indexes.specs.Index.{checked, wrote, written};
 ghost use Rattle.indexes.specs.Small.{Small as SmallIndex};
 ghost use Rattle.tusuchiy_c.specs.Asked.{profileOf};
 ghost use Rattle.tusuchiy_c.specs.Told.{Told};
+ghost use Rattle.tusuchiy_c.specs.ToldCheck.{ToldCheck};
 ghost use Rattle.tusuchiy_c.specs.ToldFaults.{ToldFaults};
 ghost use Rattle.tusuchiy_c.specs.ToldIndex.{ToldIndex};
 use indexes::IndexAnswer;
@@ -125,20 +126,12 @@ pub extern "C" fn tusuchiy_check<'a>(
     after_rule: i32,
     profile: i32,
 ) -> TusuchiyAnswer
-    ensures { λ r. ⌜ Told (outcome
+    ensures { λ r. ⌜ ToldCheck (outcome
         (now (stops .entry) ∷ now (routes .entry) ∷ now (calendar .entry) ∷ now (trips .entry) ∷ now («stop_times» .entry) ∷ now («calendar_dates» .entry) ∷ [])
         (now («stops_table» .entry) ∷ now («routes_table» .entry) ∷ now («calendar_table» .entry) ∷ now («trips_table» .entry) ∷ now («stop_times_table» .entry) ∷ now («calendar_dates_table» .entry) ∷ [])
-        (now (findings .entry)) (record { file = «after_file»; line = «after_line»; rule = «after_rule» }) (profileOf profile) .answer) r ⌝ }
-    ensures { λ _. ⌜ outcome
-        (now (stops .entry) ∷ now (routes .entry) ∷ now (calendar .entry) ∷ now (trips .entry) ∷ now («stop_times» .entry) ∷ now («calendar_dates» .entry) ∷ [])
-        (now («stops_table» .entry) ∷ now («routes_table» .entry) ∷ now («calendar_table» .entry) ∷ now («trips_table» .entry) ∷ now («stop_times_table» .entry) ∷ now («calendar_dates_table» .entry) ∷ [])
-        (now (findings .entry)) (record { file = «after_file»; line = «after_line»; rule = «after_rule» }) (profileOf profile) .tables
-        ≡ now («stops_table» .exit) ∷ now («routes_table» .exit) ∷ now («calendar_table» .exit) ∷ now («trips_table» .exit) ∷ now («stop_times_table» .exit) ∷ now («calendar_dates_table» .exit) ∷ [] ⌝ }
-    ensures { λ _. ⌜ outcome
-        (now (stops .entry) ∷ now (routes .entry) ∷ now (calendar .entry) ∷ now (trips .entry) ∷ now («stop_times» .entry) ∷ now («calendar_dates» .entry) ∷ [])
-        (now («stops_table» .entry) ∷ now («routes_table» .entry) ∷ now («calendar_table» .entry) ∷ now («trips_table» .entry) ∷ now («stop_times_table» .entry) ∷ now («calendar_dates_table» .entry) ∷ [])
-        (now (findings .entry)) (record { file = «after_file»; line = «after_line»; rule = «after_rule» }) (profileOf profile) .list
-        ≡ now (findings .exit) ⌝ }
+        (now (findings .entry)) (record { file = «after_file»; line = «after_line»; rule = «after_rule» }) (profileOf profile)) r
+        (now («stops_table» .exit) ∷ now («routes_table» .exit) ∷ now («calendar_table» .exit) ∷ now («trips_table» .exit) ∷ now («stop_times_table» .exit) ∷ now («calendar_dates_table» .exit) ∷ [])
+        (now (findings .exit)) ⌝ }
 {
     let from = place_of(after_file, after_line, after_rule);
     let asked = profile_of(profile);
