@@ -1,13 +1,13 @@
 -- Laws: what the findings of each file rest on, and those of all files together.
 use Prim.Native.Nat.{ℕ, zero, suc, _+_, _*_, _-_, _<_, _≤_}
-use mathlib.Core.Path.{_≡_, refl, sym, ap, _∙_}
+use mathlib.Core.Path.{_≡_, sym, ap, _∙_}
 use mathlib.Core.List.{List, [], _∷_, map}
 use native.Mathlib.Omega.{arith}
 use native.Mathlib.Nat.{mul-le-mul-left}
 use native.Mathlib.Numerals.{add-one}
 use lib.IntN.{ℤ}
 use lib.Dec.{eqb, leb, eqb→eq, leb→le}
-use lib.ListN.{length, getD, drop, drop-of-length-le}
+use lib.ListN.{length, getD, drop, drop-of-length-le, List·getD-map}
 use Rattle.meaning.specs.declared.Place.{Place}
 use Rattle.meaning.specs.declared.Profile.{Profile}
 use Rattle.meaning.specs.declared.Profile.the-variants.{Boards}
@@ -29,9 +29,7 @@ use Rattle.rules.specs.Tabled.{Tabled, tableOf}
 -- the LF count of a file among those of all; none of a file that isn't there
 pub count-at : (files : List (List ℕ)) (i : ℕ) → getD (map countLf files) i 0 ≡ countLf (getD files i [])
 unfolding countLf
-count-at [] i = refl
-count-at (s ∷ r) zero = refl
-count-at (s ∷ r) (suc i) = count-at r i
+count-at files i = List·getD-map countLf files i []
 
 -- what the findings of each file rest on, which has a record for each line but the header
 ready :
