@@ -3,6 +3,8 @@ pub mod Computed
 pub mod ListLaws
 pub mod Tests
 pub mod Laws
+pub mod Digits
+pub mod Forms
 pub mod Lines
 pub mod References
 pub mod FirstBroken
@@ -24,4 +26,5 @@ pub mod BadUtf8
 pub mod WhichColumn
 pub mod Nodes
 pub mod Boards
+pub mod ColumnTable
 pub mod Starred

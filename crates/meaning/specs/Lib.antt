@@ -19,4 +19,5 @@ pub mod BadUtf8
 pub mod WhichColumn
 pub mod Nodes
 pub mod Boards
+pub mod ColumnTable
 pub mod Cases
