@@ -27,4 +27,7 @@ pub mod WhichColumn
 pub mod Nodes
 pub mod Boards
 pub mod ColumnTable
+pub mod Times
+pub mod Coordinates
+pub mod Limits
 pub mod Starred

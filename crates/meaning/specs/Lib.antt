@@ -20,4 +20,5 @@ pub mod WhichColumn
 pub mod Nodes
 pub mod Boards
 pub mod ColumnTable
+pub mod Limits
 pub mod Cases
