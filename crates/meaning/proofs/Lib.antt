@@ -20,6 +20,7 @@ pub mod Records
 pub mod Held
 pub mod Calls
 pub mod Demands
+pub mod TripOrder
 pub mod ByDate
 pub mod Characters
 pub mod BadUtf8

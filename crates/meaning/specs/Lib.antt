@@ -14,6 +14,7 @@ pub mod Promises
 pub mod Held
 pub mod Calls
 pub mod Demands
+pub mod TripOrder
 pub mod ByDate
 pub mod BadUtf8
 pub mod WhichColumn
