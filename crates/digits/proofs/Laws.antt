@@ -1,15 +1,15 @@
 -- Laws of runs of digits, over lists and numbers. Assumes nothing.
 use mathlib.Core.Path.{_≡_, refl, sym, ap, _∙_}
-use mathlib.Core.Bool.{Bool, true, false, cond, not, _&&_, _||_}
+use mathlib.Core.Bool.{Bool, true, false, cond, not, _||_}
 use mathlib.Core.List.{List, [], _∷_, _++_}
 use Prim.Native.Nat.{ℕ, suc, _+_, _-_, _*_, _/_, _^_, _≤_, _<_}
 use native.Mathlib.Numerals.{add-one}
 use native.Mathlib.Omega.{arith}
 use native.Mathlib.Nat.{add-zero, zero-add, pow-succ', pow-le-pow-right, one-le-pow, mul-assoc, mul-left-comm, add-mul, mul-right-comm, mul-le-mul-right, lt-of-lt-of-le, zero-lt-suc, mul-one, mul-add-div-right, div-eq-of-lt, div-eq-of-eq-mul-right, div-div-eq-div-mul, mul-div-mul-right}
 use lib.Pow.{pow-add}
-use lib.Dec.{eqb, leb, ltb}
+use lib.Dec.{eqb, ltb}
 use lib.ListN.{length, getD, drop}
-use borrow.Author.Tests.{ltb-true, ltb-false, leb-true, eqb-true, eqb-false, lt-ltb, le-ltb, eq-eqb, ne-eqb}
+use borrow.Author.Tests.{ltb-true, ltb-false, eqb-true, eqb-false, lt-ltb, le-ltb, eq-eqb, ne-eqb}
 use Rattle.meaning.specs.declared.Number.{Number}
 use Rattle.meaning.specs.declared.Number.the-variants.{Value, NoNumber}
 use Rattle.meaning.specs.Forms.{isDigit, digits, sequenceText, withNumber}

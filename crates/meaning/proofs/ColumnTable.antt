@@ -4,13 +4,13 @@ use native.Mathlib.Omega.{arith}
 use native.Mathlib.Decide.{ℕ-discrete}
 use mathlib.Core.Path.{_≡_, refl, sym, ap, _∙_}
 use mathlib.Core.Logic.{_↔_, _⊎_, inl, inr}
-use mathlib.Core.Bool.{Bool, true, false, cond, not, _&&_, _||_}
-use mathlib.Core.List.{List, [], _∷_, _++_, map, List·Memᴰ, List·Memᴰ·head, List·Memᴰ·tail, List·Memᴰ·append-cases, Memᴰ·append-left}
-use lib.ListN.{length, getD, drop, length-map}
+use mathlib.Core.Bool.{Bool, true, false, cond, not, _&&_}
+use mathlib.Core.List.{List, [], _∷_, map, List·Memᴰ, List·Memᴰ·head, List·Memᴰ·tail, Memᴰ·append-left}
+use lib.ListN.{length, getD, length-map}
 use lib.Dec.{ltb, eqb}
-use borrow.Author.Tests.{eqb-true, eqb-false, eq-eqb, ne-eqb, ltb-true, ltb-false, lt-ltb, le-ltb, not-true}
+use borrow.Author.Tests.{ltb-true, ltb-false, le-ltb, not-true}
 use Rattle.meaning.specs.declared.Column.{Column}
-use Rattle.meaning.specs.Lists.{ascii, same, empty, any, some, place, find, stands}
+use Rattle.meaning.specs.Lists.{ascii, same, empty, any, place, find, stands}
 use Rattle.meaning.specs.Columns.{Known, Row, anyText, aTime, aDate, aLatitude, aLongitude, aSequence, upTo1, upTo2, upTo3, aRouteType, anException, upTo4, never, allButInner, allButPlaceless, always, unknown, stopsColumns, routesColumns, calendarColumns, tripsColumns, stopTimesColumns, calendarDatesColumns, schemas, schema, knownAt, nameOf, columnOf, countOf, places, cell, rowOf}
 use Rattle.meaning.specs.declared.Choice.{Choice}
 use Rattle.meaning.specs.declared.Choice.the-variants.{Picked, NoChoice}
@@ -21,10 +21,10 @@ use Rattle.meaning.specs.Promises.{Each}
 use Rattle.meaning.specs.WhichColumn.{standings, Keeps}
 use Rattle.meaning.specs.ColumnTable.{Name, named, middleColumn, rightColumn, mustBePresent, mayBeAbsent, knownNames, endsInId, isId, Form, forms, formOf, under, Inner, Free, a-time, its-name, its-place, ColumnTable}
 use Rattle.meaning.proofs.ListLaws.{both, same-equal, same-self, no-bytes}
-use Rattle.meaning.proofs.Laws.{getD-mem, getD-map-in, At, place-of}
+use Rattle.meaning.proofs.Laws.{getD-mem, getD-map-in, place-of}
 use Rattle.meaning.proofs.Tests.{some-found, some-none, untrue}
 use Rattle.meaning.proofs.Forms.{digit-picked}
-use Rattle.meaning.proofs.References.{any-yes, any-no, stands-find}
+use Rattle.meaning.proofs.References.{any-yes, stands-find}
 use Rattle.meaning.proofs.Columns.{row-at, place-at, kept-8, kept-11, kept-12, kept-13}
 use Rattle.meaning.proofs.Nodes.{elsewhere}
 

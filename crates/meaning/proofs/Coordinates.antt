@@ -13,7 +13,6 @@ use lib.Dec.{eqb, leb}
 use borrow.Author.Tests.{eqb-true, ne-eqb, leb-true, le-leb}
 use Rattle.meaning.specs.declared.Number.{Number}
 use Rattle.meaning.specs.declared.Number.the-variants.{Value, NoNumber}
-use Rattle.meaning.specs.declared.Degrees.{Degrees}
 use Rattle.meaning.specs.declared.Degrees.the-variants.{TenMillionths, NoDegrees}
 use Rattle.meaning.specs.Forms.{noMark, formed, digits, withNumber, toPoint, pointed, wholeDigits, tailDigits, signed, scaled, sizeText, degreesText}
 use Rattle.meaning.specs.Promises.{Each}

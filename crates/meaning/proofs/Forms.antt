@@ -9,7 +9,6 @@ use lib.Dec.{eqb, leb}
 use lib.ListN.{length, getD}
 use borrow.Author.Tests.{eqb-true, ne-eqb, leb-true, le-leb}
 use Rattle.meaning.specs.declared.Number.the-variants.{Value, NoNumber}
-use Rattle.meaning.specs.declared.Choice.{Choice}
 use Rattle.meaning.specs.declared.Choice.the-variants.{Picked, NoChoice}
 use Rattle.meaning.specs.Lists.{ascii, same}
 use Rattle.meaning.specs.Forms.{noMark, formed, sequenceText, sequenceOf, digitText, routeTypeText, routeTypeOf}

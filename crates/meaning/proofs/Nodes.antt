@@ -5,11 +5,11 @@ use native.Mathlib.Decide.{ℕ-discrete}
 use mathlib.Core.Path.{_≡_, refl, sym, _∙_}
 use mathlib.Core.Logic.{_↔_, _⊎_, inl, inr}
 use mathlib.Core.Bool.{Bool, true, false, cond, not, _&&_, _||_}
-use mathlib.Core.List.{List, [], _∷_, map}
+use mathlib.Core.List.{List, [], map}
 use lib.IntN.{ℤ, pos}
 use lib.ListN.{length, getD}
-use lib.Dec.{eqb, leb, ltb}
-use borrow.Author.Tests.{eqb-true, eqb-false, ne-eqb, ltb-true, ltb-false, lt-ltb, le-ltb, leb-true, le-leb, not-true, not-false}
+use lib.Dec.{eqb, ltb}
+use borrow.Author.Tests.{eqb-false, ne-eqb, ltb-true, ltb-false, lt-ltb, le-ltb, not-true, not-false}
 use Rattle.meaning.specs.declared.Choice.{Choice}
 use Rattle.meaning.specs.declared.Choice.the-variants.{Picked, NoChoice}
 use Rattle.meaning.specs.declared.Column.{Column}
@@ -17,7 +17,7 @@ use Rattle.meaning.specs.declared.Place.{Place}
 use Rattle.meaning.specs.declared.Profile.{Profile}
 use Rattle.meaning.specs.Lists.{empty, place}
 use Rattle.meaning.specs.Columns.{Row, stopsColumns, schemas, schema, knownAt, columnOf, countOf, places, rowOf, rowsOf}
-use Rattle.meaning.specs.Forms.{noMark, formed, pointed, toPoint, degreesText, sizeText, latitudeOf, longitudeOf, digitText, choiceOf, isChoice, shapes, shape}
+use Rattle.meaning.specs.Forms.{noMark, formed, pointed, toPoint, degreesText, sizeText, latitudeOf, longitudeOf, choiceOf, isChoice, shapes, shape}
 use Rattle.meaning.specs.Tables.{Feed, fileOf, feedOf, refer, stopIds, stopId, stopName, stopLat, stopLon, locationType, parentStation, degrees, oneIf, kindOf, inner, placed, widths, widthOf}
 use Rattle.meaning.specs.Refusals.{rule3, rule9, rule12, slack, blank, leftmost}
 use Rattle.meaning.specs.Rules.{row, rule21·stops, otherKind, parentKind, rule22}

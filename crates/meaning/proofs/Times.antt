@@ -6,7 +6,7 @@ use native.Mathlib.Decide.{ℕ-discrete}
 use native.Mathlib.Nat.{zero-lt-suc, div-lt-iff-lt-mul}
 use mathlib.Core.Path.{_≡_, refl, sym, ap, _∙_}
 use mathlib.Core.Logic.{_↔_, _⊎_, inl, inr}
-use mathlib.Core.Bool.{Bool, true, false, cond, not, _&&_, _||_}
+use mathlib.Core.Bool.{Bool, true, false, cond, not}
 use mathlib.Core.List.{List, [], _∷_, _++_, map}
 use lib.ListN.{length, getD, take, drop, length-drop}
 use lib.Seq.{split-at, getD-drop, drop-drop, length-take-le, take-all}
@@ -14,9 +14,7 @@ use lib.Dec.{eqb, leb, ltb}
 use borrow.Author.Tests.{eqb-true, eqb-false, eq-eqb, ne-eqb, ltb-true, lt-ltb, leb-true, le-leb, not-true}
 use Rattle.meaning.specs.declared.Number.{Number}
 use Rattle.meaning.specs.declared.Number.the-variants.{Value, NoNumber}
-use Rattle.meaning.specs.declared.Time.{Time}
 use Rattle.meaning.specs.declared.Time.the-variants.{Seconds, Untimed, NoTime}
-use Rattle.meaning.specs.declared.Date.{Date}
 use Rattle.meaning.specs.declared.Date.the-variants.{Day, NoDate}
 use Rattle.meaning.specs.Forms.{noMark, formed, sequenceText, withNumber, clockOf, clock, timeText, timeOf, leap, monthDays, daysIn, isDay, dateText, dateOf}
 use Rattle.meaning.specs.Promises.{Each}

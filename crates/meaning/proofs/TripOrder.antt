@@ -3,7 +3,7 @@ use Prim.Native.Nat.{ℕ, zero, suc, _+_, _-_, _≤_, _<_}
 use native.Mathlib.Omega.{arith}
 use native.Mathlib.Nat.{add-sub-cancel}
 use native.Mathlib.Decide.{ℕ-discrete}
-use mathlib.Core.Path.{_≡_, refl, sym, ap, _∙_}
+use mathlib.Core.Path.{_≡_, refl, sym, _∙_}
 use mathlib.Core.Logic.{_↔_, _⊎_, inl, inr}
 use mathlib.Core.Bool.{Bool, true, false, cond, not, _&&_, _||_}
 use mathlib.Core.List.{List, [], List·Memᴰ, List·Memᴰ·head, List·Memᴰ·tail, List·Memᴰ·not-nil}
@@ -22,14 +22,14 @@ use Rattle.meaning.specs.Columns.{Row}
 use Rattle.meaning.specs.Forms.{timeOf}
 use Rattle.meaning.specs.Tables.{Feed, feedOf, rowsIn, tripIds, tripId, timeTrip, arrivalTime, departureTime}
 use Rattle.meaning.specs.Refusals.{Test, test}
-use Rattle.meaning.specs.Rules.{row, timeRow, rule20, given, secondsOf, arrives, departs, timed, untimed, sequence, sequenceAt, isOf, rule28, outruns, rule29, firstOfTrip, tiesBefore, isFirst, isLast, someUntimed, openEnded, rule31, addedRules, tripRules, timeRules, recordCount, rulesOf}
+use Rattle.meaning.specs.Rules.{rule20, given, arrives, departs, timed, untimed, sequence, sequenceAt, isOf, rule28, outruns, rule29, firstOfTrip, tiesBefore, isFirst, isLast, someUntimed, openEnded, rule31, addedRules, tripRules, timeRules, recordCount, rulesOf}
 use Rattle.meaning.specs.Findings.{finding, findingsOf, answerNumbers}
-use Rattle.meaning.specs.Outcome.{Outcome, outcome}
+use Rattle.meaning.specs.Outcome.{outcome}
 use Rattle.meaning.specs.Promises.{saysAccepted}
 use Rattle.meaning.specs.TripOrder.{Timed, timeAt, LineOf, SequenceAgain, Outrun, FirstLine, LastLine, tripAt, OpenEnded, OnLine, JustOne, TripOrder}
 use Rattle.meaning.proofs.ListLaws.{both, and-both, and-second, same-equal, same-self}
 use Rattle.meaning.proofs.Laws.{getD-map-in, place-of}
-use Rattle.meaning.proofs.Tests.{either, or-left, or-right, not-none, untrue, Found, some-found, some-none, found-some}
+use Rattle.meaning.proofs.Tests.{either, or-left, or-right, not-none, untrue, some-found, some-none, found-some}
 use Rattle.meaning.proofs.References.{any-yes, any-no}
 use Rattle.meaning.proofs.TheList.{listed-exactly}
 use Rattle.meaning.proofs.Pages.{accepted-exactly}
