@@ -1,3 +1,4 @@
 -- What the functions between a value and a feed answer.
 pub mod Tests
+pub mod Heads
 pub mod Wholes
