@@ -244,6 +244,20 @@ pub up-many : (n : ℕ) → 33 ≤ n → upTo33 n ≡ 33
 unfolding upTo33
 up-many n h = rw (le-ltb n 33 h)
 
+pub up-exact : (n k : ℕ) → k ≡ upTo33 n → k < 33 → k ≡ n
+up-exact n k e h = go (ltb n 33) refl
+  where
+    go : (t : Bool) → ltb n 33 ≡ t → k ≡ n
+    go true t = e ∙ up-few n (ltb-true n 33 t)
+    go false t = let z = up-many n (ltb-false n 33 t) in absurd (omega arith)
+
+pub up-over : (n k : ℕ) → k ≡ upTo33 n → 32 < k → 32 < n
+up-over n k e h = go (ltb n 33) refl
+  where
+    go : (t : Bool) → ltb n 33 ≡ t → 32 < n
+    go true t = let z = up-few n (ltb-true n 33 t) in omega arith
+    go false t = omega (arith, ltb-false n 33 t)
+
 pub count-first : (l : List ℕ) (at : ℕ) → at ≡ 0 → length (fieldsFrom l at) ≡ length (fields l)
 count-first l at e = rw (e, from-start l)
 
