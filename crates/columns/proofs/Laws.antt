@@ -7,8 +7,8 @@ use native.Mathlib.Omega.{arith}
 use native.Mathlib.Numerals.{add-one}
 use native.Mathlib.Nat.{not-suc-le-zero}
 use lib.Dec.{eqb, ltb}
-use lib.ListN.{length, getD, drop, set, replicate, length-drop, List·getD-eq-default, List·getD-map, length-map}
-use lib.Seq.{getD-drop, drop-drop}
+use lib.ListN.{length, getD, take, drop, set, replicate, length-take, length-drop, List·getD-eq-default, List·getD-map, length-map}
+use lib.Seq.{getD-drop, getD-take, drop-drop}
 use borrow.Author.Tests.{eq-eqb, ne-eqb, eqb-true, eqb-false, lt-ltb, le-ltb, ltb-true, ltb-false}
 use Rattle.meaning.specs.declared.Bounds.{Bounds}
 use Rattle.meaning.specs.Lists.{same, some, place, find}
@@ -284,16 +284,21 @@ module _ (l t : List ℕ) (n : ℕ) (counted : n ≡ length (fields l)) (noted :
   past-some k h w = omega (arith, noted .past k h (omega arith) (omega arith))
 
 -- a walk along a line notes such a table in one that starts with 0
-pub noted-by : (l t u : List ℕ) → getD t 0 0 ≡ 0 → u ≡ pastEnds (fields l) 1 t → Noted l u
+pub noted-by : (l t u : List ℕ) → t ≡ replicate 33 0 → u ≡ pastEnds (take 33 (fields l)) 1 t → Noted l u
 unfolding fieldAt
-noted-by l t u z e = record {
-  first = rw e (past-before (fields l) 1 t 0 (omega arith) ∙ z);
-  past = λ k a b c.
-      let n : k ≡ 0 → ⊥ = λ x. omega arith in
-      let y : 1 + (k - 1) ≡ k = omega arith in
-      let w : length u ≡ length t = rw e (past-length (fields l) 1 t) in
-      rw (e, ne-eqb k 0 n) (rw y at (past-at (fields l) 1 t (k - 1) (omega arith) (omega arith)));
-}
+noted-by l t u z e =
+    let bs : List Bounds = take 33 (fields l) in
+    let w : length u ≡ 33 = rw (e, past-length bs 1 t, z) in
+    let v : length t ≡ 33 = rw z in
+    record {
+      short = omega arith;
+      first = rw e (past-before bs 1 t 0 (omega arith) ∙ rw z);
+      past = λ k a b c.
+          let n : k ≡ 0 → ⊥ = λ x. omega arith in
+          let y : 1 + (k - 1) ≡ k = omega arith in
+          let g : getD bs (k - 1) (bounds 0 0) ≡ getD (fields l) (k - 1) (bounds 0 0) = getD-take 33 (fields l) (k - 1) (bounds 0 0) (omega arith) in
+          rw (e, ne-eqb k 0 n) (rw (y, g) at (past-at bs 1 t (k - 1) (omega (arith, length-take 33 (fields l))) (omega arith)));
+    }
 
 pub fields-first : (l : List ℕ) (at : ℕ) → at ≡ 0 → drop (1 - 1) (fields l) ≡ fieldsFrom l at
 fields-first l at e = rw (e, from-start l)

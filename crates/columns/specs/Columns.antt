@@ -50,8 +50,9 @@ endsOf l ps = map (λ p. fieldAt l p .end) ps
 unfoldable pub fieldBy : ℕ → List ℕ → ℕ → Bounds
 fieldBy n t p = cond (eqb p 0) (bounds 0 0) (cond (ltb n p) (bounds 0 0) (bounds (getD t (p - 1) 0) (getD t p 0 - 1)))
 
--- such a table has where the fields of a line start, as far as it goes
+-- such a table has where the fields of a line start, as far as it goes, which is no further than rule 7 allows
 pub record Noted (l t : List ℕ) : Type 0 where
+  pub short : length t ≤ 33
   pub first : getD t 0 0 ≡ 0
   pub past : (k : ℕ) → 0 < k → k ≤ length (fields l) → k < length t → getD t k 0 ≡ fieldAt l k .end + 1
 

@@ -12,6 +12,7 @@ ghost use lib.ListN.{length, getD, replicate};
 ghost use Rattle.meaning.specs.Bytes.{countLf, fields, values};
 ghost use Rattle.meaning.specs.Columns.{columnOf, fieldAt};
 ghost use Rattle.meaning.specs.Refusals.{rule8};
+ghost use Rattle.text.specs.Fields.{upTo33};
 ghost use Rattle.columns.specs.Heading.{Heading};
 ghost use Rattle.columns.specs.Columns.{placesOf, firstsWith, againWith, lacking, noted, startsOf, endsOf, fieldBy, Noted};
 
@@ -210,7 +211,7 @@ fn near_cells(count: usize, starts: &[usize], at: [usize; 10]) -> Cells
 
 // The fields of a line under columns, where a walk along it told how many fields it has and, as far as the table goes, where they start.
 pub fn cells_of(l: &[u8], count: usize, starts: &[usize], at: [usize; 10]) -> Cells
-    requires { ⌜ (count ≡ length (fields (now l))) × Noted (now l) (now starts) ⌝ }
+    requires { ⌜ (count ≡ upTo33 (length (fields (now l)))) × Noted (now l) (now starts) ⌝ }
     ensures { λ r. ⌜ (r .start ≡ startsOf (now (l .entry)) at) × (r .end ≡ endsOf (now (l .entry)) at) ⌝ }
 {
     if count < starts.len() {

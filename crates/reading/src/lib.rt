@@ -28,6 +28,7 @@ ghost use Rattle.meaning.specs.Columns.{rowOf};
 ghost use Rattle.meaning.specs.Forms.{timeOf, dateOf, latitudeOf, longitudeOf, sequenceOf, choiceOf, routeTypeOf, exceptionOf, isTime, isDate, isDegrees, isNumber, isChoice, shape};
 ghost use Rattle.meaning.specs.Tables.{fileOf, widthOf};
 ghost use Rattle.meaning.specs.Refusals.{textTests, headTests, valueTests, lineTests, onLines, inFile, mayLack, rule4, slack, speaks, verdictOf};
+ghost use Rattle.text.specs.Fields.{upTo33};
 ghost use Rattle.schema.specs.AllKnown.{AllKnown};
 ghost use Rattle.columns.specs.Columns.{Noted};
 ghost use Rattle.values.specs.Located.{Within, Located};
@@ -243,7 +244,7 @@ fn row_fault(
     starts: &[usize],
 ) -> Fault
     requires { ⌜ (f < 7) × AllKnown f known ⌝ }
-    requires { ⌜ (count ≡ length (fields (now l))) × Noted (now l) (now starts) ⌝ }
+    requires { ⌜ (count ≡ upTo33 (length (fields (now l)))) × Noted (now l) (now starts) ⌝ }
     ensures { λ r. ⌜ r ≡ first (valueTests f at (now (l .entry))) ⌝ }
 {
     let cells = columns::cells_of(l, count, starts, at);
@@ -281,10 +282,11 @@ fn byte_rule(l: &[u8]) -> usize
     0
 }
 
-// The first of rules 5, 14, 6 and 7 that a line breaks, by what a walk along it told.
+// The first of rules 5, 14, 6 and 7 that a line breaks, by what a walk along it told; where it breaks none, the walk told all its fields.
 pub fn text_rule(l: &[u8], m: Measured) -> usize
-    requires { ⌜ (m .good ≡ good (now l)) × (m .fields ≡ length (fields (now l))) ⌝ }
+    requires { ⌜ (m .good ≡ good (now l)) × (m .fields ≡ upTo33 (length (fields (now l)))) ⌝ }
     ensures { λ r. ⌜ fault r 0 ≡ first (textTests (now (l .entry))) ⌝ }
+    ensures { λ r. ⌜ (r ≡ 0 → m .fields ≡ length (fields (now (l .entry)))) ⌝ }
 {
     let t = byte_rule(l);
     if t != 0 {

@@ -21,7 +21,7 @@ new-requires : tie.Need-new-requires Inv-loop μ-loop
 new-requires c κs = search needs
 
 loop-holds : tie.Need-loop-holds Inv-loop μ-loop
-loop-holds c = (omega arith, omega arith, omega arith, walk-first _ _ _ (c .new .ensures))
+loop-holds c = (omega arith, omega arith, omega arith, walk-first _ _ _ (c .new .ensures .0))
 
 next-requires : tie.Need-next-requires Inv-loop μ-loop
 next-requires c κs = search needs

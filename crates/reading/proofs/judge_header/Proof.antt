@@ -18,7 +18,7 @@ bad-head-requires c κs = search needs
 returns : tie.Need-returns
 returns c =
     let e = c .bad-head .ensures in
-    let t = head-text _ _ _ (c .before .before .text-rule .ensures) (c .before .if1 .taken) in
+    let t = head-text _ _ _ (c .before .before .text-rule .ensures .0) (c .before .if1 .taken) in
     (e .0 ∙ t, under-bad _ _ _ t (c .before .if1 .taken) _ (e .1))
 
 names-of-requires : tie.Need-names-of-requires
@@ -31,7 +31,7 @@ returns-2 : tie.Need-returns-2
 returns-2 c =
     let e = c .bad-head2 .ensures in
     let n = c .before .before .before in
-    let t = head-again _ _ _ (n .before .before .text-rule .ensures) (n .before .if1 .left) _ (n .names-of .ensures .1) (c .before .if2 .taken) in
+    let t = head-again _ _ _ (n .before .before .text-rule .ensures .0) (n .before .if1 .left) _ (n .names-of .ensures .1) (c .before .if2 .taken) in
     (e .0 ∙ t, under-bad _ _ _ t (λ z. omega arith) _ (e .1))
 
 lacks-requires : tie.Need-lacks-requires
@@ -45,15 +45,15 @@ returns-3 c =
     let e = c .bad-head3 .ensures in
     let n = c .before .before .before .before .before .before in
     let o = n .names-of .ensures in
-    let t = head-lacks _ _ _ (n .before .before .text-rule .ensures) (n .before .if1 .left) _ (o .1) (c .before .before .before .before .if2 .left) _ (o .0) _ (c .before .before .lacks .ensures) (c .before .if3 .taken) in
+    let t = head-lacks _ _ _ (n .before .before .text-rule .ensures .0) (n .before .if1 .left) _ (o .1) (c .before .before .before .before .if2 .left) _ (o .0) _ (c .before .before .lacks .ensures) (c .before .if3 .taken) in
     (e .0 ∙ t, under-bad _ _ _ t (λ z. omega arith) _ (e .1))
 
 returns-4 : tie.Need-returns-4
 returns-4 c =
     let n = c .before .before .before .before .before in
     let o = n .names-of .ensures in
-    let t = head-good _ _ _ (n .before .before .text-rule .ensures) (n .before .if1 .left) _ (o .1) (c .before .before .before .if2 .left) _ (o .0) _ (c .before .lacks .ensures) (c .if3 .left) in
-    (t, under-good _ _ _ t refl _ _ (o .0) (n .before .before .before .measure .ensures .1))
+    let t = head-good _ _ _ (n .before .before .text-rule .ensures .0) (n .before .if1 .left) _ (o .1) (c .before .before .before .if2 .left) _ (o .0) _ (c .before .lacks .ensures) (c .if3 .left) in
+    (t, under-good _ _ _ t refl _ _ (o .0) (n .before .before .text-rule .ensures .1 (n .before .if1 .left)))
 
 pub judge-header-spec : {M : Type 1} → statement M
 judge-header-spec =
