@@ -249,6 +249,34 @@ fn headers() {
     );
 }
 
+// Names are looked for in 32 fields, no more: rule 7 speaks before them, and 6 before it.
+fn wide_headers() {
+    routes(
+        b"a name in the last of 32 columns",
+        b"route_id,,,,,,,,,,,,,,,,,,,,,,,,,,,,,,,route_type\nR,,,,,,,,,,,,,,,,,,,,,,,,,,,,,,,x\n",
+    );
+    routes(
+        b"a name again in the last of 32 columns",
+        b"route_id,route_type,,,,,,,,,,,,,,,,,,,,,,,,,,,,,,route_id\nR,x\n",
+    );
+    routes(
+        b"a name again in column 33",
+        b"route_id,route_type,,,,,,,,,,,,,,,,,,,,,,,,,,,,,,,route_id\nR,x\n",
+    );
+    routes(
+        b"a name that must be there in column 33",
+        b"route_id,,,,,,,,,,,,,,,,,,,,,,,,,,,,,,,,route_type\nR,,,,,,,,,,,,,,,,,,,,,,,,,,,,,,,,x\n",
+    );
+    routes(
+        b"33 columns, a name again and one missing",
+        b"route_id,route_id,,,,,,,,,,,,,,,,,,,,,,,,,,,,,,,\nR,x\n",
+    );
+    routes(
+        b"bad quoting past 33 columns",
+        b"route_id,route_type,,,,,,,,,,,,,,,,,,,,,,,,,,,,,,,,,,,,,,,,\"\nR,x\n",
+    );
+}
+
 // A line has one fault, the header too: the first that speaks.
 fn both() {
     routes(b"header 5 and 9", b"route_id\t\n");
@@ -393,6 +421,7 @@ fn main() {
     returns();
     limits();
     headers();
+    wide_headers();
     both();
     lines();
     files();

@@ -23,15 +23,17 @@ ghost use Prim.Native.Nat.{ℕ, _*_, _<_, _≤_};
 ghost use lib.Dec.{ltb};
 ghost use lib.ListN.{length};
 ghost use Rattle.meaning.specs.Lists.{empty};
-ghost use Rattle.meaning.specs.Bytes.{countLf, linesFrom, linesOf, good, fields, value, values};
+ghost use Rattle.meaning.specs.Bytes.{countLf, linesFrom, linesOf, good, fields, value};
 ghost use Rattle.meaning.specs.Columns.{rowOf};
 ghost use Rattle.meaning.specs.Forms.{timeOf, dateOf, latitudeOf, longitudeOf, sequenceOf, choiceOf, routeTypeOf, exceptionOf, isTime, isDate, isDegrees, isNumber, isChoice, shape};
 ghost use Rattle.meaning.specs.Tables.{fileOf, widthOf};
 ghost use Rattle.meaning.specs.Refusals.{textTests, headTests, valueTests, lineTests, onLines, inFile, mayLack, rule4, slack, speaks, verdictOf};
+ghost use Rattle.text.specs.Fields.{upTo33};
 ghost use Rattle.schema.specs.AllKnown.{AllKnown};
-ghost use Rattle.columns.specs.Columns.{placesOf, Noted};
+ghost use Rattle.columns.specs.Columns.{Noted};
 ghost use Rattle.values.specs.Located.{Within, Located};
 ghost use Rattle.reading.specs.Tests.{fault, first, byteTests, columnTests, earlierOf};
+ghost use Rattle.reading.specs.Heads.{noColumns, columnsUnder};
 ghost use Rattle.reading.specs.Wholes.{wholeOf, wholesOf, ruleMarks, firstTrue, wholeClaims, orElse};
 
 // Is the value of a raw field a time, or empty?
@@ -242,7 +244,7 @@ fn row_fault(
     starts: &[usize],
 ) -> Fault
     requires { ⌜ (f < 7) × AllKnown f known ⌝ }
-    requires { ⌜ (count ≡ length (fields (now l))) × Noted (now l) (now starts) ⌝ }
+    requires { ⌜ (count ≡ upTo33 (length (fields (now l)))) × Noted (now l) (now starts) ⌝ }
     ensures { λ r. ⌜ r ≡ first (valueTests f at (now (l .entry))) ⌝ }
 {
     let cells = columns::cells_of(l, count, starts, at);
@@ -280,10 +282,11 @@ fn byte_rule(l: &[u8]) -> usize
     0
 }
 
-// The first of rules 5, 14, 6 and 7 that a line breaks, by what a walk along it told.
+// The first of rules 5, 14, 6 and 7 that a line breaks, by what a walk along it told; where it breaks none, the walk told all its fields.
 pub fn text_rule(l: &[u8], m: Measured) -> usize
-    requires { ⌜ (m .good ≡ good (now l)) × (m .fields ≡ length (fields (now l))) ⌝ }
+    requires { ⌜ (m .good ≡ good (now l)) × (m .fields ≡ upTo33 (length (fields (now l)))) ⌝ }
     ensures { λ r. ⌜ fault r 0 ≡ first (textTests (now (l .entry))) ⌝ }
+    ensures { λ r. ⌜ (r ≡ 0 → m .fields ≡ length (fields (now (l .entry)))) ⌝ }
 {
     let t = byte_rule(l);
     if t != 0 {
@@ -298,23 +301,50 @@ pub fn text_rule(l: &[u8], m: Measured) -> usize
     6
 }
 
-// The first rule that a header breaks, and its column.
-pub fn header_fault(f: usize, c: Columns, h: &[u8]) -> Fault
-    requires { ⌜ (f < 7) × (c .at ≡ placesOf f (values (now h))) ⌝ }
-    ensures { λ r. ⌜ r ≡ first (headTests f (now (h .entry))) ⌝ }
+// What a header tells: the first rule that it breaks, and its column; and under what the lines after it are read, nothing where it breaks one.
+pub struct Head {
+    pub fault: Fault,
+    pub columns: Columns,
+}
+
+// A header that breaks a rule.
+fn bad_head(rule: usize, column: usize) -> Head
+    ensures { λ r. ⌜ (r .fault ≡ fault rule column) × (r .columns ≡ noColumns) ⌝ }
 {
-    let t = text_rule(h, text::measure(h));
+    Head {
+        fault: Fault { rule, column },
+        columns: Columns {
+            at: [0usize; 10],
+            count: 0,
+        },
+    }
+}
+
+// A header judged: its text first, so that names are looked for in no more than 32 fields.
+pub fn judge_header(f: usize, h: &[u8]) -> Head
+    requires { ⌜ f < 7 ⌝ }
+    ensures { λ r. ⌜ (r .fault ≡ first (headTests f (now (h .entry)))) × (r .columns ≡ columnsUnder f (now (h .entry))) ⌝ }
+{
+    let m = text::measure(h);
+    let t = text_rule(h, m);
     if t != 0 {
-        return Fault { rule: t, column: 0 };
+        return bad_head(t, 0);
     }
-    let p = columns::repeated(f, h);
-    if p != 0 {
-        return Fault { rule: 8, column: p };
+    let names = columns::names_of(f, h);
+    if names.again != 0 {
+        return bad_head(8, names.again);
     }
-    if columns::lacks(f, c) {
-        return Fault { rule: 9, column: 0 };
+    let at = names.at;
+    if columns::lacks(f, at) {
+        return bad_head(9, 0);
     }
-    Fault { rule: 0, column: 0 }
+    Head {
+        fault: Fault { rule: 0, column: 0 },
+        columns: Columns {
+            at,
+            count: m.fields,
+        },
+    }
 }
 
 // The first rule that a line after the header breaks, and its column.
@@ -382,11 +412,12 @@ pub fn read_file(f: usize, s: &[u8]) -> Verdict
 {
     match text::next_line(s, text::body_start(s)) {
         LineStep::Line { start, end, next } => {
-            let c = columns::columns_of(f, &s[start..end]);
-            let t = header_fault(f, c, &s[start..end]);
+            let h = judge_header(f, &s[start..end]);
+            let t = h.fault;
             if t.rule != 0 {
                 return refuse(t, f, 1);
             }
+            let c = h.columns;
             read_lines(f, c, s, next)
         }
         LineStep::Done => Verdict::Readable,
