@@ -59,8 +59,9 @@ impl Place {
 
     /// The path of a file, safe to print.
     pub fn of(&self, name: &str) -> String {
-        let path = self.path.join(std::ffi::OsStr::from_bytes(&self.folder)).join(name);
-        safe::text(path.as_os_str().as_bytes())
+        let path = self.path.as_os_str().as_bytes();
+        let slash: &[u8] = if path.ends_with(b"/") { b"" } else { b"/" };
+        safe::name(&[path, slash, &self.folder, name.as_bytes()].concat())
     }
 }
 
@@ -68,7 +69,7 @@ impl Place {
 pub struct Feed {
     pub place: Place,
     pub unread: Unread,
-    files: [Option<Vec<u8>>; FILES],
+    pub files: [Option<Vec<u8>>; FILES],
     ends: [Vec<u32>; FILES],
     counts: [usize; FILES],
 }
