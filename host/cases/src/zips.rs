@@ -23,6 +23,7 @@ pub const SIZES_SIGN: [u8; 4] = *b"PK\x07\x08";
 pub struct Record {
     pub name: Vec<u8>,
     pub system: u8,
+    pub version: u16,
     pub flags: u16,
     pub method: u16,
     pub checksum: u32,
@@ -118,6 +119,7 @@ impl Member {
         let record = Record {
             name: name.into(),
             system: 3,
+            version: 20,
             method,
             checksum: checksum(bytes),
             packed: data.len() as u32,
@@ -151,7 +153,8 @@ impl Member {
     fn write(&self, out: &mut Vec<u8>) {
         let Record { name, flags, method, checksum, packed, size, extra, .. } = &self.local;
         out.extend(b"PK\x03\x04");
-        out.extend(low_first(&[(20, 2), ((*flags).into(), 2), ((*method).into(), 2), (0x5A21_6000, 4)]));
+        out.extend(low_first(&[(self.local.version.into(), 2), ((*flags).into(), 2), ((*method).into(), 2)]));
+        out.extend(low_first(&[(0x5A21_6000, 4)]));
         out.extend(low_first(&[((*checksum).into(), 4), ((*packed).into(), 4), ((*size).into(), 4)]));
         out.extend(low_first(&[(name.len() as u64, 2), (extra.len() as u64, 2)]));
         out.extend([&name[..], extra, &self.data, &self.behind].concat());
@@ -160,9 +163,10 @@ impl Member {
     /// Its record in the directory, where its data are at this place.
     fn list(&self, place: u32, out: &mut Vec<u8>) {
         let Record { name, flags, method, checksum, packed, size, extra, comment, .. } = &self.listed;
-        let Record { system, disk, attributes, .. } = self.listed;
+        let Record { system, version, disk, attributes, .. } = self.listed;
         out.extend(b"PK\x01\x02");
-        out.extend(low_first(&[(20, 1), (system.into(), 1), (20, 2), ((*flags).into(), 2), ((*method).into(), 2)]));
+        out.extend(low_first(&[(20, 1), (system.into(), 1), (version.into(), 2), ((*flags).into(), 2)]));
+        out.extend(low_first(&[((*method).into(), 2)]));
         out.extend(low_first(&[(0x5A21_6000, 4), ((*checksum).into(), 4), ((*packed).into(), 4), ((*size).into(), 4)]));
         out.extend(low_first(&[name, extra, comment].map(|bytes| (bytes.len() as u64, 2))));
         let place = self.listed.place.unwrap_or(place);

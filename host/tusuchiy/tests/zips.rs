@@ -516,6 +516,8 @@ fn what_is_not_read() {
     let words = "note: it is packed by method 12; 0 and 8 (deflate) are read";
     refused(of_note(|record| record.method = 12), words);
     refused(of_note(|record| record.disk = 1), "note: it is in another part");
+    let words = "note: it asks for version 46 of the format; 45 is read";
+    refused(of_note(|record| record.version = 46), words);
     let parts = "it is one of several parts";
     refused(|zip| zip.end.disks = [1, 0], parts);
     refused(|zip| zip.end.disks = [0, 1], parts);

@@ -64,7 +64,7 @@ fn stray(zip: &Zip, random: &mut Random) -> Vec<u8> {
         2 => other.write(),
         3 => other.directory(),
         4 => other.write()[..other.directory_place()].to_vec(),
-        _ => b"PK\x03\x04".to_vec(),
+        _ => random.pick(&[*b"PK\x03\x04", *b"PK\x05\x06", *b"PK\x06\x07", *b"PK\x07\x08"]).to_vec(),
     }
 }
 
@@ -82,7 +82,8 @@ pub fn change(zip: &mut Zip, random: &mut Random) {
     if zip.members.is_empty() {
         return;
     }
-    match random.below(12) {
+    match random.below(15) {
+        12..=14 => change_little(zip, random),
         0 | 1 => change_members(zip, random),
         2 | 3 => change_name(zip, random),
         4 | 5 => change_numbers(zip, random),
@@ -92,6 +93,52 @@ pub fn change(zip: &mut Zip, random: &mut Random) {
         9 => change_end(zip, random),
         10 => second_directory(zip, random),
         _ => large(zip, random),
+    }
+}
+
+/// What most programs don't mind: odd names, other systems, attributes, flags, fields and comments, in both records alike.
+fn change_little(zip: &mut Zip, random: &mut Random) {
+    const NAMES: [&str; 20] = [
+        " stops.txt",
+        "-stops.txt",
+        "@stops.txt",
+        "#U0073tops.txt",
+        "%73tops.txt",
+        "stops.txt,v",
+        "$stops.txt",
+        "`stops.txt`",
+        "{stops,routes}.txt",
+        "[st]ops.txt",
+        "!stops.txt",
+        "^stops.txt",
+        "a=stops.txt",
+        "stops .txt",
+        "~/stops.txt",
+        "+stops.txt",
+        "stops.txt'",
+        "stops.txt~",
+        "stops&routes.txt",
+        "(1)/x.txt",
+    ];
+    let (kind, name) = (random.below(7), *random.pick(&NAMES));
+    let system = *random.pick(&[0, 3, 10, 11, 14, 19]);
+    let (attributes, version) = (1 << random.below(32), *random.pick(&[0, 10, 20, 21, 45]));
+    let extra = field(*random.pick(&[0x5455, 0x000A, 0x7875, 0xCAFE]), &vec![random.bits() as u8; random.below(40)]);
+    let comment = stray(zip, random);
+    let number = random.below(zip.members.len());
+    zip.members[number].change(|record| match kind {
+        0 | 1 => record.name = name.into(),
+        2 => record.system = system,
+        3 => record.attributes ^= attributes,
+        4 => record.version = version,
+        5 => record.extra.extend(&extra),
+        _ => record.flags ^= 6,
+    });
+    if random.once_in(6) {
+        zip.members[number].listed.comment.clone_from(&comment);
+    }
+    if random.once_in(6) {
+        zip.comment = comment;
     }
 }
 
@@ -129,7 +176,7 @@ fn change_name(zip: &mut Zip, random: &mut Random) {
 
 fn change_numbers(zip: &mut Zip, random: &mut Random) {
     let number = random.below(zip.members.len());
-    let (kind, bit, by) = (random.below(10), random.below(16), *random.pick(&[1u32, 2, 4, 12, 16, u32::MAX, 1 << 16]));
+    let (kind, bit, by) = (random.below(11), random.below(16), *random.pick(&[1u32, 2, 4, 12, 16, u32::MAX, 1 << 16]));
     let (attribute, method) = (random.below(32), *random.pick(&[0, 8, 9, 12, 99]));
     change_records(&mut zip.members[number], random, |record| match kind {
         0 => record.checksum = record.checksum.wrapping_add(by),
@@ -141,6 +188,7 @@ fn change_numbers(zip: &mut Zip, random: &mut Random) {
         6 => record.attributes ^= 1 << attribute,
         7 => record.system = bit as u8,
         8 => record.place = Some(by),
+        9 => record.version = by as u16,
         _ => record.disk = 1,
     });
 }
@@ -281,10 +329,11 @@ fn large(zip: &mut Zip, random: &mut Random) {
     }
 }
 
-/// A zip file of this seed: sound, or with some changes.
-pub fn zip(seed: u64) -> Vec<u8> {
+/// A zip file of this seed, and whether it is still sound or has some changes.
+pub fn zip(seed: u64) -> (Vec<u8>, bool) {
     let mut random = Random::new(seed);
     let mut zip = habits::zip(&mut random);
+    let sound = zip.write();
     for _ in 0..*random.pick(&[0, 0, 0, 1, 1, 1, 2, 3]) {
         change(&mut zip, &mut random);
     }
@@ -293,5 +342,6 @@ pub fn zip(seed: u64) -> Vec<u8> {
         let place = random.below(bytes.len());
         bytes[place] = *random.pick(&[0, 1, 8, 0x2F, 0x50, 0x7F, 0xFF]);
     }
-    bytes
+    let is_sound = bytes == sound;
+    (bytes, is_sound)
 }

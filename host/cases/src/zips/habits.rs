@@ -85,16 +85,16 @@ fn member(writer: Writer, name: &str, random: &mut Random) -> Member {
         member.listed.comment = records(random);
     }
     if random.once_in(12) {
-        let extra = field(*random.pick(&[0x5855, 0x7855, 0x4453, 0xA11E, 0xD935]), &records(random));
+        let extra =
+            field(*random.pick(&[0x5455, 0x000A, 0x5855, 0x7855, 0x7875, 0x4453, 0xA11E, 0xD935]), &records(random));
         member.change(|record| record.extra.extend(&extra));
     }
     member
 }
 
-/// Bytes that begin as a record does, and are ASCII.
+/// Bytes that begin as a record does, but for those at the end, and are ASCII.
 fn records(random: &mut Random) -> Vec<u8> {
-    let signs = [*b"PK\x01\x02", *b"PK\x03\x04", *b"PK\x05\x06", *b"PK\x06\x06", *b"PK\x06\x07", *b"PK\x07\x08"];
-    let mut bytes = random.pick(&signs).to_vec();
+    let mut bytes = random.pick(&[*b"PK\x01\x02", *b"PK\x03\x04", *b"PK\x06\x06", *b"PK\x07\x08"]).to_vec();
     let length = *random.pick(&[0, 8, 16, 18, 26, 42]);
     bytes.extend((0..length).map(|_| *random.pick(&[0, 0, 0, 1, 0x50, 0x7F])));
     bytes

@@ -116,17 +116,25 @@ fn difference(feed: &Feed, unpacked: &Unpacked) -> Option<String> {
     (there != wanted).then(|| format!("{there} files, and not {wanted}"))
 }
 
-/// Makes zip files and keeps those that are read.
+/// Makes zip files and keeps those that are read. All that are as a writer makes them are among them, and some of the others.
 fn kept(folder: &Path, made: u64) -> BTreeMap<u64, Feed> {
     let path = folder.join("made");
     let mut feeds = BTreeMap::new();
+    let mut changed = 0;
     for seed in 0..made {
-        fs::write(&path, change::zip(seed)).expect("a file");
-        if let Ok(feed) = read(&path) {
-            fs::rename(&path, folder.join(format!("{seed}.zip"))).expect("a file");
-            feeds.insert(seed, feed);
+        let (bytes, is_sound) = change::zip(seed);
+        fs::write(&path, bytes).expect("a file");
+        match read(&path) {
+            Ok(feed) => {
+                fs::rename(&path, folder.join(format!("{seed}.zip"))).expect("a file");
+                feeds.insert(seed, feed);
+                changed += u64::from(!is_sound);
+            }
+            Err(words) => assert!(!is_sound, "seed {seed}: {words}"),
         }
     }
+    println!("{} of {made} zip files are read, {changed} of them with changes", feeds.len());
+    assert!(changed * 50 > made);
     feeds
 }
 
@@ -157,7 +165,6 @@ fn what_is_read_is_unpacked_alike_by_all() {
     let folder = Temporary::new("readers");
     let feeds = kept(&folder.0, made);
     let (seeds, count) = (feeds.keys().copied().collect::<Vec<_>>(), feeds.len());
-    assert!(count as u64 * 4 > made && (count as u64) < made, "{count} of {made} are read");
     let step = if made == MADE { count.div_ceil(ONE_BY_ONE) } else { 1 };
     let mut wrong = Vec::new();
     for (name, unpacked) in told(&folder.0, &seeds, step) {

@@ -41,6 +41,9 @@ const DEFLATED: u64 = 8;
 /// Systems whose attributes are known: DOS, Unix, Windows by its three numbers, macOS.
 const SYSTEMS: [u64; 6] = [0, 3, 10, 11, 14, 19];
 
+/// A member that asks for a later version of the format, in tenths, is left out by some.
+const MOST_VERSION: u64 = 45;
+
 /// Kinds of files on Unix, and DOS's bits for a folder, and for that, a volume's name, a device or a link.
 const KIND: u64 = 0o170_000;
 const PLAIN: u64 = 0o100_000;
@@ -271,7 +274,8 @@ impl Member {
 
 /// Says why some program would make something else of a member than a plain file, or than a folder where its name is one's.
 fn check_kind(record: &[u8], is_folder: bool) -> io::Result<()> {
-    let (system, disk, attributes) = (number(record, 5, 1), number(record, 34, 2), number(record, 38, 4));
+    let (system, version, disk) = (number(record, 5, 1), number(record, 6, 2), number(record, 34, 2));
+    let attributes = number(record, 38, 4);
     let (kind, dos) = (attributes >> 16 & KIND, attributes & DOS_KINDS);
     // Some writers have the attributes of a file for a folder, but all readers go by the slash.
     let (own_kind, own_dos) = if is_folder { (FOLDER, DOS_FOLDER) } else { (PLAIN, 0) };
@@ -281,6 +285,8 @@ fn check_kind(record: &[u8], is_folder: bool) -> io::Result<()> {
         Err(bad(format!("its attributes aren't those of a {}", if is_folder { "folder" } else { "plain file" })))
     } else if !SYSTEMS.contains(&system) {
         Err(bad(format!("the system that it was packed on isn't known ({system})")))
+    } else if version > MOST_VERSION {
+        Err(bad(format!("it asks for version {version} of the format; {MOST_VERSION} is read")))
     } else if disk != 0 {
         Err(bad("it is in another part"))
     } else {
