@@ -307,7 +307,7 @@ fn names_that_meet() {
     meet("a/X/b", "A/x/B", "A/x/B and a/X/b are one name to some programs");
     meet("a/", "A/", "A/ and a/ are one name to some programs");
     meet("a", "a/", "a and a/ are one name to some programs");
-    // bsdtar takes the file away to make the folder.
+    // Nobody can unpack both.
     meet("note", "note/x", "note is a file, and a folder in note/x");
     meet("note", "Note/y/x", "note is a file, and a folder in Note/y/x");
     refused(
