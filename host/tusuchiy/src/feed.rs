@@ -178,6 +178,18 @@ mod tests {
         }
     }
 
+    /// Wherever a folder says that it is, it is in the zip file.
+    #[test]
+    fn paths_begin_with_the_feed() {
+        let of =
+            |path: &str, folder: &str| Place { path: path.into(), is_zip: true, folder: folder.into() }.of("stops.txt");
+        assert_eq!(of("a.zip", ""), "a.zip/stops.txt");
+        assert_eq!(of("a.zip", "gtfs/"), "a.zip/gtfs/stops.txt");
+        assert_eq!(of("a.zip", "/etc/other/"), "a.zip//etc/other/stops.txt");
+        assert_eq!(of("feeds/", ""), "feeds/stops.txt");
+        assert_eq!(of("/", ""), "/stops.txt");
+    }
+
     #[test]
     fn lines_are_cut_as_the_check_cuts_them() {
         let mut files: [Option<Vec<u8>>; FILES] = Default::default();

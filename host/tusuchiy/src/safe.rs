@@ -23,7 +23,7 @@ pub fn beginning(text: &[u8], most: usize) -> (&[u8], bool) {
 pub fn name(bytes: &[u8]) -> String {
     // A character has at most four bytes, and one more may be cut.
     const NEAR: usize = 4 * (KEPT + 1);
-    if bytes.len() <= 2 * NEAR {
+    if bytes.len() <= 4 * SHOWN_NAME {
         let whole = text(bytes);
         if whole.chars().count() <= SHOWN_NAME {
             return whole;
