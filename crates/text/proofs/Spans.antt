@@ -119,6 +119,23 @@ module _ (l : List ℕ) (q i e z : ℕ) (h : Left l q i e z) where
   unfolding fieldLen fieldState
   left-over over = rw (drop-over l i over, add-zero) at h
 
+-- the table was asked for byte i, and told a state: the field has ended there, or this is left past it
+abbrev pub Asked : List ℕ → ℕ → ℕ → ℕ → ℕ → Type 0
+Asked l q i e z = (q ≡ start → (i ≡ e) × (start ≡ z)) × ((q ≡ start → ⊥) → Left l q (i + 1) e z)
+
+pub left-asked : (l : List ℕ) (q i e z : ℕ) → Left l q i e z → i < length l → (p : ℕ) → p ≡ next q (getD l i 0) → Asked l p i e z
+left-asked l q i e z h more p to = (left-end l q i e z h more p to, left-next l q i e z h more p to)
+
+-- the ways out: the field has ended, or the line has
+module _ (l : List ℕ) (q i e z : ℕ) (h : Asked l q i e z) (j : ℕ) where
+  pub out-ended : q ≡ start → j ≡ i → (j ≡ e) × (q ≡ z)
+  out-ended t m = (m ∙ h .0 t .0, t ∙ h .0 t .1)
+
+  pub out-over : q < 5 → (q ≡ start → ⊥) → (k : ℕ) → k ≡ i + 1 + toAsked q (drop (i + 1) l) → length l ≤ k → j ≡ k → (j ≡ e) × (q ≡ z)
+  out-over known on k at over m =
+      let o = left-over l q k e z (left-kept l q (i + 1) k e z known on at (h .1 on)) over in
+      (m ∙ o .0, o .1)
+
 -- a line's state is that from past a field on, in the state in which it ended: start where a comma ended it
 run-past : (q : ℕ) (r : List ℕ) → run (fieldState q r) (drop (fieldLen q r + 1) r) ≡ run q r
 unfolding run fieldLen fieldState

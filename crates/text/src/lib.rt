@@ -334,14 +334,24 @@ impl Cursor {
         if l.len() < at {
             return Step::Done;
         }
-        let mut q = START;
+        if l.len() == at {
+            return Step::Field {
+                start: at,
+                end: at,
+                next: Cursor {
+                    at: at + 1,
+                    state: START,
+                },
+            };
+        }
+        let mut q = next_state(table, START, l[at]);
         let mut i = at;
-        while i < l.len() {
-            q = next_state(table, q, l[i]);
-            if q == START {
+        while q != START {
+            i = asked_from(l, i + 1, q);
+            if l.len() <= i {
                 break;
             }
-            i = asked_from(l, i + 1, q);
+            q = next_state(table, q, l[i]);
         }
         Step::Field {
             start: at,
