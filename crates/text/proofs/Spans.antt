@@ -19,8 +19,7 @@ use Rattle.text.specs.declared.Cursor.{Cursor}
 use Rattle.text.specs.declared.Step.the-variants.{Field}
 use Rattle.meaning.proofs.ListLaws.{both}
 use Rattle.text.proofs.Laws.{drop-next, drop-over}
-use Rattle.text.proofs.Lines.{first-stands}
-use Rattle.text.proofs.Fields.{next-lt, from-start, from-step, from-over, field-found, field-moved, end-within}
+use Rattle.text.proofs.Fields.{next-lt, from-start, from-step, from-over, field-found, field-moved}
 
 -- a byte above the comma is neither comma nor mark
 pub above-breaks : (b : ℕ) → 44 < b → false ≡ isBreak b

@@ -3,7 +3,7 @@ use Rattle.text.proofs.Fields.{from-start, field-found, field-none}
 use Rattle.text.proofs.Spans.{note-length, Told, told-first, told-next, told-last, told-rest, count-first, count-on, count-last, count-rest, note-on, note-last, note-rest, up-some}
 use Rattle.text.specs.Fields.{fieldsFrom, pastEnds}
 use Rattle.meaning.specs.Bytes.{quoting, fields}
-use mathlib.Core.Path.{_≡_, refl, sym, ap, _∙_}
+use mathlib.Core.Path.{_≡_, refl, sym, _∙_}
 use Prim.Native.Nat.{_≤_, _-_, _+_}
 use native.Mathlib.Omega.{arith}
 use lib.ListN.{length, take}
