@@ -5,3 +5,4 @@ pub mod Speaks
 pub mod Wholes
 pub mod Heads
 pub mod Files
+pub mod Dated

@@ -2,3 +2,4 @@
 pub mod Tests
 pub mod Heads
 pub mod Wholes
+pub mod Dated

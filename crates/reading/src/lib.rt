@@ -18,7 +18,7 @@ use text::LineStep;
 use text::Measured;
 ghost use mathlib.Core.Path.{_≡_};
 ghost use mathlib.Core.Bool.{not, _&&_};
-ghost use mathlib.Core.List.{List, [], _∷_, map};
+ghost use mathlib.Core.List.{List, map};
 ghost use Prim.Native.Nat.{ℕ, _*_, _<_, _≤_};
 ghost use lib.Dec.{ltb};
 ghost use lib.ListN.{length};
@@ -506,59 +506,30 @@ fn order(wholes: [[bool; 4]; 6]) -> Verdict
 }
 
 // Rules 1 to 4 over the files, by their LF counts.
-fn read_wholes(
-    s1: &[u8],
-    s2: &[u8],
-    s3: &[u8],
-    s4: &[u8],
-    s5: &[u8],
-    s6: &[u8],
-    rooms: [usize; 6],
-    counts: [usize; 6],
-) -> Verdict
-    requires { ⌜ counts ≡ map countLf (now s1 ∷ now s2 ∷ now s3 ∷ now s4 ∷ now s5 ∷ now s6 ∷ []) ⌝ }
-    ensures { λ r. ⌜ r ≡ speaks (wholeClaims (wholesOf (now (s1 .entry) ∷ now (s2 .entry) ∷ now (s3 .entry) ∷ now (s4 .entry) ∷ now (s5 .entry) ∷ now (s6 .entry) ∷ []) rooms)) ⌝ }
+fn read_wholes(files: [&[u8]; 6], rooms: [usize; 6], counts: [usize; 6]) -> Verdict
+    requires { ⌜ counts ≡ map countLf (map now files) ⌝ }
+    ensures { λ r. ⌜ r ≡ speaks (wholeClaims (wholesOf (map now (files .entry)) rooms)) ⌝ }
 {
-    let dated = s6.len() != 0;
-    order([
-        whole_of(1, s1, counts[0], rooms[0], dated),
-        whole_of(2, s2, counts[1], rooms[1], dated),
-        whole_of(3, s3, counts[2], rooms[2], dated),
-        whole_of(4, s4, counts[3], rooms[3], dated),
-        whole_of(5, s5, counts[4], rooms[4], dated),
-        whole_of(6, s6, counts[5], rooms[5], dated),
-    ])
+    let dated = files[5].len() != 0;
+    let mut wholes = [[false; 4]; 6];
+    let mut i: usize = 0;
+    while i < 6 {
+        wholes[i] = whole_of(i + 1, files[i], counts[i], rooms[i], dated);
+        i += 1;
+    }
+    order(wholes)
 }
 
 // Can the six files, which have so many LF bytes each, be read into tables of these lengths? If not, the first broken rule with its file, line and column.
-pub fn verdict(
-    stops: &[u8],
-    routes: &[u8],
-    calendar: &[u8],
-    trips: &[u8],
-    stop_times: &[u8],
-    dates: &[u8],
-    rooms: [usize; 6],
-    counts: [usize; 6],
-) -> Verdict
-    requires { ⌜ counts ≡ map countLf (now stops ∷ now routes ∷ now calendar ∷ now trips ∷ now «stop_times» ∷ now dates ∷ []) ⌝ }
-    ensures { λ r. ⌜ r ≡ verdictOf (now (stops .entry) ∷ now (routes .entry) ∷ now (calendar .entry) ∷ now (trips .entry) ∷ now («stop_times» .entry) ∷ now (dates .entry) ∷ []) rooms ⌝ }
+pub fn verdict(files: [&[u8]; 6], rooms: [usize; 6], counts: [usize; 6]) -> Verdict
+    requires { ⌜ counts ≡ map countLf (map now files) ⌝ }
+    ensures { λ r. ⌜ r ≡ verdictOf (map now (files .entry)) rooms ⌝ }
 {
-    let v = read_wholes(
-        stops,
-        routes,
-        calendar,
-        trips,
-        stop_times,
-        dates,
-        rooms,
-        counts,
-    );
-    // A call for each file: slices of several lifetimes can't stand in one array.
-    let v = read_on(v, 1, stops);
-    let v = read_on(v, 2, routes);
-    let v = read_on(v, 3, calendar);
-    let v = read_on(v, 4, trips);
-    let v = read_on(v, 5, stop_times);
-    read_on(v, 6, dates)
+    let mut v = read_wholes(files, rooms, counts);
+    let mut i: usize = 0;
+    while i < 6 {
+        v = read_on(v, i + 1, files[i]);
+        i += 1;
+    }
+    v
 }
