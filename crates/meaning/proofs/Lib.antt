@@ -1,6 +1,7 @@
 -- Theorems about the definitions, a file for each promise.
 pub mod Computed
 pub mod ListLaws
+pub mod Arrays
 pub mod Tests
 pub mod Laws
 pub mod Digits

@@ -94,5 +94,5 @@ fn unread(folder: &Path) -> Unread {
 
 /// What stands in the way of reading a path.
 pub fn cannot(path: &Path, why: &str) -> String {
-    format!("can't read {}: {why}", safe::text(path.as_os_str().as_bytes()))
+    format!("can't read {}: {why}", safe::name(path.as_os_str().as_bytes()))
 }

@@ -69,7 +69,7 @@ fn must_be_folder(path: &Path) -> Result<(), String> {
         Ok(_) => "it isn't a folder".to_string(),
         Err(error) => error.to_string(),
     };
-    Err(format!("can't use {} as --output: {why}", safe::text(path.as_os_str().as_bytes())))
+    Err(format!("can't use {} as --output: {why}", safe::name(path.as_os_str().as_bytes())))
 }
 
 /// Prints what was done for a feed, and gives its exit status.
@@ -125,7 +125,7 @@ fn write_all(asked: &Asked, feed: &Feed) -> Result<[Outcome; FILES.len()], Strin
     let path = &feed.place.path;
     let folder = match &asked.output {
         None if feed.place.is_zip => {
-            let path = safe::text(path.as_os_str().as_bytes());
+            let path = safe::name(path.as_os_str().as_bytes());
             return Err(format!("can't write beside the files in {path}: unpack it, or name a folder with --output"));
         }
         output => output.as_ref().unwrap_or(path),
@@ -137,7 +137,7 @@ fn write(feed: &Feed, file: File, path: &Path) -> Result<Outcome, String> {
     if feed.left_out(file) && fs::symlink_metadata(path).is_err() {
         return Ok(Outcome::NotSupplied);
     }
-    let cannot = |why: String| format!("can't write {}: {why}", safe::text(path.as_os_str().as_bytes()));
+    let cannot = |why: String| format!("can't write {}: {why}", safe::name(path.as_os_str().as_bytes()));
     match index::of(file, feed.bytes(file)).map_err(|error| cannot(error.to_string()))? {
         Ok(index) => {
             whole::put(path, &index).map_err(|error| cannot(error.to_string())).map(|()| Outcome::Good(index.len()))
@@ -200,7 +200,7 @@ impl Done<'_> {
 
     /// The path of an index, safe to print.
     fn path(&self, name: &str) -> String {
-        let of_output = |folder: &PathBuf| safe::text(folder.join(name).as_os_str().as_bytes());
+        let of_output = |folder: &PathBuf| safe::name(folder.join(name).as_os_str().as_bytes());
         self.asked.output.as_ref().map_or_else(|| self.feed.place.of(name), of_output)
     }
 }
