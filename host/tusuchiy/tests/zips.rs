@@ -363,7 +363,7 @@ fn fields_behind_a_name() {
         refused(|zip| zip.members[0].local.extra = field(kind, &[0; 12]), &words);
         refused(|zip| zip.members[0].listed.extra = field(kind, &[0; 12]), &words);
     }
-    for extra in [&[0x55][..], &[0x55, 0x54, 9], &[0x55, 0x54, 9, 0, 1]] {
+    for extra in [&[0x55][..], &[0x55, 0x54, 9], &[0x55, 0x54, 9, 0, 1], &[0x55, 0x54, 0, 0]] {
         let words = "stops.txt: the fields behind its name are damaged";
         refused(|zip| zip.members[0].local.extra = extra.to_vec(), words);
         refused(|zip| zip.members[0].listed.extra = extra.to_vec(), words);

@@ -109,11 +109,11 @@ fn difference(feed: &Feed, unpacked: &Unpacked) -> Option<String> {
     };
     let folder = &feed.place.folder;
     let of_name = |name: &str| files.get(&[folder, name.as_bytes()].concat()).map(|bytes| &bytes[..]);
-    let differs = |number: &usize| of_name(NAMES[*number]) != feed.files[*number].as_deref();
+    let differs = |number: &usize| of_name(NAMES[*number]) != feed.supplied()[*number];
     if let Some(number) = (0..NAMES.len()).find(differs) {
         return Some(format!("{} differs", NAMES[number]));
     }
-    let wanted = feed.files.iter().flatten().count() + feed.unread.count;
+    let wanted = feed.supplied().iter().flatten().count() + feed.unread.count;
     let there = files.keys().filter(|name| name.starts_with(folder)).count();
     (there != wanted).then(|| format!("{there} files, and not {wanted}"))
 }
