@@ -304,7 +304,7 @@ fn check_extra(extra: &[u8]) -> io::Result<()> {
         let field = take(&mut rest, number(head, 2, 2) as usize).ok_or_else(damaged)?;
         match number(head, 0, 2) {
             LARGE_FIELD => return Err(bad(LARGE)),
-            // Without any times bsdtar leaves the member out.
+            // On one without any times bsdtar fails.
             TIMES_FIELD if field.is_empty() => return Err(damaged()),
             NAME_FIELD => {
                 // A version and a checksum stand before it.
