@@ -96,6 +96,23 @@ one-refusal r s e = λ i. record { number = at 0 i; file = at 1 i; line = at 2 i
     at : (k : ℕ) → getD (saysUnreadable s) k 0 ≡ getD (saysUnreadable r) k 0
     at k = ap (λ (ns : List ℕ). getD ns k 0) e
 
+-- a verdict by its numbers
+pub said-refused : (v : Verdict) (r : Refusal) → verdictNumbers v ≡ saysUnreadable r ↔ v ≡ Unreadable r
+unfolding verdictNumbers
+said-refused v r = (go v, λ e. rw e)
+  where
+    go : (v : Verdict) → verdictNumbers v ≡ saysUnreadable r → v ≡ Unreadable r
+    go Readable e = let z : _≡_ {A = ℕ} 0 1 = cc in absurd (omega arith)
+    go (Unreadable q) e = ap Unreadable (one-refusal r q e)
+
+pub said-readable : (v : Verdict) → verdictNumbers v ≡ saysReadable ↔ v ≡ Readable
+unfolding verdictNumbers
+said-readable v = (go v, λ e. rw e)
+  where
+    go : (v : Verdict) → verdictNumbers v ≡ saysReadable → v ≡ Readable
+    go Readable e = refl
+    go (Unreadable q) e = let z : _≡_ {A = ℕ} 0 1 = cc in absurd (omega arith)
+
 module _ (files : List (List ℕ)) (rooms : List ℕ) where
   -- The refusal is the first broken claim, and the first broken claim is the refusal.
   pub first-broken : (r : Refusal) → verdictOf files rooms ≡ Unreadable r ↔ FirstBroken (claims files rooms) r
@@ -108,32 +125,16 @@ module _ (files : List (List ℕ)) (rooms : List ℕ) where
   readable-exactly = silent-none (claims files rooms)
 
   -- The verdict in its numbers.
-  numbers-refused : (r : Refusal) → verdictNumbers (verdictOf files rooms) ≡ saysUnreadable r ↔ verdictOf files rooms ≡ Unreadable r
-  unfolding verdictNumbers
-  numbers-refused r = (go (verdictOf files rooms), λ e. rw e)
-    where
-      go : (v : Verdict) → verdictNumbers v ≡ saysUnreadable r → v ≡ Unreadable r
-      go Readable e = let z : _≡_ {A = ℕ} 0 1 = cc in absurd (omega arith)
-      go (Unreadable q) e = ap Unreadable (one-refusal r q e)
-
-  numbers-readable : verdictNumbers (verdictOf files rooms) ≡ saysReadable ↔ verdictOf files rooms ≡ Readable
-  unfolding verdictNumbers
-  numbers-readable = (go (verdictOf files rooms), λ e. rw e)
-    where
-      go : (v : Verdict) → verdictNumbers v ≡ saysReadable → v ≡ Readable
-      go Readable e = refl
-      go (Unreadable q) e = let z : _≡_ {A = ℕ} 0 1 = cc in absurd (omega arith)
-
   pub verdict-said : VerdictSaid files rooms
   verdict-said = record {
-    refused = λ r. (λ e. first-broken r .0 (numbers-refused r .0 e), λ f. numbers-refused r .1 (first-broken r .1 f));
-    readable = (λ e. readable-exactly .0 (numbers-readable .0 e), λ n. numbers-readable .1 (readable-exactly .1 n));
+    refused = λ r. (λ e. first-broken r .0 (said-refused (verdictOf files rooms) r .0 e), λ f. said-refused (verdictOf files rooms) r .1 (first-broken r .1 f));
+    readable = (λ e. readable-exactly .0 (said-readable (verdictOf files rooms) .0 e), λ n. said-readable (verdictOf files rooms) .1 (readable-exactly .1 n));
     either = go (verdictOf files rooms) refl;
   }
     where
       go : (v : Verdict) → verdictOf files rooms ≡ v → RefusedBy files rooms ⊎ (verdictNumbers (verdictOf files rooms) ≡ saysReadable)
-      go Readable e = inr (numbers-readable .1 e)
-      go (Unreadable r) e = inl (record { told = r; verdict = numbers-refused r .1 e })
+      go Readable e = inr (said-readable (verdictOf files rooms) .1 e)
+      go (Unreadable r) e = inl (record { told = r; verdict = said-refused (verdictOf files rooms) r .1 e })
 
   -- A feed is refused exactly when some claim is broken.
   pub refused-exactly : RefusedBy files rooms ↔ SomeBroken (claims files rooms)
@@ -146,4 +147,4 @@ module _ (files : List (List ℕ)) (rooms : List ℕ) where
       back s Readable e =
           let none : s .which .broken ≡ false = readable-exactly .0 e (s .which) (s .among) in
           let z : _≡_ {A = ℕ} 0 1 = cc in absurd (omega arith)
-      back s (Unreadable r) e = record { told = r; verdict = numbers-refused r .1 e }
+      back s (Unreadable r) e = record { told = r; verdict = said-refused (verdictOf files rooms) r .1 e }
