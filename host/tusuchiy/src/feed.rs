@@ -69,7 +69,7 @@ impl Place {
 pub struct Feed {
     pub place: Place,
     pub unread: Unread,
-    pub files: [Option<Vec<u8>>; FILES],
+    files: [Option<Vec<u8>>; FILES],
     ends: [Vec<u32>; FILES],
     counts: [usize; FILES],
 }
@@ -90,6 +90,12 @@ impl Feed {
     /// The six files as the check takes them: one that isn't there has no bytes.
     pub fn slices(&self) -> [&[u8]; FILES] {
         self.files.each_ref().map(|file| file.as_deref().unwrap_or(&[]))
+    }
+
+    /// The files that are there.
+    #[cfg(test)]
+    pub fn supplied(&self) -> [Option<&[u8]>; FILES] {
+        self.files.each_ref().map(Option::as_deref)
     }
 
     /// Is it without any bytes, as the check lets it be?
