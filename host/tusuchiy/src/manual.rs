@@ -233,8 +233,12 @@ pub fn man() -> String {
 pub fn complete_bash() -> String {
     let words = |flags: &[Flag]| flags.iter().map(|flag| format!("--{}", flag.long)).collect::<Vec<_>>().join(" ");
     let reply = |words: &str| format!("COMPREPLY=($(compgen -W '{words}' -- \"$word\"))");
-    let values = all_flags().filter(|flag| !flag.choices.is_empty());
-    let values = values.map(|flag| format!("        --{}) {}; return ;;\n", flag.long, reply(&flag.choices.join(" "))));
+    // Several commands have an option with the same choices, which is asked about once.
+    let mut values: Vec<&Flag> = all_flags().filter(|flag| !flag.choices.is_empty()).collect();
+    values.sort_by_key(|flag| flag.long);
+    values.dedup_by_key(|flag| flag.long);
+    let values =
+        values.iter().map(|flag| format!("        --{}) {}; return ;;\n", flag.long, reply(&flag.choices.join(" "))));
     let verbs = VERBS.iter().map(|verb| {
         let all = format!("{} {}", words(verb.flags), words(FLAGS));
         format!("        {}) [[ $word == -* ]] && {} ;;\n", verb.name, reply(all.trim_start()))
