@@ -263,7 +263,7 @@ fn a_fault_is_no_verdict_and_has_its_words() {
         return;
     }
     let folder = many_findings("ends-fault");
-    for signal in ["ABRT", "BUS", "FPE", "ILL", "SEGV"] {
+    for signal in ["ABRT", "BUS", "FPE", "ILL", "SEGV", "XCPU"] {
         let mut child = command();
         // Nobody reads, so that it waits in the middle of its document.
         let child =
@@ -273,7 +273,9 @@ fn a_fault_is_no_verdict_and_has_its_words() {
         kill(&child, signal);
         let output = child.wait_with_output().expect("an end");
         assert_eq!(output.status.code(), Some(3), "{signal}");
-        assert_eq!(said(&output), format!("tusuchiy: {FAULT}, not of the feed: SIG{signal}\n"));
+        let fault = format!("tusuchiy: {FAULT}, not of the feed: SIG{signal}\n");
+        let wanted = if signal == "XCPU" { "tusuchiy: the time that the system allows is used up\n" } else { &fault };
+        assert_eq!(said(&output), wanted);
     }
 }
 
