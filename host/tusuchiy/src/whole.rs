@@ -33,7 +33,10 @@ struct Beside<'a> {
 
 /// All of them, each as the number of its folder's descriptor, its own behind it, and 0 where there is none: what ends the command finds them
 /// here, without memory or a lock. There are as many as threads can be at work.
-static NOTED: [AtomicU64; 256] = [const { AtomicU64::new(0) }; 256];
+static NOTED: [AtomicU64; 256] = {
+    const NONE: AtomicU64 = AtomicU64::new(0);
+    [NONE; 256]
+};
 
 impl<'a> Beside<'a> {
     /// A new file under a hidden name that nothing has yet.

@@ -123,6 +123,9 @@ fn many_faults_with_little_memory() {
 /// One trip of as many lines as there can be, each before the one before it: its picture takes little, and a report no more than a check.
 #[test]
 fn a_report_takes_no_more_than_a_check() {
+    if emulated() {
+        return;
+    }
     let folder = Folder::new("ends-trip");
     let time = |second: usize| format!("{:02}:{:02}:{:02}", second / 3600, second / 60 % 60, second % 60);
     let call = |line: usize| format!("B7-out-1,{0},{0},HILL,{line},{1}\n", time(200_000 - line), "x".repeat(200));

@@ -242,7 +242,7 @@ fn a_link_that_moves() {
                 [other, one].iter().for_each(|name| link(name));
             }
         });
-        let outputs = (0..150).map(|_| run(&["check", &folder.at("feed")])).collect();
+        let outputs = (0..60).map(|_| run(&["check", &folder.at("feed")])).collect();
         over.store(true, Ordering::Relaxed);
         outputs
     });

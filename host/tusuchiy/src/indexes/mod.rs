@@ -14,7 +14,7 @@ use crate::refusals::Reasons;
 use crate::style::{self, Style, When};
 use crate::{many, safe, source, whole, zip, REFUSED};
 use std::ffi::OsStr;
-use std::io::{ErrorKind, Write};
+use std::io::Write;
 use std::os::unix::ffi::OsStrExt;
 use std::path::{Path, PathBuf};
 use tusuchiy::index::{self, Refused, ENTRY, FILES, HEAD};
@@ -67,8 +67,8 @@ fn done<'a>(asked: &'a Asked, path: &Path) -> Result<Done<'a>, String> {
 /// A folder that isn't there is a slip of the user's, and not one without indexes.
 fn must_be_folder(path: &Path) -> Result<Folder, String> {
     Folder::open(path).map_err(|error| {
-        let why =
-            if error.kind() == ErrorKind::NotADirectory { "it isn't a folder".to_string() } else { error.to_string() };
+        let is_other = error.raw_os_error() == Some(libc::ENOTDIR);
+        let why = if is_other { "it isn't a folder".to_string() } else { error.to_string() };
         format!("can't use {} as --output: {why}", safe::text(path.as_os_str().as_bytes()))
     })
 }
