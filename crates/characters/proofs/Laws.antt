@@ -4,9 +4,9 @@ use native.Mathlib.Numerals.{add-one}
 use native.Mathlib.Omega.{arith}
 use mathlib.Core.Path.{_≡_, refl, sym, _∙_}
 use mathlib.Core.Bool.{Bool, true, false, cond, not, _&&_}
-use mathlib.Core.List.{List, [], _∷_}
+use mathlib.Core.List.{List, [], _∷_, _++_}
 use lib.Dec.{leb, ltb, eqb}
-use lib.ListN.{length, getD, drop}
+use lib.ListN.{length, getD, take, drop, take-append-drop}
 use lib.Seq.{drop-drop}
 use borrow.Author.Tests.{leb-true, leb-false, eqb-true, ltb-true, ltb-false, lt-ltb, le-ltb, le-leb, lt-leb, ne-eqb}
 use Rattle.meaning.specs.Characters.{Range, _to_, sequences, within, begun, awaited, awaitedAfter, wellFormed}
@@ -168,6 +168,61 @@ module _ (s : List ℕ) (i : ℕ) (k : Bool) (inv : plain (drop i s) ≡ k) wher
   pub plain-over : length s ≤ i → true ≡ k
   unfolding plain
   plain-over over = rw (drop-over s i over) at inv
+
+-- the same where no byte is left out
+pub plain-one : (b : ℕ) → (leb 0x20 b && ltb b 0x80) ≡ plain (b ∷ [])
+unfolding plain
+plain-one b = go (ltb b 0x20) refl (leb 0x80 b) refl
+  where
+    go : (t : Bool) → ltb b 0x20 ≡ t → (u : Bool) → leb 0x80 b ≡ u → (leb 0x20 b && ltb b 0x80) ≡ cond t false (cond u false true)
+    go true t u q = rw (lt-leb 0x20 b (ltb-true b 0x20 t))
+    go false t true q = rw (le-leb 0x20 b (ltb-false b 0x20 t), le-ltb b 0x80 (leb-true 0x80 b q))
+    go false t false q = rw (le-leb 0x20 b (ltb-false b 0x20 t), lt-ltb b 0x80 (leb-false 0x80 b q))
+
+plain-cons : (b : ℕ) (r : List ℕ) → plain (b ∷ r) ≡ (plain (b ∷ []) && plain r)
+unfolding plain
+plain-cons b r = go (ltb b 0x20) (leb 0x80 b)
+  where
+    go : (t u : Bool) → cond t false (cond u false (plain r)) ≡ (cond t false (cond u false true) && plain r)
+    go true u = refl
+    go false true = refl
+    go false false = refl
+
+pub plain-turn : (s : List ℕ) (i : ℕ) → i < length s → (t u v k : Bool) → v ≡ plain (getD s i 0 ∷ []) → u ≡ (t && v) → (t && plain (drop i s)) ≡ k → (u && plain (drop (i + 1) s)) ≡ k
+plain-turn s i more t u v k p e inv = rw (e, p) (go t (rw (drop-next s i more, plain-cons (getD s i 0) (drop (i + 1) s)) at inv))
+  where
+    one : Bool
+    one = plain (getD s i 0 ∷ [])
+
+    go : (t : Bool) → (t && (one && plain (drop (i + 1) s))) ≡ k → ((t && one) && plain (drop (i + 1) s)) ≡ k
+    go true q = q
+    go false q = q
+
+pub plain-all : (s : List ℕ) (i : ℕ) → length s ≤ i → (t k : Bool) → (t && plain (drop i s)) ≡ k → t ≡ k
+unfolding plain
+plain-all s i over t k inv = go t (rw (drop-over s i over) at inv)
+  where
+    go : (t : Bool) → (t && true) ≡ k → t ≡ k
+    go true q = q
+    go false q = q
+
+-- bytes that are plain may be passed over
+plain-past : (a b : List ℕ) → plain a ≡ true → plain (a ++ b) ≡ plain b
+unfolding plain
+plain-past [] b e = refl
+plain-past (x ∷ a) b e = go (ltb x 0x20) (leb 0x80 x) e (plain-past a b)
+  where
+    go : (t u : Bool) → cond t false (cond u false (plain a)) ≡ true → (plain a ≡ true → plain (a ++ b) ≡ plain b) → cond t false (cond u false (plain (a ++ b))) ≡ plain b
+    go true u q rest = both false q refl
+    go false true q rest = both false q refl
+    go false false q rest = rest q
+
+pub plain-block : (s : List ℕ) (i e : ℕ) → i ≤ e → (t k : Bool) → t ≡ plain (take (e - i) (drop i s)) → not t ≡ false → plain (drop i s) ≡ k → plain (drop e s) ≡ k
+plain-block s i e h true k p q inv =
+    let n : i + (e - i) ≡ e = omega arith in
+    let r = drop i s in
+    rw (← n, ← drop-drop (e - i) i s) (sym (plain-past (take (e - i) r) (drop (e - i) r) (sym p)) ∙ rw (take-append-drop (e - i) r) inv)
+plain-block s i e h false k p q inv = both true refl q
 
 -- a plain line has no stray byte, and is ASCII
 plain-is : (l : List ℕ) → plain l ≡ true → (rule5 l ≡ false) × (toHigh l ≡ length l)

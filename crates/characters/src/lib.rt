@@ -1,7 +1,7 @@
 // Characters: is a line well-formed UTF-8? One walk along it, by the Unicode standard's table of byte sequences.
 ghost use mathlib.Core.Path.{_≡_};
-ghost use mathlib.Core.Bool.{not};
-ghost use mathlib.Core.List.{[]};
+ghost use mathlib.Core.Bool.{not, _&&_};
+ghost use mathlib.Core.List.{[], _∷_};
 ghost use Prim.Native.Nat.{_+_, _<_, _≤_};
 ghost use lib.Dec.{eqb};
 ghost use lib.ListN.{length, drop};
@@ -97,11 +97,55 @@ pub fn is_ill_formed(l: &[u8]) -> bool
     awaits_more(l, at)
 }
 
+// Do both of two tests hold? Both are made, so that the compiler can make many at once.
+fn both(a: bool, b: bool) -> bool
+    ensures { λ r. ⌜ r ≡ (a && b) ⌝ }
+{
+    a && b
+}
+
+// Is a byte one of 20 to 7F?
+fn is_plain_byte(b: u8) -> bool
+    ensures { λ r. ⌜ r ≡ plain (b ∷ []) ⌝ }
+{
+    both(0x20 <= b, b < 0x80)
+}
+
+// Is each of these bytes one of 20 to 7F? No byte is left out, so that the compiler looks at many at once.
+fn all_plain(s: &[u8]) -> bool
+    ensures { λ r. ⌜ r ≡ plain (now (s .entry)) ⌝ }
+{
+    let mut all = true;
+    let mut i = 0;
+    while i < s.len() {
+        all = both(all, is_plain_byte(s[i]));
+        i += 1;
+    }
+    all
+}
+
+// A byte of a line that only such bytes stand before, sixteen a turn: one of the sixteen from there on is another, or fewer are left.
+fn past_plain(l: &[u8]) -> usize
+    ensures { λ r. ⌜ (plain (drop r (now (l .entry))) ≡ plain (now (l .entry))) × (r ≤ length (now (l .entry))) ⌝ }
+{
+    let mut i = 0;
+    while i < l.len() {
+        if l.len() - i < 16 {
+            return i;
+        }
+        if !all_plain(&l[i..i + 16]) {
+            return i;
+        }
+        i += 16;
+    }
+    i
+}
+
 // Is every byte of a line one of 20 to 7F? Then it breaks neither rule 5 nor rule 14, told by one walk.
 pub fn is_plain(l: &[u8]) -> bool
     ensures { λ r. ⌜ r ≡ plain (now (l .entry)) ⌝ }
 {
-    let mut i = 0;
+    let mut i = past_plain(l);
     while i < l.len() {
         let b = l[i];
         if b < 0x20 {

@@ -303,13 +303,13 @@ fn given<'a>(file: &'a [u8], standard: &'a [u8]) -> &'a [u8] {
 }
 
 // The check of six files with tables as lent, and the table that is asked for.
-fn check_files(
-    stops: &[u8],
-    routes: &[u8],
-    calendar: &[u8],
-    trips: &[u8],
-    stop_times: &[u8],
-    calendar_dates: &[u8],
+fn check_files<'a>(
+    stops: &'a [u8],
+    routes: &'a [u8],
+    calendar: &'a [u8],
+    trips: &'a [u8],
+    stop_times: &'a [u8],
+    calendar_dates: &'a [u8],
     list: &mut [i32],
     from: Place,
     asked: Profile,
@@ -322,12 +322,7 @@ fn check_files(
     let mut stop_times_table = [LENT; 256];
     let mut calendar_dates_table = [LENT; 256];
     let a = tusuchiy::check(
-        stops,
-        routes,
-        calendar,
-        trips,
-        stop_times,
-        calendar_dates,
+        [stops, routes, calendar, trips, stop_times, calendar_dates],
         &mut stops_table,
         &mut routes_table,
         &mut calendar_table,
@@ -351,13 +346,13 @@ fn check_files(
 }
 
 // The same, with the standard files for those that aren't given.
-fn check_given(
-    stops: &[u8],
-    routes: &[u8],
-    calendar: &[u8],
-    trips: &[u8],
-    stop_times: &[u8],
-    calendar_dates: &[u8],
+fn check_given<'a>(
+    stops: &'a [u8],
+    routes: &'a [u8],
+    calendar: &'a [u8],
+    trips: &'a [u8],
+    stop_times: &'a [u8],
+    calendar_dates: &'a [u8],
     list: &mut [i32],
     from: Place,
     asked: Profile,

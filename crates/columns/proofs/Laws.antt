@@ -7,60 +7,20 @@ use native.Mathlib.Omega.{arith}
 use native.Mathlib.Numerals.{add-one}
 use native.Mathlib.Nat.{not-suc-le-zero}
 use lib.Dec.{eqb, ltb}
-use lib.ListN.{length, getD, drop, set, replicate, length-drop, List·getD-eq-default, List·getD-map, length-map}
-use lib.Seq.{getD-drop, drop-drop}
+use lib.ListN.{length, getD, take, drop, set, replicate, length-take, length-drop, List·getD-eq-default, List·getD-map, length-map}
+use lib.Seq.{getD-drop, getD-take, drop-drop}
 use borrow.Author.Tests.{eq-eqb, ne-eqb, eqb-true, eqb-false, lt-ltb, le-ltb, ltb-true, ltb-false}
 use Rattle.meaning.specs.declared.Bounds.{Bounds}
-use Rattle.meaning.specs.Lists.{same, some, place, find, findAgain, lesser, least}
-use Rattle.meaning.specs.Bytes.{bounds, part, value, fields, values}
+use Rattle.meaning.specs.Lists.{same, some, place, find}
+use Rattle.meaning.specs.Bytes.{bounds, part, value, fields}
 use Rattle.meaning.specs.Columns.{schema, columnOf, countOf, places, fieldAt, cell, rowOf}
 use Rattle.meaning.specs.Refusals.{rule9}
 use Rattle.meaning.proofs.Columns.{row-at}
-use Rattle.text.specs.Fields.{fieldsFrom, valuesFrom, pastEnds, FieldStands}
-use Rattle.text.proofs.Fields.{from-over, from-start, values-over, values-start, field-inside, fields-begin, fields-adjoin}
+use Rattle.text.specs.Fields.{fieldsFrom, pastEnds, FieldStands}
+use Rattle.text.proofs.Fields.{from-over, from-start, field-inside, fields-begin, fields-adjoin}
 use Rattle.text.proofs.Spans.{past-length, past-before, past-at}
 use Rattle.schema.proofs.Laws.{count-le}
 use Rattle.columns.specs.Columns.{tab, placesOf, lacking, noted, startsOf, endsOf, fieldBy, Noted, rowIn}
-
--- a turn along the fields of a header: the test of this field's value, and what is left
-module _ (name h : List ℕ) (at a e m : ℕ) (stands : FieldStands h at a e m) (t : Bool) (test : t ≡ same (value (part h (bounds a e))) name) (n r : ℕ) where
-  pub find-here : find name n (valuesFrom h at) ≡ r → t ≡ true → n ≡ r
-  unfolding find place
-  find-here inv q = rw (stands .values, ← test, q) at inv
-
-  pub find-next : find name n (valuesFrom h at) ≡ r → t ≡ false → find name (n + 1) (valuesFrom h m) ≡ r
-  unfolding find place
-  find-next inv q = rw (stands .values, ← test, q) at inv
-
-  pub again-here : findAgain name n (valuesFrom h at) ≡ r → t ≡ true → find name (n + 1) (valuesFrom h m) ≡ r
-  unfolding findAgain
-  again-here inv q = rw (stands .values, ← test, q) at inv
-
-  pub again-next : findAgain name n (valuesFrom h at) ≡ r → t ≡ false → findAgain name (n + 1) (valuesFrom h m) ≡ r
-  unfolding findAgain
-  again-next inv q = rw (stands .values, ← test, q) at inv
-
-pub find-over : (name h : List ℕ) (at n r : ℕ) → length h < at → find name n (valuesFrom h at) ≡ r → 0 ≡ r
-unfolding find place
-find-over name h at n r g inv = rw (values-over h at g) at inv
-
-pub again-over : (name h : List ℕ) (at n r : ℕ) → length h < at → findAgain name n (valuesFrom h at) ≡ r → 0 ≡ r
-unfolding findAgain
-again-over name h at n r g inv = rw (values-over h at g) at inv
-
-pub find-first : (name h : List ℕ) (at : ℕ) → at ≡ 0 → find name 1 (valuesFrom h at) ≡ find name 1 (values h)
-find-first name h at e = rw (e, values-start h)
-
-pub again-first : (name h : List ℕ) (at : ℕ) → at ≡ 0 → findAgain name 1 (valuesFrom h at) ≡ findAgain name 1 (values h)
-again-first name h at e = rw (e, values-start h)
-
--- one number more
-pub least-next : (g : ℕ → ℕ) (k c x r : ℕ) → c ≡ least g k → x ≡ g k → r ≡ lesser c x → r ≡ least g (k + 1)
-unfolding least
-least-next g k c x r e p q = rw (add-one k, q, e, p)
-
-pub least-last : (g : ℕ → ℕ) (k c n : ℕ) → c ≡ least g k → k ≡ n → c ≡ least g n
-least-last g k c n e p = rw (← p) e
 
 -- a loop over numbers, for a test that holds of some
 module _ (P : ℕ → Bool) (k n : ℕ) (r : Bool) (inv : some P k (n - k) ≡ r) where
@@ -127,6 +87,16 @@ places-at f header k =
     let z : 0 + k ≡ k = omega arith in
     rw z at (tab-at (λ k. getD (places f header) k 0) 0 (countOf f) 10 k (count-le f)
     (λ i b. let y : 0 + i ≡ i = omega arith in rw y (place-none f i header b)))
+
+tab-wide : (g : ℕ → ℕ) (j n w : ℕ) → length (tab g j n w) ≡ w
+unfolding tab
+tab-wide g j n zero = refl
+tab-wide g j zero (suc w) = ap suc (tab-wide g j zero w)
+tab-wide g j (suc n) (suc w) = ap suc (tab-wide g (j + 1) n w)
+
+pub places-ten : (f : ℕ) (header : List (List ℕ)) → length (placesOf f header) ≡ 10
+unfolding placesOf
+places-ten f header = tab-wide _ 0 (countOf f) 10
 
 pub lacking-is : (f : ℕ) (header : List (List ℕ)) → lacking f (placesOf f header) ≡ rule9 f header
 unfolding lacking rule9
@@ -314,16 +284,21 @@ module _ (l t : List ℕ) (n : ℕ) (counted : n ≡ length (fields l)) (noted :
   past-some k h w = omega (arith, noted .past k h (omega arith) (omega arith))
 
 -- a walk along a line notes such a table in one that starts with 0
-pub noted-by : (l t u : List ℕ) → getD t 0 0 ≡ 0 → u ≡ pastEnds (fields l) 1 t → Noted l u
+pub noted-by : (l t u : List ℕ) → t ≡ replicate 33 0 → u ≡ pastEnds (take 33 (fields l)) 1 t → Noted l u
 unfolding fieldAt
-noted-by l t u z e = record {
-  first = rw e (past-before (fields l) 1 t 0 (omega arith) ∙ z);
-  past = λ k a b c.
-      let n : k ≡ 0 → ⊥ = λ x. omega arith in
-      let y : 1 + (k - 1) ≡ k = omega arith in
-      let w : length u ≡ length t = rw e (past-length (fields l) 1 t) in
-      rw (e, ne-eqb k 0 n) (rw y at (past-at (fields l) 1 t (k - 1) (omega arith) (omega arith)));
-}
+noted-by l t u z e =
+    let bs : List Bounds = take 33 (fields l) in
+    let w : length u ≡ 33 = rw (e, past-length bs 1 t, z) in
+    let v : length t ≡ 33 = rw z in
+    record {
+      short = omega arith;
+      first = rw e (past-before bs 1 t 0 (omega arith) ∙ rw z);
+      past = λ k a b c.
+          let n : k ≡ 0 → ⊥ = λ x. omega arith in
+          let y : 1 + (k - 1) ≡ k = omega arith in
+          let g : getD bs (k - 1) (bounds 0 0) ≡ getD (fields l) (k - 1) (bounds 0 0) = getD-take 33 (fields l) (k - 1) (bounds 0 0) (omega arith) in
+          rw (e, ne-eqb k 0 n) (rw (y, g) at (past-at bs 1 t (k - 1) (omega (arith, length-take 33 (fields l))) (omega arith)));
+    }
 
 pub fields-first : (l : List ℕ) (at : ℕ) → at ≡ 0 → drop (1 - 1) (fields l) ≡ fieldsFrom l at
 fields-first l at e = rw (e, from-start l)

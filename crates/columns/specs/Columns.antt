@@ -3,7 +3,7 @@ use Prim.Native.Nat.{ℕ, zero, suc, _+_, _-_, _≤_, _<_}
 use mathlib.Core.Path.{_≡_}
 use mathlib.Core.List.{List, [], _∷_, map}
 use mathlib.Core.Bool.{Bool, cond, _&&_}
-use lib.ListN.{length, getD}
+use lib.ListN.{length, getD, set}
 use lib.Dec.{eqb, ltb}
 use Rattle.meaning.specs.declared.Bounds.{Bounds}
 use Rattle.meaning.specs.Bytes.{bounds, part, value, fields}
@@ -19,6 +19,14 @@ tab g k (suc n) (suc w) = g k ∷ tab g (k + 1) n w
 -- the column of each known name among a header's values, filled up by 0
 unfoldable pub placesOf : ℕ → List (List ℕ) → List ℕ
 placesOf f header = tab (λ k. getD (places f header) k 0) 0 (countOf f) 10
+
+-- where names stand, one more standing: in column n stands the name of known column k, counted from 1, 0 being none. Its first standing is kept
+unfoldable pub firstsWith : List ℕ → ℕ → ℕ → List ℕ
+firstsWith at k n = cond (eqb k 0) at (cond (eqb (getD at (k - 1) 0) 0) (set at (k - 1) n) at)
+
+-- the first standing of any that isn't its name's first, 0 being none, one more standing
+unfoldable pub againWith : List ℕ → ℕ → ℕ → ℕ → ℕ
+againWith at again k n = cond (eqb k 0) again (cond (eqb (getD at (k - 1) 0) 0) again (cond (eqb again 0) n again))
 
 -- a must-be-present name has no column among these
 unfoldable pub lacking : ℕ → List ℕ → Bool
@@ -42,8 +50,9 @@ endsOf l ps = map (λ p. fieldAt l p .end) ps
 unfoldable pub fieldBy : ℕ → List ℕ → ℕ → Bounds
 fieldBy n t p = cond (eqb p 0) (bounds 0 0) (cond (ltb n p) (bounds 0 0) (bounds (getD t (p - 1) 0) (getD t p 0 - 1)))
 
--- such a table has where the fields of a line start, as far as it goes
+-- such a table has where the fields of a line start, as far as it goes, which is no further than rule 7 allows
 pub record Noted (l t : List ℕ) : Type 0 where
+  pub short : length t ≤ 33
   pub first : getD t 0 0 ≡ 0
   pub past : (k : ℕ) → 0 < k → k ≤ length (fields l) → k < length t → getD t k 0 ≡ fieldAt l k .end + 1
 

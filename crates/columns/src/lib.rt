@@ -6,124 +6,72 @@ use text::Step;
 ghost use mathlib.Core.Path.{_≡_};
 ghost use mathlib.Core.Bool.{_&&_};
 ghost use mathlib.Core.List.{map};
-ghost use Prim.Native.Nat.{ℕ, _+_, _≤_, _<_};
+ghost use Prim.Native.Nat.{ℕ, _≤_, _<_};
 ghost use lib.Dec.{eqb};
 ghost use lib.ListN.{length, getD, replicate};
-ghost use Rattle.meaning.specs.Lists.{find, findAgain, lesser};
 ghost use Rattle.meaning.specs.Bytes.{countLf, fields, values};
-ghost use Rattle.meaning.specs.Columns.{nameOf, columnOf, fieldAt};
+ghost use Rattle.meaning.specs.Columns.{columnOf, fieldAt};
 ghost use Rattle.meaning.specs.Refusals.{rule8};
-ghost use Rattle.text.specs.Fields.{valuesFrom};
+ghost use Rattle.text.specs.Fields.{upTo33};
 ghost use Rattle.columns.specs.Heading.{Heading};
-ghost use Rattle.columns.specs.Columns.{placesOf, lacking, noted, startsOf, endsOf, fieldBy, Noted};
+ghost use Rattle.columns.specs.Columns.{placesOf, firstsWith, againWith, lacking, noted, startsOf, endsOf, fieldBy, Noted};
 
-// The column of each known name in a header, counted from 1, 0 where it is absent; and how many fields the header has.
+// Under what the lines of a file are read: the column of each known name in its header, counted from 1, 0 where it is absent; and how
+// many fields the header has.
 pub struct Columns {
     pub at: [usize; 10],
     pub count: usize,
 }
 
-// The column in which the name of known column k stands next, from a field on that is column `first`.
-fn next_place(f: usize, k: usize, h: &[u8], from: Cursor, first: usize) -> usize
-    requires { ⌜ (f < 7) × (k < 10) × (from .at ≤ length (now h) + 1) × (first ≤ from .at + 1) ⌝ }
-    ensures { λ r. ⌜ r ≡ find (nameOf f k) first (valuesFrom (now (h .entry)) (from .at)) ⌝ }
+// Where the known names of a header stand: the column of each, as above; and the leftmost in which one stands for the second time, 0
+// where none does.
+pub struct Names {
+    pub at: [usize; 10],
+    pub again: usize,
+}
+
+// One more standing: in column n stands the name of known column k, counted from 1; 0: of none.
+fn note_name(names: Names, k: usize, n: usize) -> Names
+    requires { ⌜ k ≤ 10 ⌝ }
+    ensures { λ r. ⌜ (r .at ≡ firstsWith (names .at) k n) × (r .again ≡ againWith (names .at) (names .again) k n) ⌝ }
 {
-    let mut c = from;
-    let mut n = first;
-    loop {
-        match c.next(h) {
-            Step::Field { start, end, next } => {
-                if schema::is_named(f, k, &h[start..end]) {
-                    return n;
-                }
-                n += 1;
-                c = next;
-            }
-            Step::Done => {
-                return 0;
-            }
-        }
+    if k == 0 {
+        return names;
     }
+    let mut at = names.at;
+    let again = names.again;
+    if at[k - 1] == 0 {
+        at[k - 1] = n;
+        return Names { at, again };
+    }
+    if again == 0 {
+        return Names { at, again: n };
+    }
+    names
 }
 
-// The column in which the name of known column k stands first.
-fn place(f: usize, k: usize, h: &[u8]) -> usize
-    requires { ⌜ (f < 7) × (k < 10) ⌝ }
-    ensures { λ r. ⌜ r ≡ find (nameOf f k) 1 (values (now (h .entry))) ⌝ }
+// The names of a header, in one walk along it.
+pub fn names_of(f: usize, h: &[u8]) -> Names
+    requires { ⌜ f < 7 ⌝ }
+    ensures { λ r. ⌜ (r .at ≡ placesOf f (values (now (h .entry)))) × (r .again ≡ rule8 f (values (now (h .entry)))) ⌝ }
 {
-    next_place(f, k, h, Cursor::new(), 1)
-}
-
-// The column in which the name of known column k stands for the second time.
-fn place_again(f: usize, k: usize, h: &[u8]) -> usize
-    requires { ⌜ (f < 7) × (k < 10) ⌝ }
-    ensures { λ r. ⌜ r ≡ findAgain (nameOf f k) 1 (values (now (h .entry))) ⌝ }
-{
+    let mut names = Names {
+        at: [0usize; 10],
+        again: 0,
+    };
     let mut c = Cursor::new();
     let mut n: usize = 1;
     loop {
         match c.next(h) {
             Step::Field { start, end, next } => {
-                if schema::is_named(f, k, &h[start..end]) {
-                    return next_place(f, k, h, next, n + 1);
-                }
+                names = note_name(names, schema::named(f, &h[start..end]), n);
                 n += 1;
                 c = next;
             }
             Step::Done => {
-                return 0;
+                return names;
             }
         }
-    }
-}
-
-// The column further left, 0 being none.
-fn lesser_of(a: usize, b: usize) -> usize
-    ensures { λ r. ⌜ r ≡ lesser a b ⌝ }
-{
-    if a == 0 {
-        return b;
-    }
-    if b == 0 {
-        return a;
-    }
-    if b < a {
-        return b;
-    }
-    a
-}
-
-// The leftmost column in which a known name stands for the second time; 0 where none does.
-pub fn repeated(f: usize, h: &[u8]) -> usize
-    requires { ⌜ f < 7 ⌝ }
-    ensures { λ r. ⌜ r ≡ rule8 f (values (now (h .entry))) ⌝ }
-{
-    let m = schema::count(f);
-    let mut column: usize = 0;
-    let mut k = 0;
-    while k < m {
-        column = lesser_of(column, place_again(f, k, h));
-        k += 1;
-    }
-    column
-}
-
-// The columns of a header.
-pub fn columns_of(f: usize, h: &[u8]) -> Columns
-    requires { ⌜ f < 7 ⌝ }
-    ensures { λ r. ⌜ (r .at ≡ placesOf f (values (now (h .entry)))) × (r .count ≡ length (fields (now (h .entry)))) ⌝ }
-{
-    let m = schema::count(f);
-    let mut at = [0usize; 10];
-    let mut k = 0;
-    while k < m {
-        at[k] = place(f, k, h);
-        k += 1;
-    }
-    let l = text::measure(h);
-    Columns {
-        at,
-        count: l.fields,
     }
 }
 
@@ -141,8 +89,8 @@ pub fn read_header(f: usize, s: &[u8]) -> Header
     let at = text::body_start(s);
     match text::next_line(s, at) {
         LineStep::Line { start, end, next } => {
-            let c = columns_of(f, &s[start..end]);
-            let known = c.at;
+            let names = names_of(f, &s[start..end]);
+            let known = names.at;
             Header { known, next }
         }
         LineStep::Done => {
@@ -164,13 +112,12 @@ fn is_missing(f: usize, k: usize, p: usize) -> bool
     false
 }
 
-// Is a must-be-present name missing?
-pub fn lacks(f: usize, c: Columns) -> bool
+// Is a must-be-present name missing, where the known names stand in these columns?
+pub fn lacks(f: usize, at: [usize; 10]) -> bool
     requires { ⌜ f < 7 ⌝ }
-    ensures { λ r. ⌜ r ≡ lacking f (c .at) ⌝ }
+    ensures { λ r. ⌜ r ≡ lacking f at ⌝ }
 {
     let m = schema::count(f);
-    let at = c.at;
     let mut k = 0;
     while k < m {
         if is_missing(f, k, at[k]) {
@@ -264,7 +211,7 @@ fn near_cells(count: usize, starts: &[usize], at: [usize; 10]) -> Cells
 
 // The fields of a line under columns, where a walk along it told how many fields it has and, as far as the table goes, where they start.
 pub fn cells_of(l: &[u8], count: usize, starts: &[usize], at: [usize; 10]) -> Cells
-    requires { ⌜ (count ≡ length (fields (now l))) × Noted (now l) (now starts) ⌝ }
+    requires { ⌜ (count ≡ upTo33 (length (fields (now l)))) × Noted (now l) (now starts) ⌝ }
     ensures { λ r. ⌜ (r .start ≡ startsOf (now (l .entry)) at) × (r .end ≡ endsOf (now (l .entry)) at) ⌝ }
 {
     if count < starts.len() {

@@ -56,28 +56,20 @@ fn tell_numbers(t: &[i32]) {
 }
 
 // A call: how many are written, how many there are, and the list that it leaves.
-fn call(
+fn call<'a>(
     name: &[u8],
-    stops: &[u8],
-    routes: &[u8],
-    calendar: &[u8],
-    trips: &[u8],
-    stop_times: &[u8],
-    calendar_dates: &[u8],
+    stops: &'a [u8],
+    routes: &'a [u8],
+    calendar: &'a [u8],
+    trips: &'a [u8],
+    stop_times: &'a [u8],
+    calendar_dates: &'a [u8],
     list: &mut [i32],
     from: Place,
 ) {
     say(name);
-    let k = tusuchiy::faults(
-        stops,
-        routes,
-        calendar,
-        trips,
-        stop_times,
-        calendar_dates,
-        list,
-        from,
-    );
+    let files = [stops, routes, calendar, trips, stop_times, calendar_dates];
+    let k = tusuchiy::faults(files, list, from);
     tell(k.written);
     tell(k.total);
     say(b":");
@@ -111,7 +103,7 @@ fn routes(name: &[u8], s: &[u8]) {
 }
 
 // The feed with another calendar.txt and calendar_dates.txt.
-fn services(name: &[u8], calendar: &[u8], dates: &[u8]) {
+fn services<'a>(name: &[u8], calendar: &'a [u8], dates: &'a [u8]) {
     let mut list = [LENT; 16];
     call(
         name,
@@ -127,7 +119,15 @@ fn services(name: &[u8], calendar: &[u8], dates: &[u8]) {
 }
 
 // Six files.
-fn feed(name: &[u8], s1: &[u8], s2: &[u8], s3: &[u8], s4: &[u8], s5: &[u8], s6: &[u8]) {
+fn feed<'a>(
+    name: &[u8],
+    s1: &'a [u8],
+    s2: &'a [u8],
+    s3: &'a [u8],
+    s4: &'a [u8],
+    s5: &'a [u8],
+    s6: &'a [u8],
+) {
     let mut list = [LENT; 52];
     call(name, s1, s2, s3, s4, s5, s6, &mut list, start());
 }
@@ -246,6 +246,34 @@ fn headers() {
     routes(
         b"header with 32 columns",
         b"route_id,route_type,,,,,,,,,,,,,,,,,,,,,,,,,,,,,,\nR,x,,,,,,,,,,,,,,,,,,,,,,,,,,,,,,\n",
+    );
+}
+
+// Names are looked for in 32 fields, no more: rule 7 speaks before them, and 6 before it.
+fn wide_headers() {
+    routes(
+        b"a name in the last of 32 columns",
+        b"route_id,,,,,,,,,,,,,,,,,,,,,,,,,,,,,,,route_type\nR,,,,,,,,,,,,,,,,,,,,,,,,,,,,,,,x\n",
+    );
+    routes(
+        b"a name again in the last of 32 columns",
+        b"route_id,route_type,,,,,,,,,,,,,,,,,,,,,,,,,,,,,,route_id\nR,x\n",
+    );
+    routes(
+        b"a name again in column 33",
+        b"route_id,route_type,,,,,,,,,,,,,,,,,,,,,,,,,,,,,,,route_id\nR,x\n",
+    );
+    routes(
+        b"a name that must be there in column 33",
+        b"route_id,,,,,,,,,,,,,,,,,,,,,,,,,,,,,,,,route_type\nR,,,,,,,,,,,,,,,,,,,,,,,,,,,,,,,,x\n",
+    );
+    routes(
+        b"33 columns, a name again and one missing",
+        b"route_id,route_id,,,,,,,,,,,,,,,,,,,,,,,,,,,,,,,\nR,x\n",
+    );
+    routes(
+        b"bad quoting past 33 columns",
+        b"route_id,route_type,,,,,,,,,,,,,,,,,,,,,,,,,,,,,,,,,,,,,,,,\"\nR,x\n",
     );
 }
 
@@ -393,6 +421,7 @@ fn main() {
     returns();
     limits();
     headers();
+    wide_headers();
     both();
     lines();
     files();

@@ -16,6 +16,10 @@ use Rattle.faults.specs.List.{faultsOf}
 abbrev pub quad : Refusal → List ℤ
 quad d = pos (d .file) ∷ pos (d .line) ∷ pos (d .number) ∷ pos (d .column) ∷ []
 
+-- the same, as the promises say it: which of its numbers stands where
+abbrev pub saysFault : Refusal → List ℤ
+saysFault d = pos (d .file) ∷ pos (d .line) ∷ pos (d .number) ∷ pos (d .column) ∷ []
+
 -- what a call from p leaves in a lent list, how many faults it has written there, and how many there are
 abbrev pub told : List (List ℕ) → Place → List ℤ → State
 told files p lent = handedIn quad 4 p (faultsOf files) lent
@@ -33,7 +37,7 @@ faultCalls files p (l ∷ r) =
 
 pub record HandedOut (files : List (List ℕ)) : Type 0 where
   -- a call hands out those after its starting place, the earliest first and none skipped, as many as fit
-  pub page : (p : Place) (lent : List ℤ) → PageGiven quad 4 (faultsOf files) p lent (told files p lent .out) (told files p lent .written)
+  pub page : (p : Place) (lent : List ℤ) → PageGiven saysFault 4 (faultsOf files) p lent (told files p lent .out) (told files p lent .written)
   -- and tells the true total
   pub total : (p : Place) (lent : List ℤ) → told files p lent .total ≡ length (faultsOf files)
   -- the list is as long as it was lent
@@ -43,4 +47,4 @@ pub record HandedOut (files : List (List ℕ)) : Type 0 where
   pub joins :
       (lists : List (List ℤ))
       → Each (λ l. 4 ≤ length l) lists
-      → Join wroteIn (λ o. o .written) (λ o. o .total) (rowed quad (faultsOf files)) (length (faultsOf files)) (faultCalls files beginning lists)
+      → Join wroteIn (λ o. o .written) (λ o. o .total) (rowed saysFault (faultsOf files)) (length (faultsOf files)) (faultCalls files beginning lists)

@@ -16,10 +16,13 @@ use Rattle.meaning.specs.Promises.{Each}
 use Rattle.meaning.proofs.Computed.{all, mem-all}
 use Rattle.meaning.proofs.ListLaws.{and-both}
 use Rattle.meaning.proofs.FirstBroken.{spoken-first, silent-none}
+use Rattle.columns.specs.declared.Columns.{Columns}
 use Rattle.columns.specs.Columns.{placesOf}
 use Rattle.columns.proofs.Laws.{places-at}
 use Rattle.reading.specs.declared.Fault.{Fault}
 use Rattle.reading.specs.Tests.{fault, first}
+use Rattle.reading.specs.Heads.{columnsUnder}
+use Rattle.reading.proofs.Heads.{good-under}
 use Rattle.reading.proofs.First.{positive}
 use Rattle.reading.proofs.Values.{line-same}
 use Rattle.reading.proofs.Speaks.{line-stop, line-on}
@@ -130,6 +133,14 @@ module _ (f : ℕ) (h : List ℕ) (t : Fault) (e : t ≡ first (headTests f h)) 
   unfolding headSaid
   head-good = good-is f 1 (headTests f h) (head-positive f h) t e
 
+  -- what lines are read under is told where it is good
+  pub head-told : (c : Columns) → c ≡ columnsUnder f h → Heads f h (eqb (t .rule) 0) (c .at) (c .count)
+  head-told c u = record {
+    said = head-good;
+    columns = λ g. good-under f h t e (eqb-true (t .rule) 0 g) c u .0;
+    wide = λ g. good-under f h t e (eqb-true (t .rule) 0 g) c u .1;
+  }
+
   pub head-rule : t .rule ≤ 14
   head-rule = rw e (first-rule (headTests f h) (head-numbers f h))
 
@@ -150,11 +161,11 @@ tests-positive f ps count l false = tt
 module _ (f : ℕ) (h : List ℕ) (good : Bool) (at : List ℕ) (count : ℕ) (k : Heads f h good at count) (l : List ℕ) where
   -- it is put to the tests that the header leaves it
   tests-are : cond good (lineTests f at count l) (textTests l) ≡ testsUnder (headSaid f h) f h l
-  tests-are = rw (k .said, k .columns, k .wide, line-same (placesOf f (values h)) (places f (values h)) (places-at f (values h)) f (length (fields h)) l) (go (headSaid f h))
+  tests-are = go (headSaid f h) (k .said)
     where
-      go : (v : Verdict) → cond (isGood v) (lineTests f (places f (values h)) (length (fields h)) l) (textTests l) ≡ testsUnder v f h l
-      go Readable = refl
-      go (Unreadable r) = refl
+      go : (v : Verdict) → good ≡ isGood v → cond good (lineTests f at count l) (textTests l) ≡ testsUnder v f h l
+      go Readable e = rw (k .columns e, k .wide e, e) (line-same (placesOf f (values h)) (places f (values h)) (places-at f (values h)) f (length (fields h)) l)
+      go (Unreadable r) e = rw e
 
   few : Each Few (testsUnder (headSaid f h) f h l)
   unfolding headSaid

@@ -43,11 +43,11 @@ abbrev pub isGood : Verdict → Bool
 isGood Readable = true
 isGood (Unreadable r) = false
 
--- what is told of a header with text h: whether it is good, in which columns its known names stand, and how many fields it has
+-- what is told of a header with text h: whether it is good, and if so, in which columns its known names stand, and how many fields it has
 pub record Heads (f : ℕ) (h : List ℕ) (good : Bool) (at : List ℕ) (count : ℕ) : Type 0 where
   pub said : good ≡ isGood (headSaid f h)
-  pub columns : at ≡ placesOf f (values h)
-  pub wide : count ≡ length (fields h)
+  pub columns : good ≡ true → at ≡ placesOf f (values h)
+  pub wide : good ≡ true → count ≡ length (fields h)
 
 -- and that there is such a header
 pub record Header (f : ℕ) (good : Bool) (at : List ℕ) (count : ℕ) : Type 0 where

@@ -149,9 +149,10 @@ fn list_lines(f: usize, s: &[u8], out: &mut [i32], k: Sink, p: Place) -> Sink
 {
     match any_line(s, text::body_start(s)) {
         LineStep::Line { start, end, next } => {
-            let c = columns::columns_of(f, &s[start..end]);
-            let t = reading::header_fault(f, c, &s[start..end]);
+            let h = reading::judge_header(f, &s[start..end]);
+            let t = h.fault;
             let sink = note_fault(out, k, p, f, 1, t);
+            let c = h.columns;
             list_later(f, t.rule == 0, c, s, next, out, sink, p)
         }
         LineStep::Done => k,

@@ -16,7 +16,7 @@ use Rattle.meaning.specs.Refusals.{maxBytes, maxLines, claim, rule1, rule2, end
 use Rattle.meaning.specs.Promises.{noLine, NoneBroken}
 use Rattle.meaning.proofs.ListLaws.{and-both}
 use Rattle.meaning.proofs.Laws.{getD-map-in}
-use Rattle.meaning.proofs.FirstBroken.{spoken-first, silent-none}
+use Rattle.meaning.proofs.FirstBroken.{spoken-first, silent-none, said-readable}
 use Rattle.meaning.proofs.Columns.{row-at}
 use Rattle.meaning.proofs.Records.{rows-count}
 use Rattle.text.proofs.Lines.{lines-all}
@@ -80,13 +80,13 @@ ids-count f s n h = rw (length-map, rows-count f s, lines-all s) (omega arith)
 module _ (f : ℕ) (s : List ℕ) (reads : Reads f s) where
   whole : NoneBroken (loneClaims f s)
   unfolding loneVerdict
-  whole = silent-none (loneClaims f s) .0 (reads .verdict)
+  whole = silent-none (loneClaims f s) .0 (said-readable (loneVerdict f s) .0 (reads .verdict))
 
   unempty : s ≡ [] → ⊥
   unfolding loneVerdict
   unempty e =
       let v = spoken-first (loneClaims f s) _ .1 (beside f s .empty (reads .asked) e) in
-      let r = reads .verdict in
+      let r = said-readable (loneVerdict f s) .0 (reads .verdict) in
       let z : _≡_ {A = ℕ} 0 1 = cc in
       omega arith
 

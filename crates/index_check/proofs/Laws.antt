@@ -23,6 +23,7 @@ use Rattle.indexes.specs.declared.IndexAnswer.{IndexAnswer}
 use Rattle.indexes.specs.declared.IndexAnswer.the-variants.{Whole, Unread, Barred}
 use Rattle.indexes.specs.Order.{idsOf, idOf}
 use Rattle.indexes.specs.Index.{numberAt, version1, mark, indexLength, entry, rule40, rule41, rule42, strays, rule43, rule44, indexTests, spoken, indexed, loneVerdict, barredOr, checked}
+use Rattle.meaning.proofs.FirstBroken.{said-readable}
 use Rattle.indexes.specs.Promises.{Reads}
 use Rattle.indexes.proofs.Accepted.{or-none, known-entry}
 use Rattle.indexes.proofs.Beside.{asked-read, asked-refused, asked-outside, asked-range, asked-not}
@@ -176,7 +177,7 @@ module _ (f : ℕ) (s b : List ℕ) where
     file = asked-range f s .1 (omega arith, high)
 
     pub reads-it : Readable ≡ loneVerdict f s → Reads f s
-    reads-it e = record { asked = file; verdict = sym e }
+    reads-it e = record { asked = file; verdict = said-readable (loneVerdict f s) .1 (sym e) }
 
     pub unread : (r : Refusal) → Unreadable r ≡ loneVerdict f s → Unread r ≡ checked f s b
     unfolding checked

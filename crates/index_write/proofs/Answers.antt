@@ -12,6 +12,7 @@ use Rattle.indexes.specs.declared.IndexAnswer.{IndexAnswer}
 use Rattle.indexes.specs.declared.IndexAnswer.the-variants.{Whole, Unread, Barred}
 use Rattle.indexes.specs.Order.{idsOf, ranked, repeats}
 use Rattle.indexes.specs.Index.{version1, indexOf, indexLength, writerTests, spoken, loneVerdict, barredOr, leftBy, wrote, written}
+use Rattle.meaning.proofs.FirstBroken.{said-readable}
 use Rattle.indexes.specs.Promises.{Reads}
 use Rattle.indexes.proofs.Beside.{asked-read, asked-refused, asked-outside, asked-range, asked-not}
 
@@ -54,7 +55,7 @@ module _ (f : ℕ) (s lent : List ℕ) where
 
   module _ (asked : (1 ≤ f) × (f ≤ 4)) where
     pub reads-it : loneVerdict f s ≡ Readable → Reads f s
-    reads-it e = record { asked = asked-range f s .1 asked; verdict = e }
+    reads-it e = record { asked = asked-range f s .1 asked; verdict = said-readable (loneVerdict f s) .1 e }
 
     pub wrote-unread : (r : Refusal) → loneVerdict f s ≡ Unreadable r → Wrote (Unread r) lent
     unfolding wrote

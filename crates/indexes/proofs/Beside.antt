@@ -18,7 +18,7 @@ use Rattle.meaning.specs.Tables.{fileOf}
 use Rattle.meaning.specs.Refusals.{Test, claim, rule1, rule2, mayLack, rule4}
 use Rattle.meaning.specs.Promises.{noClaim, FirstBroken}
 use Rattle.meaning.proofs.ListLaws.{both, and-both}
-use Rattle.meaning.proofs.FirstBroken.{spoken-first, silent-none}
+use Rattle.meaning.proofs.FirstBroken.{spoken-first, silent-none, said-readable}
 use Rattle.meaning.proofs.References.{any-yes}
 use Rattle.meaning.proofs.Records.{rows-count}
 use Rattle.meaning.proofs.Tests.{untrue}
@@ -99,7 +99,7 @@ module _ (f : ℕ) (s : List ℕ) where
 
   pub asked-read : Reads f s → (a : IndexAnswer) → askedOf f s a ≡ a
   unfolding askedOf
-  asked-read r a = rw (r .asked, r .verdict)
+  asked-read r a = rw (r .asked, said-readable (loneVerdict f s) .0 (r .verdict))
 
   pub asked-refused : indexed f ≡ true → (r : Refusal) → loneVerdict f s ≡ Unreadable r → (a : IndexAnswer) → askedOf f s a ≡ Unread r
   unfolding askedOf
@@ -119,7 +119,7 @@ module _ (f : ℕ) (s : List ℕ) where
     where
       go : (t : Bool) → indexed f ≡ t → (v : Verdict) → loneVerdict f s ≡ v → cond t (ifRead v a) (Barred 42) ≡ Whole n → Reads f s × (a ≡ Whole n)
       go false p v q e = let z : _≡_ {A = ℕ} 0 1 = cc in absurd (omega arith)
-      go true p Readable q e = (record { asked = p; verdict = q }, e)
+      go true p Readable q e = (record { asked = p; verdict = said-readable (loneVerdict f s) .1 q }, e)
       go true p (Unreadable r) q e = let z : _≡_ {A = ℕ} 0 1 = cc in absurd (omega arith)
 
   asked-refusal : (k size : ℕ) (r : Refusal) → askedOf f s (barredOr k size) ≡ Unread r → FirstBroken (loneClaims f s) r
@@ -136,7 +136,7 @@ module _ (f : ℕ) (s : List ℕ) where
   pub few : Reads f s → length (idsOf f s) < 65536
   unfolding idsOf loneVerdict loneClaims rule2
   few r =
-      let k : countLf s ≤ 65536 = ltb-false _ _ (silent-none (loneClaims f s) .0 (r .verdict) (claim 2 f 0 (rule2 f s 0)) (List·Memᴰ·tail (List·Memᴰ·head refl))) in
+      let k : countLf s ≤ 65536 = ltb-false _ _ (silent-none (loneClaims f s) .0 (said-readable (loneVerdict f s) .0 (r .verdict)) (claim 2 f 0 (rule2 f s 0)) (List·Memᴰ·tail (List·Memᴰ·head refl))) in
       rw (length-map, rows-count f s, lines-all s) (omega arith)
 
   -- ---- the writer

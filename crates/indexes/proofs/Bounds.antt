@@ -21,7 +21,7 @@ use Rattle.meaning.proofs.ListLaws.{and-both}
 use Rattle.meaning.proofs.Lines.{Linewise}
 use Rattle.meaning.proofs.Claims.{in-file}
 use Rattle.meaning.proofs.Columns.{values-count, rule8-within, leftmost-within}
-use Rattle.meaning.proofs.FirstBroken.{spoken-first}
+use Rattle.meaning.proofs.FirstBroken.{spoken-first, said-readable}
 use Rattle.meaning.proofs.Sayable.{Fit, plain, again, long, blank, formless, Columned, tests-fit}
 use Rattle.text.specs.Fields as F
 use Rattle.text.proofs.Lines.{lines-all}
@@ -116,7 +116,7 @@ module _ (f : ℕ) (s : List ℕ) where
     where
       go : (t : Bool) → indexed f ≡ t → (v : Verdict) → loneVerdict f s ≡ v → Small (cond t (ifRead v a) (Barred 42))
       go false p v q = omega arith
-      go true p Readable q = h (record { asked = p; verdict = q })
+      go true p Readable q = h (record { asked = p; verdict = said-readable (loneVerdict f s) .1 q })
       go true p (Unreadable r) q = small-unread p r q
 
 small-barred : (k size : ℕ) → k ≤ 46 → (k ≡ 0 → size ≤ 8 + 2 * maxLines) → Small (barredOr k size)

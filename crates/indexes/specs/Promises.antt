@@ -6,9 +6,8 @@ use mathlib.Core.Bool.{Bool, true, false}
 use mathlib.Core.List.{List, [], _∷_}
 use lib.ListN.{length, getD, take, drop}
 use Rattle.meaning.specs.declared.Refusal.{Refusal}
-use Rattle.meaning.specs.declared.Verdict.the-variants.{Readable}
-use Rattle.meaning.specs.Refusals.{Test, test}
-use Rattle.meaning.specs.Promises.{FirstBroken}
+use Rattle.meaning.specs.Refusals.{Test, test, verdictNumbers}
+use Rattle.meaning.specs.Promises.{saysReadable, FirstBroken}
 use Rattle.indexes.specs.Order.{idsOf, repeats, ranked, Rising}
 use Rattle.indexes.specs.Index.{version1, indexOf, indexLength, indexTests, writerTests, indexed, loneClaims, loneVerdict, checked, wrote, written, indexNumbers}
 
@@ -25,7 +24,7 @@ Bytes b = (i : ℕ) → getD b i 0 < 256
 -- a file that is asked for and can be read
 pub record Reads (f : ℕ) (s : List ℕ) : Type 0 where
   pub asked : indexed f ≡ true
-  pub verdict : loneVerdict f s ≡ Readable
+  pub verdict : verdictNumbers (loneVerdict f s) ≡ saysReadable
 
 abbrev pub noTest : Test
 noTest = test 0 false

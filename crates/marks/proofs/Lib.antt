@@ -1,3 +1,4 @@
 -- Laws of marks.
 pub mod Bits
 pub mod Tests
+pub mod One

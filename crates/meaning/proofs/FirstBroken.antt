@@ -2,7 +2,7 @@
 use Prim.Native.Nat.{ℕ, zero, suc, _<_}
 use native.Mathlib.Omega.{arith}
 use mathlib.Core.Path.{_≡_, refl, sym, ap, _∙_}
-use mathlib.Core.Logic.{_↔_}
+use mathlib.Core.Logic.{_↔_, _⊎_, inl, inr}
 use mathlib.Core.Bool.{Bool, true, false}
 use mathlib.Core.List.{List, [], _∷_, List·Memᴰ, List·Memᴰ·head, List·Memᴰ·tail, List·Memᴰ·not-nil}
 use native.Mathlib.Decide.{ℕ-discrete}
@@ -12,8 +12,8 @@ use borrow.Author.Tests.{ltb-true, ltb-false}
 use Rattle.meaning.specs.declared.Refusal.{Refusal}
 use Rattle.meaning.specs.declared.Verdict.{Verdict}
 use Rattle.meaning.specs.declared.Verdict.the-variants.{Readable, Unreadable}
-use Rattle.meaning.specs.Refusals.{Claim, claims, refusal, speaks, verdictOf}
-use Rattle.meaning.specs.Promises.{Ordered, speaksBefore, noClaim, FirstBroken, NoneBroken, SomeBroken, RefusedBy}
+use Rattle.meaning.specs.Refusals.{Claim, claims, refusal, speaks, verdictOf, verdictNumbers}
+use Rattle.meaning.specs.Promises.{Ordered, speaksBefore, noClaim, FirstBroken, NoneBroken, SomeBroken, saysReadable, saysUnreadable, RefusedBy, VerdictSaid}
 use Rattle.meaning.proofs.ListLaws.{both}
 use Rattle.meaning.proofs.Laws.{each-cons, getD-mem, At, place-of, in-order}
 
@@ -89,6 +89,30 @@ earlier-kept cs r b o p m not-after other = go (ltb (k .index) (b .at)) refl (�
         let z : speaksBefore (getD cs (b .at) noClaim) p ≡ true = rw (k .here) at (in-order speaksBefore cs noClaim (b .at) (k .index) o i (k .inside)) in
         both (speaksBefore (getD cs (b .at) noClaim) p) z (not-after (getD cs (b .at) noClaim) (b .spoken))
 
+-- refusals with the same four numbers are one
+pub one-refusal : (r s : Refusal) → saysUnreadable s ≡ saysUnreadable r → s ≡ r
+one-refusal r s e = λ i. record { number = at 0 i; file = at 1 i; line = at 2 i; column = at 3 i }
+  where
+    at : (k : ℕ) → getD (saysUnreadable s) k 0 ≡ getD (saysUnreadable r) k 0
+    at k = ap (λ (ns : List ℕ). getD ns k 0) e
+
+-- a verdict by its numbers
+pub said-refused : (v : Verdict) (r : Refusal) → verdictNumbers v ≡ saysUnreadable r ↔ v ≡ Unreadable r
+unfolding verdictNumbers
+said-refused v r = (go v, λ e. rw e)
+  where
+    go : (v : Verdict) → verdictNumbers v ≡ saysUnreadable r → v ≡ Unreadable r
+    go Readable e = let z : _≡_ {A = ℕ} 0 1 = cc in absurd (omega arith)
+    go (Unreadable q) e = ap Unreadable (one-refusal r q e)
+
+pub said-readable : (v : Verdict) → verdictNumbers v ≡ saysReadable ↔ v ≡ Readable
+unfolding verdictNumbers
+said-readable v = (go v, λ e. rw e)
+  where
+    go : (v : Verdict) → verdictNumbers v ≡ saysReadable → v ≡ Readable
+    go Readable e = refl
+    go (Unreadable q) e = let z : _≡_ {A = ℕ} 0 1 = cc in absurd (omega arith)
+
 module _ (files : List (List ℕ)) (rooms : List ℕ) where
   -- The refusal is the first broken claim, and the first broken claim is the refusal.
   pub first-broken : (r : Refusal) → verdictOf files rooms ≡ Unreadable r ↔ FirstBroken (claims files rooms) r
@@ -100,9 +124,21 @@ module _ (files : List (List ℕ)) (rooms : List ℕ) where
   unfolding verdictOf
   readable-exactly = silent-none (claims files rooms)
 
+  -- The verdict in its numbers.
+  pub verdict-said : VerdictSaid files rooms
+  verdict-said = record {
+    refused = λ r. (λ e. first-broken r .0 (said-refused (verdictOf files rooms) r .0 e), λ f. said-refused (verdictOf files rooms) r .1 (first-broken r .1 f));
+    readable = (λ e. readable-exactly .0 (said-readable (verdictOf files rooms) .0 e), λ n. said-readable (verdictOf files rooms) .1 (readable-exactly .1 n));
+    either = go (verdictOf files rooms) refl;
+  }
+    where
+      go : (v : Verdict) → verdictOf files rooms ≡ v → RefusedBy files rooms ⊎ (verdictNumbers (verdictOf files rooms) ≡ saysReadable)
+      go Readable e = inr (said-readable (verdictOf files rooms) .1 e)
+      go (Unreadable r) e = inl (record { told = r; verdict = said-refused (verdictOf files rooms) r .1 e })
+
   -- A feed is refused exactly when some claim is broken.
   pub refused-exactly : RefusedBy files rooms ↔ SomeBroken (claims files rooms)
-  refused-exactly = (λ v. there v (first-broken (v .told) .0 (v .verdict)), λ s. back s (verdictOf files rooms) refl)
+  refused-exactly = (λ v. there v (verdict-said .refused (v .told) .0 (v .verdict)), λ s. back s (verdictOf files rooms) refl)
     where
       there : (v : RefusedBy files rooms) → FirstBroken (claims files rooms) (v .told) → SomeBroken (claims files rooms)
       there v f = record { which = getD (claims files rooms) (f .at) noClaim; among = getD-mem (claims files rooms) (f .at) noClaim (f .inside); broken = f .broken }
@@ -111,4 +147,4 @@ module _ (files : List (List ℕ)) (rooms : List ℕ) where
       back s Readable e =
           let none : s .which .broken ≡ false = readable-exactly .0 e (s .which) (s .among) in
           let z : _≡_ {A = ℕ} 0 1 = cc in absurd (omega arith)
-      back s (Unreadable r) e = record { told = r; verdict = e }
+      back s (Unreadable r) e = record { told = r; verdict = said-refused (verdictOf files rooms) r .1 e }

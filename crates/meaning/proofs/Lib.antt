@@ -1,8 +1,11 @@
 -- Theorems about the definitions, a file for each promise.
 pub mod Computed
 pub mod ListLaws
+pub mod Arrays
 pub mod Tests
 pub mod Laws
+pub mod Digits
+pub mod Forms
 pub mod Lines
 pub mod References
 pub mod FirstBroken
@@ -18,10 +21,15 @@ pub mod Records
 pub mod Held
 pub mod Calls
 pub mod Demands
+pub mod TripOrder
 pub mod ByDate
 pub mod Characters
 pub mod BadUtf8
 pub mod WhichColumn
 pub mod Nodes
 pub mod Boards
+pub mod ColumnTable
+pub mod Times
+pub mod Coordinates
+pub mod Limits
 pub mod Starred

@@ -3,13 +3,14 @@ use Prim.Native.Nat.{ℕ, suc, _≤_, _<_}
 use native.Mathlib.Omega.{arith}
 use native.Mathlib.Nat.{not-suc-le-zero}
 use mathlib.Core.Path.{_≡_, refl, sym, ap, ap₂, _∙_}
+use mathlib.Core.Logic.{_↔_}
 use mathlib.Core.List.{List, [], _∷_, _++_, List·Memᴰ, List·Memᴰ·head, List·Memᴰ·tail, Memᴰ·append-right}
 use mathlib.Core.Bool.{Bool, true, false, cond, not, _&&_, _||_}
 use lib.IntN.{pos}
 use lib.ListN.{length}
 use lib.Dec.{eqb, ltb}
 use borrow.Author.Tests.{ltb-true, ltb-false, eqb-true, eq-eqb, ne-eqb, le-ltb}
-use Rattle.meaning.specs.Lists.{same, keep}
+use Rattle.meaning.specs.Lists.{same, empty, keep}
 use Rattle.meaning.specs.Pages.{above, behind}
 use Rattle.meaning.specs.Promises.{Ordered, sooner3}
 
@@ -46,6 +47,11 @@ same-self (x ∷ l) = rw (eq-eqb x x refl) (same-self l)
 pub nothing : {A : Type 0} (l : List A) → length l ≤ 0 → l ≡ []
 nothing [] h = refl
 nothing (x ∷ r) h = absurd (not-suc-le-zero h)
+
+-- a value with no byte
+pub no-bytes : (v : List ℕ) → empty v ≡ true ↔ v ≡ []
+unfolding empty
+no-bytes v = (λ e. nothing v (omega (arith, eqb-true (length v) 0 e)), λ e. rw e)
 
 -- ---- kept elements
 

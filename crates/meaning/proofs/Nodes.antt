@@ -5,11 +5,11 @@ use native.Mathlib.Decide.{ℕ-discrete}
 use mathlib.Core.Path.{_≡_, refl, sym, _∙_}
 use mathlib.Core.Logic.{_↔_, _⊎_, inl, inr}
 use mathlib.Core.Bool.{Bool, true, false, cond, not, _&&_, _||_}
-use mathlib.Core.List.{List, [], _∷_, map}
+use mathlib.Core.List.{List, [], map}
 use lib.IntN.{ℤ, pos}
 use lib.ListN.{length, getD}
-use lib.Dec.{eqb, leb, ltb}
-use borrow.Author.Tests.{eqb-true, eqb-false, ne-eqb, ltb-true, ltb-false, lt-ltb, le-ltb, leb-true, le-leb, not-true, not-false}
+use lib.Dec.{eqb, ltb}
+use borrow.Author.Tests.{eqb-false, ne-eqb, ltb-true, ltb-false, lt-ltb, le-ltb, not-true, not-false}
 use Rattle.meaning.specs.declared.Choice.{Choice}
 use Rattle.meaning.specs.declared.Choice.the-variants.{Picked, NoChoice}
 use Rattle.meaning.specs.declared.Column.{Column}
@@ -17,7 +17,7 @@ use Rattle.meaning.specs.declared.Place.{Place}
 use Rattle.meaning.specs.declared.Profile.{Profile}
 use Rattle.meaning.specs.Lists.{empty, place}
 use Rattle.meaning.specs.Columns.{Row, stopsColumns, schemas, schema, knownAt, columnOf, countOf, places, rowOf, rowsOf}
-use Rattle.meaning.specs.Forms.{noMark, formed, pointed, toPoint, degreesText, sizeText, latitudeOf, longitudeOf, digitText, choiceOf, isChoice, shapes, shape}
+use Rattle.meaning.specs.Forms.{noMark, formed, pointed, toPoint, degreesText, sizeText, latitudeOf, longitudeOf, choiceOf, isChoice, shapes, shape}
 use Rattle.meaning.specs.Tables.{Feed, fileOf, feedOf, refer, stopIds, stopId, stopName, stopLat, stopLon, locationType, parentStation, degrees, oneIf, kindOf, inner, placed, widths, widthOf}
 use Rattle.meaning.specs.Refusals.{rule3, rule9, rule12, slack, blank, leftmost}
 use Rattle.meaning.specs.Rules.{row, rule21·stops, otherKind, parentKind, rule22}
@@ -26,8 +26,9 @@ use Rattle.meaning.specs.Promises.{lineOrder, turn}
 use Rattle.meaning.specs.Held.{lineCount}
 use Rattle.meaning.specs.Demands.{Reads}
 use Rattle.meaning.specs.Nodes.{OneDigit, Unfit, none, other, base22, Filled, Alone, PlaceTold, Nodes}
-use Rattle.meaning.proofs.ListLaws.{both, and-both, nothing}
+use Rattle.meaning.proofs.ListLaws.{both, and-both, no-bytes}
 use Rattle.meaning.proofs.Tests.{either, or-left, or-right}
+use Rattle.meaning.proofs.Forms.{digit-picked}
 use Rattle.meaning.proofs.References.{dangling-refer}
 use Rattle.meaning.proofs.FirstBroken.{readable-exactly}
 use Rattle.meaning.proofs.Columns.{row-at, least-only, blank-always, kept-12}
@@ -41,31 +42,17 @@ shape-is : (v : List ℕ) → shape (columnOf 1 4 .form) v ≡ isChoice (choiceO
 unfolding shape shapes columnOf knownAt schema schemas stopsColumns
 shape-is v = refl
 
-single : (v : List ℕ) → length v ≡ 1 → v ≡ getD v 0 0 ∷ []
-single [] e = absurd (omega arith)
-single (b ∷ []) e = refl
-single (b ∷ c ∷ r) e = absurd (omega arith)
-
 one-digit : (v : List ℕ) → isChoice (choiceOf 4 v) ≡ true → OneDigit 4 v
-unfolding choiceOf formed digitText
-one-digit v e =
-    let h = and-both (eqb (length v) 1) (leb 48 (getD v 0 0) && leb (getD v 0 0) 52) (go (noMark v) _ _ e) in
-    let g = and-both (leb 48 (getD v 0 0)) (leb (getD v 0 0) 52) (h .1) in
-    let low : 48 ≤ getD v 0 0 = leb-true 48 _ (g .0) in
-    let high : getD v 0 0 ≤ 52 = leb-true _ 52 (g .1) in
-    let b : 48 + (getD v 0 0 - 48) ≡ getD v 0 0 = omega arith in
-    record { digit = getD v 0 0 - 48; small = omega arith; is = rw b (single v (eqb-true _ 1 (h .0))) }
+unfolding choiceOf
+one-digit v e = go (choiceOf 4 v) refl e
   where
-    go : (m d : Bool) (n : ℕ) → isChoice (cond m (cond d (Picked n) NoChoice) NoChoice) ≡ true → d ≡ true
-    go true true n e = refl
-    go true false n e = e
-    go false d n e = both false e refl
+    go : (c : Choice) → choiceOf 4 v ≡ c → isChoice c ≡ true → OneDigit 4 v
+    go (Picked n) q h = let k = digit-picked 0 4 v n .0 q in record { digit = n; small = k .0 .1; is = k .1 }
+    go NoChoice q h = both false h refl
 
 digit-formed : (v : List ℕ) → OneDigit 4 v → isChoice (choiceOf 4 v) ≡ true
-unfolding choiceOf formed digitText noMark
-digit-formed v o =
-    let h = o .small in
-    rw (o .is, ne-eqb (48 + o .digit) 34 (λ z. omega arith), le-leb 48 (48 + o .digit) (omega arith), le-leb (48 + o .digit) 52 (omega arith))
+unfolding choiceOf
+digit-formed v o = rw (digit-picked 0 4 v (o .digit) .1 ((omega arith, o .small), o .is))
 
 allowed : (v : List ℕ) → shape (columnOf 1 4 .form) v ≡ true ↔ OneDigit 4 v
 allowed v = (λ e. one-digit v (sym (shape-is v) ∙ e), λ o. shape-is v ∙ digit-formed v o)
@@ -274,7 +261,7 @@ longitude-alone ps l a = only-blank ps l 3 (omega arith) (lon-blank r (a .id) (a
     go j h e (yes z) = rw z (lat-blank r (a .id) (a .within) false true (a .other) (a .none) refl)
     go j h e (no z) = others-kept r (a .id) (a .within) false true (a .other) (a .none) j z e h
 
-elsewhere : (f : ℕ) (r : Row) → (f ≡ 1 → ⊥) → slack f r ≡ 0
+pub elsewhere : (f : ℕ) (r : Row) → (f ≡ 1 → ⊥) → slack f r ≡ 0
 unfolding slack
 elsewhere f r h = rw (ne-eqb f 1 h)
 
@@ -284,13 +271,9 @@ before = omega arith
 
 -- ---- the seventh number
 
-no-value : (v : List ℕ) → empty v ≡ true → v ≡ []
-unfolding empty
-no-value v e = nothing v (omega (arith, eqb-true (length v) 0 e))
-
 no-degrees : (v : List ℕ) → empty v ≡ true → (degrees (latitudeOf v) ≡ pos 0) × (degrees (longitudeOf v) ≡ pos 0)
 unfolding latitudeOf longitudeOf formed noMark degreesText sizeText pointed toPoint
-no-degrees v e = rw (no-value v e) (refl, refl)
+no-degrees v e = rw (no-bytes v .0 e) (refl, refl)
 
 -- of a filled row
 module _ (r : Row) (f : Filled r) where

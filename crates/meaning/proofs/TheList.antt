@@ -7,7 +7,7 @@ use mathlib.Core.Logic.{_↔_, ⊎-elim}
 use mathlib.Core.Bool.{Bool, true, false, cond}
 use mathlib.Core.List.{List, [], _∷_, map, List·Memᴰ, List·Memᴰ·head, List·Memᴰ·tail, List·Memᴰ·not-nil, List·Memᴰ·cases-cons}
 use lib.IntN.{ℤ}
-use lib.ListN.{length, getD, replicate, length-replicate, List·getD-eq-default}
+use lib.ListN.{length, getD, take, drop, replicate, length-replicate, List·getD-eq-default}
 use lib.Dec.{T, ltb, eqb}
 use borrow.Author.Tests.{eqb-true, lt-ltb, ltb-true, ltb-false}
 use Rattle.meaning.specs.declared.Refusal.{Refusal}
@@ -25,6 +25,7 @@ use Rattle.meaning.specs.Pages.{above, behind}
 use Rattle.meaning.specs.Findings.{Finding, finding, listed, findingsOf, after, page, roomOf, answerOf, answerNumbers}
 use Rattle.meaning.specs.Outcome.{readOutcome, refusedOr, outcome}
 use Rattle.meaning.specs.Promises.{Ordered, Each, saysAccepted, saysFindings, saysRefused, Ends, accepted, findings, refused, testOf, BrokenAt, highest, Findable, comesBefore, beginning}
+use Rattle.meaning.proofs.FirstBroken.{one-refusal}
 use Rattle.meaning.proofs.Computed.{all, mem-all}
 use Rattle.meaning.proofs.Pages.{told}
 use Rattle.meaning.proofs.Sayable.{refusal-numbers}
@@ -223,13 +224,6 @@ never-refused p ds list r e = go (eqb (length ds) 0) (ap (λ (ns : List ℕ). ge
     go true z = omega arith
     go false z = omega arith
 
--- the numbers of a refusal are those of one refusal
-one-refusal : (r s : Refusal) → saysRefused s ≡ saysRefused r → s ≡ r
-one-refusal r s e = λ i. record { number = at 1 i; file = at 2 i; line = at 3 i; column = at 4 i }
-  where
-    at : (k : ℕ) → getD (saysRefused s) k 0 ≡ getD (saysRefused r) k 0
-    at k = ap (λ (ns : List ℕ). getD ns k 0) e
-
 module _ (files : List (List ℕ)) (tables : List (List ℤ)) (list : List ℤ) (p : Place) (asked : Profile) where
   -- The answer refuses exactly what the verdict does.
   pub refused-answer : (r : Refusal) → answerNumbers (outcome files tables list p asked .answer) ≡ saysRefused r ↔ verdictOf files (map length tables) ≡ Unreadable r
@@ -238,7 +232,7 @@ module _ (files : List (List ℕ)) (tables : List (List ℤ)) (list : List ℤ) 
     where
       there : (v : Verdict) → verdictOf files (map length tables) ≡ v → answerNumbers (refusedOr v (readOutcome files tables list p asked) tables list .answer) ≡ saysRefused r → verdictOf files (map length tables) ≡ Unreadable r
       there Readable k e = absurd (never-refused p (findingsOf asked (feedOf files)) list r e)
-      there (Unreadable s) k e = k ∙ ap Unreadable (one-refusal r s e)
+      there (Unreadable s) k e = k ∙ ap Unreadable (one-refusal r s (ap (λ (ns : List ℕ). take 4 (drop 1 ns)) e))
 
   -- A refused feed leaves every table and the list as lent.
   pub refused-untouched : (r : Refusal) → answerNumbers (outcome files tables list p asked .answer) ≡ saysRefused r → (outcome files tables list p asked .tables ≡ tables) × (outcome files tables list p asked .list ≡ list)

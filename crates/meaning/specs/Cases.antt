@@ -278,6 +278,13 @@ fallsFarBack =
     "trip_id,arrival_time,departure_time,stop_id,stop_sequence\nT,8:10:00,8:10:00,A,3\nT,8:00:00,8:00:00,A,2\nT,8:00:00,8:30:00,A,1\nT,7:00:00,7:00:00,A,1\n")
     (finding 5 2 29 ∷ finding 5 3 29 ∷ finding 5 5 28 ∷ [])
 
+-- 27 and 29: a line that departs before it arrives is timed all the same. Line 2 is left at 8:00, after line 3 arrives; its own arrival at 8:10 holds nobody back, so that line 4 is good.
+abbrev pub backwardOutruns : Case
+backwardOutruns =
+    found (around oneStop oneTrip
+    "trip_id,arrival_time,departure_time,stop_id,stop_sequence\nT,8:10:00,8:00:00,A,1\nT,7:59:00,8:05:00,A,2\nT,8:07:00,8:07:00,A,3\n")
+    (finding 5 2 27 ∷ finding 5 3 29 ∷ [])
+
 -- 31: ties go to the earliest line, at the start and at the end: line 2, which isn't timed.
 abbrev pub tiesAtTheStart : Case
 tiesAtTheStart =
@@ -604,6 +611,7 @@ worked =
     ∷ tripsMixed
     ∷ sequenceAgain
     ∷ fallsFarBack
+    ∷ backwardOutruns
     ∷ tiesAtTheStart
     ∷ tiesAtTheEnd
     ∷ strayTrip

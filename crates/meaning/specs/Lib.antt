@@ -14,9 +14,12 @@ pub mod Promises
 pub mod Held
 pub mod Calls
 pub mod Demands
+pub mod TripOrder
 pub mod ByDate
 pub mod BadUtf8
 pub mod WhichColumn
 pub mod Nodes
 pub mod Boards
+pub mod ColumnTable
+pub mod Limits
 pub mod Cases

@@ -9,7 +9,6 @@ use lib.ListN.{length, getD}
 use lib.Dec.{ltb, eqb}
 use Rattle.meaning.specs.declared.Column.{Column}
 use Rattle.meaning.specs.declared.Refusal.{Refusal}
-use Rattle.meaning.specs.declared.Verdict.the-variants.{Unreadable}
 use Rattle.meaning.specs.declared.Place.{Place}
 use Rattle.meaning.specs.declared.Profile.{Profile}
 use Rattle.meaning.specs.declared.Profile.the-variants.{Plain, Boards}
@@ -17,7 +16,7 @@ use Rattle.meaning.specs.Lists.{same, keep, laid, place}
 use Rattle.meaning.specs.Bytes.{Line, linesOf, countLf, fields}
 use Rattle.meaning.specs.Columns.{places, headerOf}
 use Rattle.meaning.specs.Tables.{Feed, fileOf, timeTrip, widthOf}
-use Rattle.meaning.specs.Refusals.{Test, test, Claim, claim, maxBytes, maxLines, rule1, rule2, rule3, rule4, headTests, lineTests, long, blank, formless, refusal, verdictOf}
+use Rattle.meaning.specs.Refusals.{Test, test, Claim, claim, maxBytes, maxLines, rule1, rule2, rule3, rule4, headTests, lineTests, long, blank, formless, claims, refusal, verdictOf, verdictNumbers}
 use Rattle.meaning.specs.Rules.{row, timed, arrives, departs, sequence, rulesOf, recordCount}
 use Rattle.meaning.specs.Pages.{placeIn, behind, rowed}
 use Rattle.meaning.specs.Findings.{Finding, triple, answerNumbers}
@@ -53,6 +52,14 @@ saysRefused r = 2 ∷ r .number ∷ r .file ∷ r .line ∷ r .column ∷ 0 ∷ 
 -- of a feed that reads: accepted exactly when the total is 0
 abbrev pub saysRead : ℕ → ℕ → List ℕ
 saysRead written total = cond (eqb total 0) saysAccepted (saysFindings written total)
+
+-- ---- the verdict, in the numbers of `verdictNumbers`
+
+abbrev pub saysReadable : List ℕ
+saysReadable = []
+
+abbrev pub saysUnreadable : Refusal → List ℕ
+saysUnreadable r = r .number ∷ r .file ∷ r .line ∷ r .column ∷ []
 
 -- how many findings an answer says were written, and how many there are
 abbrev pub writtenIn : List ℕ → ℕ
@@ -142,7 +149,13 @@ pub record SomeBroken (cs : List Claim) : Type 0 where
 -- a feed is refused
 pub record RefusedBy (files : List (List ℕ)) (rooms : List ℕ) : Type 0 where
   pub told : Refusal
-  pub verdict : verdictOf files rooms ≡ Unreadable told
+  pub verdict : verdictNumbers (verdictOf files rooms) ≡ saysUnreadable told
+
+-- the verdict says a refusal exactly when it is the first one broken, that all files read exactly when none is, and nothing else
+pub record VerdictSaid (files : List (List ℕ)) (rooms : List ℕ) : Type 0 where
+  pub refused : (r : Refusal) → verdictNumbers (verdictOf files rooms) ≡ saysUnreadable r ↔ FirstBroken (claims files rooms) r
+  pub readable : verdictNumbers (verdictOf files rooms) ≡ saysReadable ↔ NoneBroken (claims files rooms)
+  pub either : RefusedBy files rooms ⊎ (verdictNumbers (verdictOf files rooms) ≡ saysReadable)
 
 -- what a refusal can say: a number from 1 to 14, its file, its line, or line 0 exactly for a whole file, and one of at most 32 columns
 pub record Sayable (files : List (List ℕ)) (r : Refusal) : Type 0 where

@@ -201,3 +201,8 @@ speaks (p ∷ r) = let k = speaks r in cond (p .broken) (Unreadable (refusal p))
 -- can six files be read, with tables of these lengths
 unfoldable pub verdictOf : List (List ℕ) → List ℕ → Verdict
 verdictOf files rooms = speaks (claims files rooms)
+
+-- what document 01 calls each case of the verdict: a refusal's number, file, line and column, and nothing where all six files read
+unfoldable pub verdictNumbers : Verdict → List ℕ
+verdictNumbers Readable = []
+verdictNumbers (Unreadable r) = r .number ∷ r .file ∷ r .line ∷ r .column ∷ []

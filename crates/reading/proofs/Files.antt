@@ -1,12 +1,12 @@
 -- The lines of a file and the files of a feed: the first broken claim.
 use mathlib.Core.Path.{_≡_, refl, sym, ap, _∙_}
 use mathlib.Core.Bool.{Bool, true, false}
-use mathlib.Core.List.{List, [], _∷_}
+use mathlib.Core.List.{List, [], _∷_, _++_}
 use Prim.Native.Nat.{ℕ, zero, suc, _+_, _*_, _/_, _≤_, _<_}
 use native.Mathlib.Omega.{arith}
 use native.Mathlib.Nat.{div-lt-iff-lt-mul, mul-comm}
 use lib.Dec.{T, ltb, leb→le}
-use lib.ListN.{length, getD}
+use lib.ListN.{length, getD, drop, drop-of-length-le}
 use borrow.Author.Tests.{lt-ltb, le-ltb, ltb-true, ltb-false}
 use Rattle.meaning.specs.declared.Verdict.{Verdict}
 use Rattle.meaning.specs.declared.Verdict.the-variants.{Readable}
@@ -16,6 +16,7 @@ use Rattle.meaning.specs.Tables.{widths, widthOf}
 use Rattle.meaning.specs.Refusals.{textTests, headTests, valueTests, lineTests, onLines, inFile, inFiles, speaks, verdictOf}
 use Rattle.text.specs.Lines.{LineStands}
 use Rattle.meaning.proofs.Computed.{all, below-all}
+use Rattle.meaning.proofs.Arrays.{drop-next}
 use Rattle.columns.specs.Columns.{placesOf}
 use Rattle.columns.proofs.Laws.{places-at}
 use Rattle.reading.specs.declared.Fault.{Fault}
@@ -74,25 +75,25 @@ module _ (f : ℕ) (s : List ℕ) (at : ℕ) (start : at ≡ startOf s) where
         let y = rw (p, q, lines-same f _ (places f (values (part s (bounds a e)))) (places-at f _) _ 2 (linesFrom s m)) at h in
         y ∙ rw (← start, stands .lines) (sym (then-on _ _ (line-on f 1 _ (head-positive f _) t test z)))
 
--- the files from file f on, one after the other, after what was said before them
-abbrev readOn : Verdict → ℕ → List (List ℕ) → Verdict
-readOn v f [] = v
-readOn v f (s ∷ r) = readOn (orElse v (speaks (inFile f (linesOf s)))) (f + 1) r
+-- the files from file i + 1 on, after what was said before them: the first of them, and where none is left
+module _ (files : List (List ℕ)) (i : ℕ) (v r : Verdict) (inv : orElse v (speaks (inFiles (i + 1) (drop i files))) ≡ r) where
+  pub files-next : i < length files → (u : Verdict) → u ≡ orElse v (speaks (inFile (i + 1) (linesOf (getD files i [])))) → orElse u (speaks (inFiles (i + 1 + 1) (drop (i + 1) files))) ≡ r
+  unfolding inFiles
+  files-next h u e =
+      let here = inFile (i + 1) (linesOf (getD files i [])) in
+      let on = inFiles (i + 1 + 1) (drop (i + 1) files) in
+      let z : orElse v (speaks (here ++ on)) ≡ r = rw (drop-next [] files i h) at inv in
+      ap (λ (w : Verdict). orElse w (speaks on)) e ∙ or-assoc v (speaks here) (speaks on) ∙ ap (orElse v) (sym (speaks-then here on)) ∙ z
 
-read-all : (v : Verdict) (f : ℕ) (ss : List (List ℕ)) → readOn v f ss ≡ orElse v (speaks (inFiles f ss))
-unfolding inFiles speaks
-read-all v f [] = sym (or-none v)
-read-all v f (s ∷ r) =
-    let here = inFile f (linesOf s) in
-    read-all (orElse v (speaks here)) (f + 1) r
-    ∙ (or-assoc v (speaks here) (speaks (inFiles (f + 1) r)) ∙ ap (orElse v) (sym (speaks-then here (inFiles (f + 1) r))))
+  pub files-over : length files ≤ i → v ≡ r
+  unfolding inFiles speaks
+  files-over h = sym (or-none v) ∙ rw (drop-of-length-le files {i = i} h) at inv
 
-pub feed-read : (files : List (List ℕ)) (rooms : List ℕ) (v : Verdict) → v ≡ speaks (wholeClaims (wholesOf files rooms)) → readOn v 1 files ≡ verdictOf files rooms
+pub feed-read : (files : List (List ℕ)) (rooms : List ℕ) (v : Verdict) → v ≡ speaks (wholeClaims (wholesOf files rooms)) → orElse v (speaks (inFiles 1 files)) ≡ verdictOf files rooms
 unfolding verdictOf
 feed-read files rooms v e =
-    read-all v 1 files
-    ∙ (ap (λ (u : Verdict). orElse u (speaks (inFiles 1 files))) e
-    ∙ (sym (speaks-then (wholeClaims (wholesOf files rooms)) (inFiles 1 files)) ∙ ap speaks (all-claims files rooms)))
+    ap (λ (u : Verdict). orElse u (speaks (inFiles 1 files))) e
+    ∙ (sym (speaks-then (wholeClaims (wholesOf files rooms)) (inFiles 1 files)) ∙ ap speaks (all-claims files rooms))
 
 -- rule 3 by division, which can't overflow
 pub wide : (f : ℕ) → 0 < f → f < 7 → 0 < widthOf f

@@ -9,6 +9,8 @@ use lib.ListN.{length, getD, List·getD-eq-default}
 use borrow.Author.Tests.{eq-eqb, ne-eqb, lt-ltb, le-ltb}
 use Rattle.meaning.specs.declared.Column.{Column}
 use Rattle.meaning.specs.Lists.{empty, least}
+use Rattle.text.specs.Fields.{upTo33}
+use Rattle.text.proofs.Spans.{up-exact, up-over}
 use Rattle.meaning.specs.Bytes.{good, fields}
 use Rattle.meaning.specs.Columns.{Row, columnOf, countOf, cell, rowOf}
 use Rattle.meaning.specs.Forms.{shapes, shape}
@@ -67,15 +69,16 @@ module _ (l : List ℕ) where
   unfolding rule6
   bad-is g u p q = rw (← p, q)
 
-  module _ (n : ℕ) (e : n ≡ length (fields l)) where
+  module _ (n : ℕ) (e : n ≡ upTo33 (length (fields l))) where
     pub many-yes : 32 < n → rule7 l ≡ true
     unfolding rule7
-    many-yes h = rw (← e) (lt-ltb 32 n h)
+    many-yes h = lt-ltb 32 (length (fields l)) (up-over (length (fields l)) n e h)
 
     pub many-no : n ≤ 32 → rule7 l ≡ false
     unfolding rule7
-    many-no h = rw (← e) (le-ltb 32 n h)
+    many-no h = rw (← up-exact (length (fields l)) n e (omega arith)) (le-ltb 32 n h)
 
+  module _ (n : ℕ) (e : n ≡ length (fields l)) where
     pub other-yes : (k : ℕ) → (n ≡ k → ⊥) → rule10 k l ≡ true
     unfolding rule10
     other-yes k h = rw (← e, ne-eqb n k h)

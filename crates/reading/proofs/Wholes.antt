@@ -1,15 +1,14 @@
 -- Rules 1 to 4 of whole files: each file's marks, and the first of them rule by rule.
-use mathlib.Core.Path.{_≡_, refl, ap, _∙_}
+use mathlib.Core.Path.{_≡_, refl, _∙_}
 use mathlib.Core.Bool.{Bool, true, false}
 use mathlib.Core.List.{List, [], _∷_, _++_, append-assoc}
-use Prim.Native.Nat.{ℕ, zero, suc, _+_, _-_, _≤_, _<_}
+use Prim.Native.Nat.{ℕ, suc, _+_, _-_, _≤_, _<_}
 use native.Mathlib.Omega.{arith}
-use native.Mathlib.Numerals.{add-one}
-use lib.ListN.{length, getD, drop, drop-of-length-le}
-use lib.Seq.{drop-cons}
+use lib.ListN.{length, getD, set, take, drop, drop-of-length-le}
 use Rattle.meaning.specs.declared.Verdict.{Verdict}
 use Rattle.meaning.specs.declared.Verdict.the-variants.{Readable}
 use Rattle.meaning.specs.Refusals.{inFiles, overFiles, claims, speaks, rule1, rule2, rule3, rule4}
+use Rattle.meaning.proofs.Arrays.{drop-next, fill-next, fill-all}
 use Rattle.reading.specs.Tests.{fault}
 use Rattle.reading.specs.Wholes.{wholeOf, wholesFrom, wholesOf, ruleMarks, firstTrue, marked, rulesFrom, wholeClaims}
 use Rattle.reading.proofs.Speaks.{refused, whole-stop, whole-on}
@@ -18,11 +17,11 @@ use Rattle.reading.proofs.Speaks.{refused, whole-stop, whole-on}
 module _ (k : ℕ) (ws : List (List Bool)) (f x : ℕ) (inv : firstTrue (f + 1) (ruleMarks k (drop f ws)) ≡ x) where
   pub mark-here : f < length ws → getD (getD ws f []) k false ≡ true → f + 1 ≡ x
   unfolding firstTrue ruleMarks
-  mark-here h e = rw (drop-cons ws f [] h, e) at inv
+  mark-here h e = rw (drop-next [] ws f h, e) at inv
 
   pub mark-next : f < length ws → getD (getD ws f []) k false ≡ false → firstTrue (f + 1 + 1) (ruleMarks k (drop (f + 1) ws)) ≡ x
   unfolding firstTrue ruleMarks
-  mark-next h e = rw (add-one f) (rw (drop-cons ws f [] h, e, add-one f) at inv)
+  mark-next h e = rw (drop-next [] ws f h, e) at inv
 
   pub mark-none : length ws ≤ f → 0 ≡ x
   unfolding firstTrue ruleMarks
@@ -46,29 +45,17 @@ module _ (ws : List (List Bool)) (k : ℕ) (v : Verdict) (inv : speaks (rulesFro
   unfolding rulesFrom speaks
   rules-over h = let z : 4 - k ≡ 0 = omega arith in rw z at inv
 
--- a list is its elements, one by one
-abbrev each : ℕ → (ℕ → ℕ) → List ℕ
-each zero g = []
-each (suc n) g = g zero ∷ each n (λ i. g (suc i))
+-- the marks of the first i files are put and those of the others follow: a turn along the files, and where none is left
+module _ (files : List (List ℕ)) (rooms : List ℕ) (ws : List (List Bool)) (i : ℕ)
+    (inv : take i ws ++ wholesFrom files (i + 1) (drop i files) (drop i rooms) ≡ wholesOf files rooms) where
+  pub wholes-next : i < length files → i < length rooms → i < length ws → (w : List Bool) → w ≡ wholeOf files (i + 1) (getD files i []) (getD rooms i 0)
+      → take (i + 1) (set ws i w) ++ wholesFrom files (i + 1 + 1) (drop (i + 1) files) (drop (i + 1) rooms) ≡ wholesOf files rooms
+  unfolding wholesFrom
+  wholes-next f r l w e = fill-next ws _ i w _ l (rw (drop-next [] files i f, drop-next 0 rooms i r, ← e) at inv)
 
-each-is : (l : List ℕ) → each (length l) (λ i. getD l i 0) ≡ l
-each-is [] = refl
-each-is (x ∷ r) = ap (λ (l : List ℕ). x ∷ l) (each-is r)
-
--- the marks of six files
-module _ (s1 s2 s3 s4 s5 s6 rooms : List ℕ) (six : length rooms ≡ 6) where
-  abbrev files : List (List ℕ)
-  files = s1 ∷ s2 ∷ s3 ∷ s4 ∷ s5 ∷ s6 ∷ []
-
-  pub wholes-are : wholeOf files 1 s1 (getD rooms 0 0)
-      ∷ wholeOf files 2 s2 (getD rooms 1 0)
-      ∷ wholeOf files 3 s3 (getD rooms 2 0)
-      ∷ wholeOf files 4 s4 (getD rooms 3 0)
-      ∷ wholeOf files 5 s5 (getD rooms 4 0)
-      ∷ wholeOf files 6 s6 (getD rooms 5 0)
-      ∷ [] ≡ wholesOf files rooms
-  unfolding wholesOf wholesFrom
-  wholes-are = ap (wholesFrom files 1 files) (rw six at (each-is rooms))
+  pub wholes-all : length files ≤ i → length ws ≤ i → ws ≡ wholesOf files rooms
+  unfolding wholesFrom
+  wholes-all f l = fill-all ws _ i l (rw (drop-of-length-le files {i = i} f) at inv)
 
 -- the marks of a rule over the files are its claims
 module _ (files : List (List ℕ)) (number k : ℕ) (P : ℕ → List ℕ → ℕ → Bool)

@@ -18,20 +18,22 @@ use text::LineStep;
 use text::Measured;
 ghost use mathlib.Core.Path.{_≡_};
 ghost use mathlib.Core.Bool.{not, _&&_};
-ghost use mathlib.Core.List.{List, [], _∷_, map};
+ghost use mathlib.Core.List.{List, map};
 ghost use Prim.Native.Nat.{ℕ, _*_, _<_, _≤_};
 ghost use lib.Dec.{ltb};
 ghost use lib.ListN.{length};
 ghost use Rattle.meaning.specs.Lists.{empty};
-ghost use Rattle.meaning.specs.Bytes.{countLf, linesFrom, linesOf, good, fields, value, values};
+ghost use Rattle.meaning.specs.Bytes.{countLf, linesFrom, linesOf, good, fields, value};
 ghost use Rattle.meaning.specs.Columns.{rowOf};
 ghost use Rattle.meaning.specs.Forms.{timeOf, dateOf, latitudeOf, longitudeOf, sequenceOf, choiceOf, routeTypeOf, exceptionOf, isTime, isDate, isDegrees, isNumber, isChoice, shape};
 ghost use Rattle.meaning.specs.Tables.{fileOf, widthOf};
 ghost use Rattle.meaning.specs.Refusals.{textTests, headTests, valueTests, lineTests, onLines, inFile, mayLack, rule4, slack, speaks, verdictOf};
+ghost use Rattle.text.specs.Fields.{upTo33};
 ghost use Rattle.schema.specs.AllKnown.{AllKnown};
-ghost use Rattle.columns.specs.Columns.{placesOf, Noted};
+ghost use Rattle.columns.specs.Columns.{Noted};
 ghost use Rattle.values.specs.Located.{Within, Located};
 ghost use Rattle.reading.specs.Tests.{fault, first, byteTests, columnTests, earlierOf};
+ghost use Rattle.reading.specs.Heads.{noColumns, columnsUnder};
 ghost use Rattle.reading.specs.Wholes.{wholeOf, wholesOf, ruleMarks, firstTrue, wholeClaims, orElse};
 
 // Is the value of a raw field a time, or empty?
@@ -242,7 +244,7 @@ fn row_fault(
     starts: &[usize],
 ) -> Fault
     requires { ⌜ (f < 7) × AllKnown f known ⌝ }
-    requires { ⌜ (count ≡ length (fields (now l))) × Noted (now l) (now starts) ⌝ }
+    requires { ⌜ (count ≡ upTo33 (length (fields (now l)))) × Noted (now l) (now starts) ⌝ }
     ensures { λ r. ⌜ r ≡ first (valueTests f at (now (l .entry))) ⌝ }
 {
     let cells = columns::cells_of(l, count, starts, at);
@@ -280,10 +282,11 @@ fn byte_rule(l: &[u8]) -> usize
     0
 }
 
-// The first of rules 5, 14, 6 and 7 that a line breaks, by what a walk along it told.
+// The first of rules 5, 14, 6 and 7 that a line breaks, by what a walk along it told; where it breaks none, the walk told all its fields.
 pub fn text_rule(l: &[u8], m: Measured) -> usize
-    requires { ⌜ (m .good ≡ good (now l)) × (m .fields ≡ length (fields (now l))) ⌝ }
+    requires { ⌜ (m .good ≡ good (now l)) × (m .fields ≡ upTo33 (length (fields (now l)))) ⌝ }
     ensures { λ r. ⌜ fault r 0 ≡ first (textTests (now (l .entry))) ⌝ }
+    ensures { λ r. ⌜ (r ≡ 0 → m .fields ≡ length (fields (now (l .entry)))) ⌝ }
 {
     let t = byte_rule(l);
     if t != 0 {
@@ -298,23 +301,50 @@ pub fn text_rule(l: &[u8], m: Measured) -> usize
     6
 }
 
-// The first rule that a header breaks, and its column.
-pub fn header_fault(f: usize, c: Columns, h: &[u8]) -> Fault
-    requires { ⌜ (f < 7) × (c .at ≡ placesOf f (values (now h))) ⌝ }
-    ensures { λ r. ⌜ r ≡ first (headTests f (now (h .entry))) ⌝ }
+// What a header tells: the first rule that it breaks, and its column; and under what the lines after it are read, nothing where it breaks one.
+pub struct Head {
+    pub fault: Fault,
+    pub columns: Columns,
+}
+
+// A header that breaks a rule.
+fn bad_head(rule: usize, column: usize) -> Head
+    ensures { λ r. ⌜ (r .fault ≡ fault rule column) × (r .columns ≡ noColumns) ⌝ }
 {
-    let t = text_rule(h, text::measure(h));
+    Head {
+        fault: Fault { rule, column },
+        columns: Columns {
+            at: [0usize; 10],
+            count: 0,
+        },
+    }
+}
+
+// A header judged: its text first, so that names are looked for in no more than 32 fields.
+pub fn judge_header(f: usize, h: &[u8]) -> Head
+    requires { ⌜ f < 7 ⌝ }
+    ensures { λ r. ⌜ (r .fault ≡ first (headTests f (now (h .entry)))) × (r .columns ≡ columnsUnder f (now (h .entry))) ⌝ }
+{
+    let m = text::measure(h);
+    let t = text_rule(h, m);
     if t != 0 {
-        return Fault { rule: t, column: 0 };
+        return bad_head(t, 0);
     }
-    let p = columns::repeated(f, h);
-    if p != 0 {
-        return Fault { rule: 8, column: p };
+    let names = columns::names_of(f, h);
+    if names.again != 0 {
+        return bad_head(8, names.again);
     }
-    if columns::lacks(f, c) {
-        return Fault { rule: 9, column: 0 };
+    let at = names.at;
+    if columns::lacks(f, at) {
+        return bad_head(9, 0);
     }
-    Fault { rule: 0, column: 0 }
+    Head {
+        fault: Fault { rule: 0, column: 0 },
+        columns: Columns {
+            at,
+            count: m.fields,
+        },
+    }
 }
 
 // The first rule that a line after the header breaks, and its column.
@@ -382,11 +412,12 @@ pub fn read_file(f: usize, s: &[u8]) -> Verdict
 {
     match text::next_line(s, text::body_start(s)) {
         LineStep::Line { start, end, next } => {
-            let c = columns::columns_of(f, &s[start..end]);
-            let t = header_fault(f, c, &s[start..end]);
+            let h = judge_header(f, &s[start..end]);
+            let t = h.fault;
             if t.rule != 0 {
                 return refuse(t, f, 1);
             }
+            let c = h.columns;
             read_lines(f, c, s, next)
         }
         LineStep::Done => Verdict::Readable,
@@ -475,59 +506,30 @@ fn order(wholes: [[bool; 4]; 6]) -> Verdict
 }
 
 // Rules 1 to 4 over the files, by their LF counts.
-fn read_wholes(
-    s1: &[u8],
-    s2: &[u8],
-    s3: &[u8],
-    s4: &[u8],
-    s5: &[u8],
-    s6: &[u8],
-    rooms: [usize; 6],
-    counts: [usize; 6],
-) -> Verdict
-    requires { ⌜ counts ≡ map countLf (now s1 ∷ now s2 ∷ now s3 ∷ now s4 ∷ now s5 ∷ now s6 ∷ []) ⌝ }
-    ensures { λ r. ⌜ r ≡ speaks (wholeClaims (wholesOf (now (s1 .entry) ∷ now (s2 .entry) ∷ now (s3 .entry) ∷ now (s4 .entry) ∷ now (s5 .entry) ∷ now (s6 .entry) ∷ []) rooms)) ⌝ }
+fn read_wholes(files: [&[u8]; 6], rooms: [usize; 6], counts: [usize; 6]) -> Verdict
+    requires { ⌜ counts ≡ map countLf (map now files) ⌝ }
+    ensures { λ r. ⌜ r ≡ speaks (wholeClaims (wholesOf (map now (files .entry)) rooms)) ⌝ }
 {
-    let dated = s6.len() != 0;
-    order([
-        whole_of(1, s1, counts[0], rooms[0], dated),
-        whole_of(2, s2, counts[1], rooms[1], dated),
-        whole_of(3, s3, counts[2], rooms[2], dated),
-        whole_of(4, s4, counts[3], rooms[3], dated),
-        whole_of(5, s5, counts[4], rooms[4], dated),
-        whole_of(6, s6, counts[5], rooms[5], dated),
-    ])
+    let dated = files[5].len() != 0;
+    let mut wholes = [[false; 4]; 6];
+    let mut i: usize = 0;
+    while i < 6 {
+        wholes[i] = whole_of(i + 1, files[i], counts[i], rooms[i], dated);
+        i += 1;
+    }
+    order(wholes)
 }
 
 // Can the six files, which have so many LF bytes each, be read into tables of these lengths? If not, the first broken rule with its file, line and column.
-pub fn verdict(
-    stops: &[u8],
-    routes: &[u8],
-    calendar: &[u8],
-    trips: &[u8],
-    stop_times: &[u8],
-    dates: &[u8],
-    rooms: [usize; 6],
-    counts: [usize; 6],
-) -> Verdict
-    requires { ⌜ counts ≡ map countLf (now stops ∷ now routes ∷ now calendar ∷ now trips ∷ now «stop_times» ∷ now dates ∷ []) ⌝ }
-    ensures { λ r. ⌜ r ≡ verdictOf (now (stops .entry) ∷ now (routes .entry) ∷ now (calendar .entry) ∷ now (trips .entry) ∷ now («stop_times» .entry) ∷ now (dates .entry) ∷ []) rooms ⌝ }
+pub fn verdict(files: [&[u8]; 6], rooms: [usize; 6], counts: [usize; 6]) -> Verdict
+    requires { ⌜ counts ≡ map countLf (map now files) ⌝ }
+    ensures { λ r. ⌜ r ≡ verdictOf (map now (files .entry)) rooms ⌝ }
 {
-    let v = read_wholes(
-        stops,
-        routes,
-        calendar,
-        trips,
-        stop_times,
-        dates,
-        rooms,
-        counts,
-    );
-    // A call for each file: slices of several lifetimes can't stand in one array.
-    let v = read_on(v, 1, stops);
-    let v = read_on(v, 2, routes);
-    let v = read_on(v, 3, calendar);
-    let v = read_on(v, 4, trips);
-    let v = read_on(v, 5, stop_times);
-    read_on(v, 6, dates)
+    let mut v = read_wholes(files, rooms, counts);
+    let mut i: usize = 0;
+    while i < 6 {
+        v = read_on(v, i + 1, files[i]);
+        i += 1;
+    }
+    v
 }

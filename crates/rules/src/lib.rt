@@ -1,6 +1,6 @@
 // All findings of a feed whose tables are filled, handed out in order.
 ghost use mathlib.Core.Path.{_≡_};
-ghost use mathlib.Core.List.{[], _∷_};
+ghost use mathlib.Core.List.{[], _∷_, map};
 ghost use Prim.Native.Nat.{ℕ, _+_, _*_, _-_, _^_, _<_, _≤_};
 ghost use lib.ListN.{getD};
 ghost use Rattle.meaning.specs.Tables.{Feed};
@@ -51,15 +51,40 @@ fn list_counted(
     file_rules::list_file(f, records_of(lines), t, stops, marks, out, k, from, asked)
 }
 
-// All findings, of files of so many lines each, by the rules asked for: those after the starting place are written, as many as fit; the rest of the list stays.
-pub fn list_findings(
+// The same of all files, in order.
+fn list_tables(
     counts: [usize; 6],
-    stops_table: &[i32],
-    routes_table: &[i32],
-    calendar_table: &[i32],
-    trips_table: &[i32],
-    times_table: &[i32],
-    dates_table: &[i32],
+    tables: [&[i32]; 6],
+    marks: &[u16],
+    out: &mut [i32],
+    a: Wanted,
+) -> Sink
+    requires { ⌜ ((i : ℕ) → i < 6 → getD counts i 0 ≤ maxLines) ⌝ }
+    ensures { λ r. ⌜ ((w : Feed) → Tabled w counts (map now (tables .entry)) (now (marks .entry))
+        → state (now (out .exit)) r ≡ handedOut (a .from) (findingsOf (a .asked) w) (now (out .entry))) ⌝ }
+    ensures { λ r. ⌜ r .total ≤ 21 * maxLines ⌝ }
+{
+    let mut k = Sink {
+        written: 0,
+        total: 0,
+    };
+    let mut i: usize = 0;
+    while i < 6 {
+        k = list_counted(i + 1, counts[i], tables[i], tables[0], marks, out, k, a);
+        i += 1;
+    }
+    k
+}
+
+// All findings, of files of so many lines each, by the rules asked for: those after the starting place are written, as many as fit; the rest of the list stays.
+pub fn list_findings<'a>(
+    counts: [usize; 6],
+    stops_table: &'a [i32],
+    routes_table: &'a [i32],
+    calendar_table: &'a [i32],
+    trips_table: &'a [i32],
+    times_table: &'a [i32],
+    dates_table: &'a [i32],
     marks: &[u16],
     out: &mut [i32],
     p: Place,
@@ -73,15 +98,14 @@ pub fn list_findings(
         → state (now (out .exit)) r ≡ handedOut p (findingsOf asked w) (now (out .entry))) ⌝ }
     ensures { λ r. ⌜ r .total ≤ 21 * maxLines ⌝ }
 {
-    let none = Sink {
-        written: 0,
-        total: 0,
-    };
     let a = Wanted { from: p, asked };
-    let k = list_counted(1, counts[0], stops_table, stops_table, marks, out, none, a);
-    let k = list_counted(2, counts[1], routes_table, stops_table, marks, out, k, a);
-    let k = list_counted(3, counts[2], calendar_table, stops_table, marks, out, k, a);
-    let k = list_counted(4, counts[3], trips_table, stops_table, marks, out, k, a);
-    let k = list_counted(5, counts[4], times_table, stops_table, marks, out, k, a);
-    list_counted(6, counts[5], dates_table, stops_table, marks, out, k, a)
+    let tables = [
+        stops_table,
+        routes_table,
+        calendar_table,
+        trips_table,
+        times_table,
+        dates_table,
+    ];
+    list_tables(counts, tables, marks, out, a)
 }

@@ -2,10 +2,10 @@
 use meaning::Column;
 ghost use mathlib.Core.Path.{_≡_};
 ghost use Prim.Native.Nat.{_<_, _≤_};
-ghost use Rattle.meaning.specs.Lists.{same};
 ghost use Rattle.meaning.specs.Bytes.{value};
-ghost use Rattle.meaning.specs.Columns.{columnOf, nameOf, countOf};
+ghost use Rattle.meaning.specs.Columns.{columnOf, countOf};
 ghost use Rattle.schema.specs.AllKnown.{AllKnown};
+ghost use Rattle.schema.specs.Named.{namedBy};
 
 // For each file and known column: must be present, on which lines it needs a value, is an id, form.
 const MUST: [[bool; 10]; 7] = [
@@ -194,28 +194,18 @@ const FORM: [[u8; 10]; 7] = [
 
 const COUNTS: [usize; 7] = [0, 6, 4, 10, 6, 8, 3];
 
-// All names, one after the other, and where each starts and ends.
+// All names, one after the other, and where each file's stand: each from its number to the next.
 const NAMES: [u8; 371] =
     *b"stop_idstop_namestop_latstop_lonlocation_typeparent_stationroute_idroute_typeroute_short_nameroute_long_nameservice_idmondaytuesdaywednesdaythursdayfridaysaturdaysundaystart_dateend_dateroute_idservice_idtrip_iddirection_idwheelchair_accessiblebikes_allowedtrip_idarrival_timedeparture_timestop_idstop_sequencepickup_typedrop_off_typetimepointservice_iddateexception_type";
 
-const FROM: [[usize; 10]; 7] = [
-    [0, 0, 0, 0, 0, 0, 0, 0, 0, 0],
-    [0, 7, 16, 24, 32, 45, 0, 0, 0, 0],
-    [59, 67, 77, 93, 0, 0, 0, 0, 0, 0],
-    [108, 118, 124, 131, 140, 148, 154, 162, 168, 178],
-    [186, 194, 204, 211, 223, 244, 0, 0, 0, 0],
-    [257, 264, 276, 290, 297, 310, 321, 334, 0, 0],
-    [343, 353, 357, 0, 0, 0, 0, 0, 0, 0],
-];
-
-const TO: [[usize; 10]; 7] = [
-    [0, 0, 0, 0, 0, 0, 0, 0, 0, 0],
-    [7, 16, 24, 32, 45, 59, 0, 0, 0, 0],
-    [67, 77, 93, 108, 0, 0, 0, 0, 0, 0],
-    [118, 124, 131, 140, 148, 154, 162, 168, 178, 186],
-    [194, 204, 211, 223, 244, 257, 0, 0, 0, 0],
-    [264, 276, 290, 297, 310, 321, 334, 343, 0, 0],
-    [353, 357, 371, 0, 0, 0, 0, 0, 0, 0],
+const CUTS: [[usize; 11]; 7] = [
+    [0, 0, 0, 0, 0, 0, 0, 0, 0, 0, 0],
+    [0, 7, 16, 24, 32, 45, 59, 59, 59, 59, 59],
+    [59, 67, 77, 93, 108, 108, 108, 108, 108, 108, 108],
+    [108, 118, 124, 131, 140, 148, 154, 162, 168, 178, 186],
+    [186, 194, 204, 211, 223, 244, 257, 257, 257, 257, 257],
+    [257, 264, 276, 290, 297, 310, 321, 334, 343, 343, 343],
+    [343, 353, 357, 371, 371, 371, 371, 371, 371, 371, 371],
 ];
 
 // How many known columns a file has.
@@ -257,12 +247,23 @@ pub fn all_known(f: usize) -> [Column; 10]
     all
 }
 
-// Is the value of a raw field the name of known column k of file f?
-pub fn is_named(f: usize, k: usize, raw: &[u8]) -> bool
-    requires { ⌜ (f < 7) × (k < 10) ⌝ }
-    ensures { λ r. ⌜ r ≡ same (value (now (raw .entry))) (nameOf f k) ⌝ }
+// Which known column of file f the value of a raw field names, counted from 1; 0 where it names none.
+pub fn named(f: usize, raw: &[u8]) -> usize
+    requires { ⌜ f < 7 ⌝ }
+    ensures { λ r. ⌜ (r ≡ namedBy f (value (now (raw .entry)))) × (r ≤ 10) ⌝ }
 {
-    let a = FROM[f][k];
-    let e = TO[f][k];
-    text::is_name(raw, &NAMES[a..e])
+    // Made once a field: a constant's array is written anew wherever it is named.
+    let names = NAMES;
+    let cuts = CUTS[f];
+    let m = count(f);
+    let mut k = 0;
+    while k < m {
+        let a = cuts[k];
+        let e = cuts[k + 1];
+        if text::is_name(raw, &names[a..e]) {
+            return k + 1;
+        }
+        k += 1;
+    }
+    0
 }

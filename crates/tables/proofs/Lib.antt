@@ -10,3 +10,4 @@ pub mod TripLines
 pub mod Settling
 pub mod Marking
 pub mod Feeds
+pub mod Behind

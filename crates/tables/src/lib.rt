@@ -1,14 +1,15 @@
 // The six lent tables, filled from the six files.
 ghost use mathlib.Core.Path.{_≡_};
 ghost use mathlib.Core.Bool.{false};
-ghost use mathlib.Core.List.{List, [], _∷_};
+ghost use mathlib.Core.List.{List, [], _∷_, map};
 ghost use Prim.Native.Nat.{ℕ, _+_, _<_, _≤_};
 ghost use lib.IntN.{ℤ};
 ghost use lib.ListN.{length, take};
 ghost use Rattle.meaning.specs.Lists.{flat, laid};
 ghost use Rattle.meaning.specs.Bytes.{countLf};
-ghost use Rattle.meaning.specs.Tables.{Feed, feedOf, routeIds, serviceIds, filled};
+ghost use Rattle.meaning.specs.Tables.{Feed, fileOf, feedOf, routeIds, serviceIds, filled};
 ghost use Rattle.meaning.specs.Refusals.{maxBytes, maxLines};
+ghost use Rattle.meaning.specs.Outcome.{filledFrom};
 ghost use Rattle.marks.specs.Marks.{marked, Blank};
 ghost use Rattle.marks.specs.Noted.{Noted, TripsNoted};
 ghost use Rattle.ordering.specs.Ids.{Placed, Arranged};
@@ -216,12 +217,7 @@ fn order_all(
 
 // The six tables of six files: ids and their orders first, by which references are found, then every record; and the marks.
 pub fn fill_all(
-    stops: &[u8],
-    routes: &[u8],
-    calendar: &[u8],
-    trips: &[u8],
-    stop_times: &[u8],
-    dates: &[u8],
+    files: [&[u8]; 6],
     stops_table: &mut [i32],
     routes_table: &mut [i32],
     calendar_table: &mut [i32],
@@ -230,28 +226,24 @@ pub fn fill_all(
     dates_table: &mut [i32],
     marks: &mut [u16],
 )
-    requires { ⌜ Room 1 (now stops) (now «stops_table») ⌝ }
-    requires { ⌜ Room 2 (now routes) (now «routes_table») ⌝ }
-    requires { ⌜ Fits 3 (now calendar) (now «calendar_table») ⌝ }
-    requires { ⌜ Room 4 (now trips) (now «trips_table») ⌝ }
-    requires { ⌜ Room 5 (now «stop_times») (now «stop_times_table») ⌝ }
-    requires { ⌜ Fits 6 (now dates) (now «dates_table») ⌝ }
+    requires { ⌜ Room 1 (fileOf (map now files) 1) (now «stops_table») ⌝ }
+    requires { ⌜ Room 2 (fileOf (map now files) 2) (now «routes_table») ⌝ }
+    requires { ⌜ Fits 3 (fileOf (map now files) 3) (now «calendar_table») ⌝ }
+    requires { ⌜ Room 4 (fileOf (map now files) 4) (now «trips_table») ⌝ }
+    requires { ⌜ Room 5 (fileOf (map now files) 5) (now «stop_times_table») ⌝ }
+    requires { ⌜ Fits 6 (fileOf (map now files) 6) (now «dates_table») ⌝ }
     requires { ⌜ Blank (now marks) × (maxLines ≤ length (now marks)) ⌝ }
-    ensures { λ _. ⌜ now («stops_table» .exit) ≡ filled 1 (feedOf (now (stops .entry) ∷ now (routes .entry) ∷ now (calendar .entry) ∷ now (trips .entry) ∷ now («stop_times» .entry) ∷ now (dates .entry) ∷ []))
-        (now (stops .entry)) (now («stops_table» .entry)) ⌝ }
-    ensures { λ _. ⌜ now («routes_table» .exit) ≡ filled 2 (feedOf (now (stops .entry) ∷ now (routes .entry) ∷ now (calendar .entry) ∷ now (trips .entry) ∷ now («stop_times» .entry) ∷ now (dates .entry) ∷ []))
-        (now (routes .entry)) (now («routes_table» .entry)) ⌝ }
-    ensures { λ _. ⌜ now («calendar_table» .exit) ≡ filled 3 (feedOf (now (stops .entry) ∷ now (routes .entry) ∷ now (calendar .entry) ∷ now (trips .entry) ∷ now («stop_times» .entry) ∷ now (dates .entry) ∷ []))
-        (now (calendar .entry)) (now («calendar_table» .entry)) ⌝ }
-    ensures { λ _. ⌜ now («trips_table» .exit) ≡ filled 4 (feedOf (now (stops .entry) ∷ now (routes .entry) ∷ now (calendar .entry) ∷ now (trips .entry) ∷ now («stop_times» .entry) ∷ now (dates .entry) ∷ []))
-        (now (trips .entry)) (now («trips_table» .entry)) ⌝ }
-    ensures { λ _. ⌜ now («stop_times_table» .exit) ≡ filled 5 (feedOf (now (stops .entry) ∷ now (routes .entry) ∷ now (calendar .entry) ∷ now (trips .entry) ∷ now («stop_times» .entry) ∷ now (dates .entry) ∷ []))
-        (now («stop_times» .entry)) (now («stop_times_table» .entry)) ⌝ }
-    ensures { λ _. ⌜ now («dates_table» .exit) ≡ filled 6 (feedOf (now (stops .entry) ∷ now (routes .entry) ∷ now (calendar .entry) ∷ now (trips .entry) ∷ now («stop_times» .entry) ∷ now (dates .entry) ∷ []))
-        (now (dates .entry)) (now («dates_table» .entry)) ⌝ }
-    ensures { λ _. ⌜ Noted (feedOf (now (stops .entry) ∷ now (routes .entry) ∷ now (calendar .entry) ∷ now (trips .entry) ∷ now («stop_times» .entry) ∷ now (dates .entry) ∷ [])) (now (marks .exit)) ⌝ }
-    ensures { λ _. ⌜ TripsNoted (feedOf (now (stops .entry) ∷ now (routes .entry) ∷ now (calendar .entry) ∷ now (trips .entry) ∷ now («stop_times» .entry) ∷ now (dates .entry) ∷ [])) (now (marks .exit)) ⌝ }
+    ensures { λ _. ⌜ now («stops_table» .exit) ∷ now («routes_table» .exit) ∷ now («calendar_table» .exit) ∷ now («trips_table» .exit) ∷ now («stop_times_table» .exit) ∷ now («dates_table» .exit) ∷ []
+        ≡ filledFrom 1 (feedOf (map now (files .entry))) (map now (files .entry))
+        (now («stops_table» .entry) ∷ now («routes_table» .entry) ∷ now («calendar_table» .entry) ∷ now («trips_table» .entry) ∷ now («stop_times_table» .entry) ∷ now («dates_table» .entry) ∷ []) ⌝ }
+    ensures { λ _. ⌜ Noted (feedOf (map now (files .entry))) (now (marks .exit)) × TripsNoted (feedOf (map now (files .entry))) (now (marks .exit)) ⌝ }
 {
+    let stops = files[0];
+    let routes = files[1];
+    let calendar = files[2];
+    let trips = files[3];
+    let stop_times = files[4];
+    let dates = files[5];
     let n = order_all(
         stops,
         routes,

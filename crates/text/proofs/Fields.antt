@@ -16,7 +16,7 @@ use Rattle.meaning.specs.Columns.{fieldAt}
 use Rattle.meaning.specs.Refusals.{rule5}
 use Rattle.text.specs.declared.Cursor.{Cursor}
 use Rattle.text.specs.declared.Step.the-variants.{Field, Done}
-use Rattle.text.specs.Fields.{fieldCount, fieldLen, stepAt, fieldsFrom, valuesFrom, FieldStands, Inside}
+use Rattle.text.specs.Fields.{fieldCount, fieldLen, fieldState, stepAt, fieldsFrom, valuesFrom, FieldStands, Inside}
 use Rattle.meaning.proofs.Computed.{all, getD-all}
 use Rattle.text.proofs.Laws.{drop-next, drop-over}
 
@@ -142,9 +142,10 @@ pub step-over : (l : List ℕ) (at : ℕ) → length l < at → Done ≡ stepAt 
 unfolding stepAt
 step-over l at h = rw (lt-ltb (length l) at h)
 
-pub step-to : (l : List ℕ) (at e : ℕ) → at ≤ length l → e ≡ at + fieldLen start (drop at l) → Field at e (record { at = e + 1 }) ≡ stepAt l at
+pub step-to : (l : List ℕ) (at e z : ℕ) → at ≤ length l → (e ≡ at + fieldLen start (drop at l)) × (z ≡ fieldState start (drop at l))
+    → Field at e (record { at = e + 1; state = z }) ≡ stepAt l at
 unfolding stepAt
-step-to l at e h p = rw (le-ltb (length l) at h, ← p)
+step-to l at e z h p = rw (le-ltb (length l) at h, ← p .0, ← p .1)
 
 -- a step that finds a field, from any byte
 pub field-found : (l : List ℕ) (at a e : ℕ) (n : Cursor) → stepAt l at ≡ Field a e n → FieldStands l at a e (n .at)
@@ -155,10 +156,11 @@ field-found l at a e n p = go (ltb (length l) at) refl (at + fieldLen start (dro
     go true t k q = let z : Done ≡ Field a e n = rw t at p in let w : _≡_ {A = ℕ} 0 1 = cc in absurd (omega arith)
     go false t k q =
         let h : at ≤ length l = ltb-false (length l) at t in
-        let z : Field at k (record { at = k + 1 }) ≡ Field a e n = rw q (rw t at p) in
+        let s : ℕ = fieldState start (drop at l) in
+        let z : Field at k (record { at = k + 1; state = s }) ≡ Field a e n = rw q (rw t at p) in
         let x : at ≡ a = cc in
         let y : k ≡ e = cc in
-        let c : _≡_ {A = Cursor} (record { at = k + 1 }) n = cc in
+        let c : _≡_ {A = Cursor} (record { at = k + 1; state = s }) n = cc in
         let m : k + 1 ≡ n .at = ap (λ (v : Cursor). v .at) c in
         record {
           starts = sym x;
@@ -169,6 +171,19 @@ field-found l at a e n p = go (ltb (length l) at) refl (at + fieldLen start (dro
           values = rw (← x, ← y, ← m) (values-step l at h k q);
         }
 
+-- and where the cursor has moved
+pub field-moved : (l : List ℕ) (at a e : ℕ) (n : Cursor) → stepAt l at ≡ Field a e n
+    → n ≡ record { at = at + fieldLen start (drop at l) + 1; state = fieldState start (drop at l) }
+unfolding stepAt
+field-moved l at a e n p = go (ltb (length l) at) refl
+  where
+    m : Cursor
+    m = record { at = at + fieldLen start (drop at l) + 1; state = fieldState start (drop at l) }
+
+    go : (t : Bool) → ltb (length l) at ≡ t → n ≡ m
+    go true t = let z : Done ≡ Field a e n = rw t at p in let w : _≡_ {A = ℕ} 0 1 = cc in absurd (omega arith)
+    go false t = let z : Field at (at + fieldLen start (drop at l)) m ≡ Field a e n = rw t at p in cc
+
 -- a step that finds none
 pub field-none : (l : List ℕ) (at : ℕ) → stepAt l at ≡ Done → length l < at
 unfolding stepAt
@@ -177,7 +192,7 @@ field-none l at p = go (ltb (length l) at) refl
     go : (t : Bool) → ltb (length l) at ≡ t → length l < at
     go true t = ltb-true (length l) at t
     go false t =
-        let z : Field at (at + fieldLen start (drop at l)) (record { at = at + fieldLen start (drop at l) + 1 }) ≡ Done = rw t at p in
+        let z : Field at (at + fieldLen start (drop at l)) (record { at = at + fieldLen start (drop at l) + 1; state = fieldState start (drop at l) }) ≡ Done = rw t at p in
         let w : _≡_ {A = ℕ} 0 1 = cc in omega arith
 
 pub fields-none : (l : List ℕ) (at : ℕ) → stepAt l at ≡ Done → fieldsFrom l at ≡ []

@@ -96,19 +96,19 @@ toLf-block s i j v k h w e z inv =
     let x : toLf (drop (j - i) (drop i s)) ≡ toLf (drop j s) = rw (drop-drop (j - i) i s, d) in
     omega arith
 
--- a turn along the bytes, on whether one is LF
-pub any-turn : (s : List ℕ) (i : ℕ) → i < length s → (t u k : Bool) → u ≡ (t || eqb (getD s i 0) 10) → (t || any isLf (drop i s)) ≡ k → (u || any isLf (drop (i + 1) s)) ≡ k
+-- a turn along the bytes, on whether a test holds of one
+pub any-turn : (P : ℕ → Bool) (s : List ℕ) (i : ℕ) → i < length s → (t u k : Bool) → u ≡ (t || P (getD s i 0)) → (t || any P (drop i s)) ≡ k → (u || any P (drop (i + 1) s)) ≡ k
 unfolding any
-any-turn s i more t u k e inv = rw e (go t (eqb (getD s i 0) 10) refl (rw (drop-next s i more) at inv))
+any-turn P s i more t u k e inv = rw e (go t (P (getD s i 0)) refl (rw (drop-next s i more) at inv))
   where
-    go : (t v : Bool) → eqb (getD s i 0) 10 ≡ v → (t || cond v true (any isLf (drop (i + 1) s))) ≡ k → ((t || v) || any isLf (drop (i + 1) s)) ≡ k
+    go : (t v : Bool) → P (getD s i 0) ≡ v → (t || cond v true (any P (drop (i + 1) s))) ≡ k → ((t || v) || any P (drop (i + 1) s)) ≡ k
     go true v p q = q
     go false true p q = q
     go false false p q = q
 
-pub any-over : (s : List ℕ) (i : ℕ) → length s ≤ i → (t k : Bool) → (t || any isLf (drop i s)) ≡ k → t ≡ k
+pub any-over : (P : ℕ → Bool) (s : List ℕ) (i : ℕ) → length s ≤ i → (t k : Bool) → (t || any P (drop i s)) ≡ k → t ≡ k
 unfolding any
-any-over s i over t k inv = go t (rw (drop-over s i over) at inv)
+any-over P s i over t k inv = go t (rw (drop-over s i over) at inv)
   where
     go : (t : Bool) → (t || false) ≡ k → t ≡ k
     go true q = q

@@ -1,106 +1,106 @@
 -- Laws of a field's end: bytes that change no state are passed over, and a walk from field to field tells of the whole line.
-use mathlib.Core.Path.{_≡_, refl, sym, _∙_}
+use mathlib.Core.Path.{_≡_, refl, sym, ap, _∙_}
 use mathlib.Core.Bool.{Bool, true, false, cond}
 use mathlib.Core.List.{List, [], _∷_}
 use Prim.Native.Nat.{ℕ, zero, suc, _+_, _-_, _≤_, _<_}
 use native.Mathlib.Numerals.{add-one}
 use native.Mathlib.Omega.{arith}
 use native.Mathlib.Nat.{add-zero, not-suc-le-zero}
-use lib.Dec.{eqb}
-use lib.ListN.{length, getD, set, drop, length-drop, length-set}
-use lib.Seq.{drop-drop, getD-drop, getD-set-same, getD-set-other}
-use borrow.Author.Tests.{eq-eqb, ne-eqb, eqb-true}
+use lib.Dec.{eqb, ltb}
+use lib.ListN.{length, getD, set, take, drop, length-drop, length-set}
+use lib.Seq.{drop-drop, take-nil, getD-set-same, getD-set-other}
+use borrow.Author.Tests.{eq-eqb, ne-eqb, eqb-true, lt-ltb, le-ltb, ltb-true, ltb-false}
 use Rattle.meaning.specs.declared.Bounds.{Bounds}
-use Rattle.meaning.specs.Bytes.{bounds, start, bare, classOf, quoting, endings, next, run}
+use Rattle.meaning.specs.Lists.{any}
+use Rattle.meaning.specs.Bytes.{bounds, start, bare, closed, classOf, quoting, endings, next, run, good, fields}
 use Rattle.text.specs.Lines.{toFirst}
-use Rattle.text.specs.Fields.{isBreak, toBreak, toMark, afterRun, fieldLen, fieldState, fieldsFrom, pastEnds}
+use Rattle.text.specs.Fields.{isMark, isBreak, toBreak, toMark, asked, toAsked, fieldLen, fieldState, upTo33, stepAt, fieldsFrom, pastEnds, FieldStands}
+use Rattle.text.specs.declared.Cursor.{Cursor}
+use Rattle.text.specs.declared.Step.the-variants.{Field}
+use Rattle.meaning.proofs.ListLaws.{both}
 use Rattle.text.proofs.Laws.{drop-next, drop-over}
 use Rattle.text.proofs.Lines.{first-stands}
-use Rattle.text.proofs.Fields.{from-step, from-over, end-within}
+use Rattle.text.proofs.Fields.{next-lt, from-start, from-step, from-over, field-found, field-moved, end-within}
 
--- whether a byte is a comma or a mark, by two tests
-module _ (b : ℕ) where
-  pub is-comma : b ≡ 44 → isBreak b ≡ true
-  is-comma e = rw (eq-eqb b 44 e)
+-- a byte above the comma is neither comma nor mark
+pub above-breaks : (b : ℕ) → 44 < b → false ≡ isBreak b
+above-breaks b h = rw (ne-eqb b 44 (λ e. omega arith), ne-eqb b 34 (λ e. omega arith))
 
-  pub is-mark : (b ≡ 44 → ⊥) → b ≡ 34 → isBreak b ≡ true
-  is-mark d e = rw (ne-eqb b 44 d, eq-eqb b 34 e)
+-- where the table is next asked in a state, as the code looks for it
+module _ (q : ℕ) (r : List ℕ) where
+  pub asked-bare : q ≡ bare → toBreak r ≡ toAsked q r
+  unfolding asked
+  asked-bare e = rw e
 
-  pub is-other : (b ≡ 44 → ⊥) → (b ≡ 34 → ⊥) → isBreak b ≡ false
-  is-other d e = rw (ne-eqb b 44 d, ne-eqb b 34 e)
+  pub asked-closed : q ≡ closed → 0 ≡ toAsked q r
+  unfolding asked toFirst
+  asked-closed e = go r
+    where
+      go : (r : List ℕ) → 0 ≡ toAsked q r
+      go [] = refl
+      go (b ∷ r) = rw e
 
--- what a byte does that is neither comma nor mark
-other-class : (b : ℕ) → eqb b 44 ≡ false → eqb b 34 ≡ false → classOf b ≡ 2
-unfolding classOf
-other-class b d e = rw (d, e)
+  pub asked-else : (q ≡ bare → ⊥) → (q ≡ closed → ⊥) → toMark r ≡ toAsked q r
+  unfolding asked toFirst
+  asked-else n m = go r
+    where
+      go : (r : List ℕ) → toMark r ≡ toAsked q r
+      go [] = refl
+      go (b ∷ r) = rw (ne-eqb q 1 n, ne-eqb q 3 m, go r)
 
-next-bare : (b : ℕ) → eqb b 44 ≡ false → eqb b 34 ≡ false → next 1 b ≡ 1
-unfolding next quoting
-next-bare b d e = rw (other-class b d e)
+-- the state after a byte that is no mark, by whether it is a comma
+next-unmarked : (q b : ℕ) → isMark b ≡ false → next q b ≡ getD (getD quoting q []) (cond (eqb b 44) 0 2) 0
+unfolding next classOf
+next-unmarked q b e = rw e
 
-next-first : (b : ℕ) → eqb b 44 ≡ false → eqb b 34 ≡ false → next 0 b ≡ 1
-unfolding next quoting
-next-first b d e = rw (other-class b d e)
-
--- what a byte does between quotes that is no mark
-next-quoted : (b : ℕ) → eqb b 34 ≡ false → next 2 b ≡ 2
-unfolding next quoting classOf
-next-quoted b e = go (eqb b 44)
+-- a byte that the table isn't asked for keeps the state
+keeps : (q b : ℕ) → q < 5 → (q ≡ start → ⊥) → asked q b ≡ false → next q b ≡ q
+unfolding asked quoting
+keeps zero b h n e = absurd (n refl)
+keeps (suc zero) b h n e = go (eqb b 44) (eqb b 34) refl refl
   where
-    go : (t : Bool) → _≡_ {A = ℕ} (getD (2 ∷ 3 ∷ 2 ∷ []) (cond t 0 (cond (eqb b 34) 1 2)) 0) 2
+    go : (t u : Bool) → eqb b 44 ≡ t → eqb b 34 ≡ u → next 1 b ≡ 1
+    go true u x y = both true refl (rw x at e)
+    go false true x y = both true refl (rw (x, y) at e)
+    go false false x y = rw (next-unmarked 1 b y, x)
+keeps (suc (suc zero)) b h n e = rw (next-unmarked 2 b e) (go (eqb b 44))
+  where
+    go : (t : Bool) → _≡_ {A = ℕ} (getD (2 ∷ 3 ∷ 2 ∷ []) (cond t 0 2) 0) 2
     go true = refl
-    go false = rw e
-
--- a run of bytes that are neither comma nor mark, in a bare field
-module _ (r : List ℕ) where
-  abbrev Passes : ℕ → ℕ → ℕ → Type 0
-  Passes q p n = (fieldLen q r ≡ n + fieldLen p (drop n r)) × (fieldState q r ≡ fieldState p (drop n r))
-
-bare-run : (r : List ℕ) → Passes r 1 1 (toBreak r)
-unfolding toFirst fieldLen fieldState
-bare-run [] = (refl, refl)
-bare-run (b ∷ r) = go (eqb b 44) (eqb b 34) refl refl (bare-run r)
+    go false = refl
+keeps (suc (suc (suc zero))) b h n e = both true refl e
+keeps (suc (suc (suc (suc zero)))) b h n e = rw (next-unmarked 4 b e) (go (eqb b 44))
   where
-    go : (t u : Bool) → eqb b 44 ≡ t → eqb b 34 ≡ u → Passes r 1 1 (toBreak r) → Passes (b ∷ r) 1 1 (toBreak (b ∷ r))
-    go true u d e ih = rw d (omega arith, refl)
-    go false true d e ih = rw (d, e) (omega arith, refl)
-    go false false d e ih = rw (d, e, next-bare b d e, add-one (toBreak r)) (omega (arith, ih .0), ih .1)
+    go : (t : Bool) → _≡_ {A = ℕ} (getD (4 ∷ 4 ∷ 4 ∷ []) (cond t 0 2) 0) 4
+    go true = refl
+    go false = refl
+keeps (suc (suc (suc (suc (suc q))))) b h n e = absurd (omega arith)
 
--- from a field's first byte on
-first-run : (r : List ℕ) → Passes r 0 (afterRun (toBreak r)) (toBreak r)
-unfolding toFirst fieldLen fieldState afterRun
-first-run [] = (refl, refl)
-first-run (b ∷ r) = go (eqb b 44) (eqb b 34) refl refl (bare-run r)
-  where
-    go : (t u : Bool) → eqb b 44 ≡ t → eqb b 34 ≡ u → Passes r 1 1 (toBreak r) → Passes (b ∷ r) 0 (afterRun (toBreak (b ∷ r))) (toBreak (b ∷ r))
-    go true u d e ih = rw d (omega arith, refl)
-    go false true d e ih = rw (d, e) (omega arith, refl)
-    go false false d e ih =
-        let z : suc (toBreak r) ≡ 0 → ⊥ = λ x. omega arith in
-        rw (d, e, next-first b d e, add-one (toBreak r), ne-eqb (suc (toBreak r)) 0 z) (omega (arith, ih .0), ih .1)
-
--- a run of bytes that are no mark, between quotes
-quoted-run : (r : List ℕ) → Passes r 2 2 (toMark r)
-unfolding toFirst fieldLen fieldState
-quoted-run [] = (refl, refl)
-quoted-run (b ∷ r) = go (eqb b 34) refl (quoted-run r)
-  where
-    go : (u : Bool) → eqb b 34 ≡ u → Passes r 2 2 (toMark r) → Passes (b ∷ r) 2 2 (toMark (b ∷ r))
-    go true e ih = rw e (omega arith, refl)
-    go false e ih = rw (e, next-quoted b e, add-one (toMark r)) (omega (arith, ih .0), ih .1)
+-- a run of such bytes is passed over
+module _ (q : ℕ) (known : q < 5) (on : q ≡ start → ⊥) where
+  kept-run : (r : List ℕ) → (fieldLen q r ≡ toAsked q r + fieldLen q (drop (toAsked q r) r)) × (fieldState q r ≡ fieldState q (drop (toAsked q r) r))
+  unfolding toFirst fieldLen fieldState
+  kept-run [] = (refl, refl)
+  kept-run (b ∷ r) = go (asked q b) refl (kept-run r)
+    where
+      go : (t : Bool) → asked q b ≡ t
+          → (fieldLen q r ≡ toAsked q r + fieldLen q (drop (toAsked q r) r)) × (fieldState q r ≡ fieldState q (drop (toAsked q r) r))
+          → (fieldLen q (b ∷ r) ≡ toAsked q (b ∷ r) + fieldLen q (drop (toAsked q (b ∷ r)) (b ∷ r)))
+          × (fieldState q (b ∷ r) ≡ fieldState q (drop (toAsked q (b ∷ r)) (b ∷ r)))
+      go true e ih = rw e (omega arith, refl)
+      go false e ih = rw (e, keeps q b known on e, ne-eqb q 0 on, add-one (toAsked q r)) (omega (arith, ih .0), ih .1)
 
 -- what is left of a field from byte i on, in a state, has this end and this state there
 abbrev pub Left : List ℕ → ℕ → ℕ → ℕ → ℕ → Type 0
 Left l q i e z = (i + fieldLen q (drop i l) ≡ e) × (fieldState q (drop i l) ≡ z)
 
--- bytes between quotes are passed over
-pub left-quoted : (l : List ℕ) (q i j e z : ℕ) → q ≡ 2 → j ≡ i + toMark (drop i l) → Left l q i e z → Left l q j e z
-left-quoted l q i j e z two at h =
-    let p = quoted-run (drop i l) in
-    let d : drop (toMark (drop i l)) (drop i l) ≡ drop j l = rw at (drop-drop (toMark (drop i l)) i l) in
-    let x : fieldLen 2 (drop i l) ≡ toMark (drop i l) + fieldLen 2 (drop j l) = rw (← d) (p .0) in
-    let y : i + fieldLen 2 (drop i l) ≡ e = rw (← two) (h .0) in
-    rw two (omega arith, rw (← d, ← p .1, ← two) (h .1))
+-- bytes that keep the state are passed over
+pub left-kept : (l : List ℕ) (q i j e z : ℕ) → q < 5 → (q ≡ start → ⊥) → j ≡ i + toAsked q (drop i l) → Left l q i e z → Left l q j e z
+left-kept l q i j e z known on at h =
+    let p = kept-run q known on (drop i l) in
+    let d : drop (toAsked q (drop i l)) (drop i l) ≡ drop j l = rw at (drop-drop (toAsked q (drop i l)) i l) in
+    let x : fieldLen q (drop i l) ≡ toAsked q (drop i l) + fieldLen q (drop j l) = rw (← d) (p .0) in
+    (omega (arith, h .0), rw (← d, ← p .1) (h .1))
 
 -- a byte on
 module _ (l : List ℕ) (q i e z : ℕ) (h : Left l q i e z) where
@@ -120,113 +120,188 @@ module _ (l : List ℕ) (q i e z : ℕ) (h : Left l q i e z) where
   unfolding fieldLen fieldState
   left-over over = rw (drop-over l i over, add-zero) at h
 
--- a comma or a mark that is no mark
-is-comma-else : (b : ℕ) → isBreak b ≡ true → (b ≡ 34 → ⊥) → b ≡ 44
-is-comma-else b e n = go (eqb b 44) refl
-  where
-    go : (t : Bool) → eqb b 44 ≡ t → b ≡ 44
-    go true d = eqb-true b 44 d
-    go false d = absurd (n (eqb-true b 34 (rw d at e)))
-
--- a field's first bytes are passed over up to a comma or a mark
-module _ (l : List ℕ) (at i : ℕ) (to : i ≡ at + toBreak (drop at l)) where
-  rest : drop (toBreak (drop at l)) (drop at l) ≡ drop i l
-  rest = rw to (drop-drop (toBreak (drop at l)) at l)
-
-  abbrev Ends : ℕ → Bool → Type 0
-  Ends e g = (e ≡ at + fieldLen start (drop at l)) × (g ≡ getD endings (fieldState start (drop at l)) false)
-
-  pub ends-marked : (q e : ℕ) (g : Bool) → q ≡ afterRun (i - at) → e ≡ i + fieldLen q (drop i l) → g ≡ getD endings (fieldState q (drop i l)) false → Ends e g
-  ends-marked q e g a x y =
-      let k : i - at ≡ toBreak (drop at l) = omega arith in
-      let p = first-run (drop at l) in
-      let z : fieldLen start (drop at l) ≡ toBreak (drop at l) + fieldLen q (drop i l) = rw (a, k, ← rest) (p .0) in
-      (omega arith, y ∙ rw (a, k, ← rest, ← p .1))
-
-  -- the state is one in which a line may end, and in which a comma ends the field
-  ends-run : (n : ℕ) → true ≡ getD endings (afterRun n) false
-  unfolding endings afterRun
-  ends-run zero = refl
-  ends-run (suc n) = let z : suc n ≡ 0 → ⊥ = λ e. omega arith in rw (ne-eqb (suc n) 0 z)
-
-  next-comma : (n : ℕ) → next (afterRun n) 44 ≡ start
-  unfolding next quoting classOf afterRun
-  next-comma zero = refl
-  next-comma (suc n) = let z : suc n ≡ 0 → ⊥ = λ e. omega arith in rw (ne-eqb (suc n) 0 z)
-
-  pub ends-over : length l ≤ i → Ends i true
-  unfolding fieldLen fieldState
-  ends-over over = ends-marked (afterRun (i - at)) i true refl (rw (drop-over l i over, add-zero)) (rw (drop-over l i over) (ends-run (i - at)))
-
-  pub ends-comma : i < length l → (getD l i 0 ≡ 34 → ⊥) → Ends i true
-  unfolding fieldLen fieldState endings
-  ends-comma more n =
-      let g : getD (drop at l) (toBreak (drop at l)) 0 ≡ getD l i 0 = rw to (getD-drop at l (toBreak (drop at l)) 0) in
-      let h : toBreak (drop at l) < length (drop at l) = omega (arith, length-drop at l) in
-      let b : getD l i 0 ≡ 44 = is-comma-else (getD l i 0) (rw g at (first-stands isBreak (drop at l) h)) n in
-      let c : next (afterRun (i - at)) (getD l i 0) ≡ start = rw b (next-comma (i - at)) in
-      ends-marked (afterRun (i - at)) i true refl (rw (drop-next l i more, eq-eqb _ _ c, add-zero)) (rw (drop-next l i more, eq-eqb _ _ c))
-
--- a field ends within its line
-pub ends-inside : (l : List ℕ) (at e : ℕ) → e ≡ at + fieldLen start (drop at l) → (at ≤ e) × (at ≤ length l → e ≤ length l)
-ends-inside l at e p = (omega arith, λ h. end-within l at e h p)
-
--- a line's state after a field that a comma ends, and after its last field
-run-on : (q : ℕ) (r : List ℕ) → fieldLen q r < length r → run q r ≡ run start (drop (fieldLen q r + 1) r)
-unfolding run fieldLen
-run-on q [] h = absurd (not-suc-le-zero h)
-run-on q (b ∷ r) h = go (eqb (next q b) start) refl (run-on (next q b) r)
-  where
-    go : (t : Bool) → eqb (next q b) start ≡ t → (fieldLen (next q b) r < length r → run (next q b) r ≡ run start (drop (fieldLen (next q b) r + 1) r))
-        → run q (b ∷ r) ≡ run start (drop (fieldLen q (b ∷ r) + 1) (b ∷ r))
-    go true e ih = rw (e, eqb-true (next q b) start e)
-    go false e ih =
-        let z : fieldLen (next q b) r + 1 < suc (length r) = rw e at h in
-        rw (e, add-one (fieldLen (next q b) r + 1)) (ih (omega arith))
-
-run-last : (q : ℕ) (r : List ℕ) → length r ≤ fieldLen q r → run q r ≡ fieldState q r
+-- a line's state is that from past a field on, in the state in which it ended: start where a comma ended it
+run-past : (q : ℕ) (r : List ℕ) → run (fieldState q r) (drop (fieldLen q r + 1) r) ≡ run q r
 unfolding run fieldLen fieldState
-run-last q [] h = refl
-run-last q (b ∷ r) h = go (eqb (next q b) start) refl (run-last (next q b) r)
+run-past q [] = refl
+run-past q (b ∷ r) = go (eqb (next q b) start) refl (run-past (next q b) r)
   where
-    go : (t : Bool) → eqb (next q b) start ≡ t → (length r ≤ fieldLen (next q b) r → run (next q b) r ≡ fieldState (next q b) r)
-        → run q (b ∷ r) ≡ fieldState q (b ∷ r)
-    go true e ih = let z : suc (length r) ≤ 0 = rw e at h in absurd (not-suc-le-zero z)
-    go false e ih = let z : suc (length r) ≤ fieldLen (next q b) r + 1 = rw e at h in rw e (ih (omega arith))
+    go : (t : Bool) → eqb (next q b) start ≡ t → run (fieldState (next q b) r) (drop (fieldLen (next q b) r + 1) r) ≡ run (next q b) r
+        → run (fieldState q (b ∷ r)) (drop (fieldLen q (b ∷ r) + 1) (b ∷ r)) ≡ run q (b ∷ r)
+    go true e ih = rw (e, eqb-true (next q b) start e)
+    go false e ih = rw (e, add-one (fieldLen (next q b) r + 1)) ih
+
+state-on : (q : ℕ) (r : List ℕ) → fieldLen q r < length r → fieldState q r ≡ start
+unfolding fieldLen fieldState
+state-on q [] h = absurd (not-suc-le-zero h)
+state-on q (b ∷ r) h = go (eqb (next q b) start) refl (state-on (next q b) r)
+  where
+    go : (t : Bool) → eqb (next q b) start ≡ t → (fieldLen (next q b) r < length r → fieldState (next q b) r ≡ start) → fieldState q (b ∷ r) ≡ start
+    go true e ih = rw e
+    go false e ih = let z : fieldLen (next q b) r + 1 < suc (length r) = rw e at h in rw e (ih (omega arith))
+
+state-lt : (q : ℕ) (r : List ℕ) → q < 5 → fieldState q r < 5
+unfolding fieldState
+state-lt q [] h = h
+state-lt q (b ∷ r) h = go (eqb (next q b) start) (state-lt (next q b) r (next-lt q b))
+  where
+    go : (t : Bool) → fieldState (next q b) r < 5 → cond t start (fieldState (next q b) r) < 5
+    go true ih = omega arith
+    go false ih = ih
+
+-- a line's state from a place on, two bytes of which the first tells nothing: neither is a mark
+second-tells : (q b c : ℕ) → q < 5 → (q ≡ closed → ⊥) → isMark b ≡ false → isMark c ≡ false → next (next q b) c ≡ next q c
+unfolding quoting
+second-tells q b c h n d e = rw (next-unmarked (next q b) c e, next-unmarked q c e, next-unmarked q b d) (go q h n (eqb b 44) (eqb c 44))
+  where
+    go : (q : ℕ) → q < 5 → (q ≡ closed → ⊥) → (t u : Bool)
+        → getD (getD quoting (getD (getD quoting q []) (cond t 0 2) 0) []) (cond u 0 2) 0 ≡ getD (getD quoting q []) (cond u 0 2) 0
+    go zero h n true u = refl
+    go zero h n false true = refl
+    go zero h n false false = refl
+    go (suc zero) h n true true = refl
+    go (suc zero) h n true false = refl
+    go (suc zero) h n false u = refl
+    go (suc (suc zero)) h n true u = refl
+    go (suc (suc zero)) h n false u = refl
+    go (suc (suc (suc zero))) h n t u = absurd (n refl)
+    go (suc (suc (suc (suc zero)))) h n true true = refl
+    go (suc (suc (suc (suc zero)))) h n true false = refl
+    go (suc (suc (suc (suc zero)))) h n false true = refl
+    go (suc (suc (suc (suc zero)))) h n false false = refl
+    go (suc (suc (suc (suc (suc q))))) h n t u = absurd (omega arith)
 
 -- a table keeps its length
 pub note-length : (t u : List ℕ) (n v k : ℕ) → u ≡ set t n v → length t ≡ k → length u ≡ k
 note-length t u n v k e h = rw (e, length-set t n v) h
 
--- a turn of a walk from field to field, the one from `at` on ending at e
-module _ (l : List ℕ) (at : ℕ) (within : at ≤ length l) (e : ℕ) (ends : e ≡ at + fieldLen start (drop at l)) where
-  pub good-on : (k : Bool) → e < length l → getD endings (run start (drop at l)) false ≡ k → getD endings (run start (drop (e + 1) l)) false ≡ k
-  good-on k more inv =
-      let h : fieldLen start (drop at l) < length (drop at l) = omega (arith, length-drop at l) in
-      let n : e + 1 ≡ at + (fieldLen start (drop at l) + 1) = omega arith in
-      rw (n, ← drop-drop (fieldLen start (drop at l) + 1) at l, ← run-on start (drop at l) h) inv
+-- bytes without a mark are passed over but for the last, from any state but past a closing mark
+module _ (q : ℕ) (known : q < 5) (unclosed : q ≡ closed → ⊥) where
+  unmarked-run : (n : ℕ) (r : List ℕ) → n < length r → any isMark (take (suc n) r) ≡ false → run q (drop n r) ≡ run q r
+  unfolding any run
+  unmarked-run zero r h e = refl
+  unmarked-run (suc n) [] h e = absurd (not-suc-le-zero h)
+  unmarked-run (suc n) (b ∷ []) h e = absurd (omega arith)
+  unmarked-run (suc n) (b ∷ c ∷ r) h e = go (eqb b 34) (eqb c 34) refl refl (unmarked-run n (c ∷ r) (omega arith))
+    where
+      go : (t u : Bool) → eqb b 34 ≡ t → eqb c 34 ≡ u → (any isMark (take (suc n) (c ∷ r)) ≡ false → run q (drop n (c ∷ r)) ≡ run q (c ∷ r))
+          → run q (drop n (c ∷ r)) ≡ run q (b ∷ c ∷ r)
+      go true u x y ih = both true refl (rw x at e)
+      go false true x y ih = both true refl (rw (x, y) at e)
+      go false false x y ih = ih (rw x at e) ∙ rw (second-tells q b c known unclosed x y)
 
-  pub good-last : (k g : Bool) → length l ≤ e → g ≡ getD endings (fieldState start (drop at l)) false → getD endings (run start (drop at l)) false ≡ k → g ≡ k
-  good-last k g over x inv =
-      let h : length (drop at l) ≤ fieldLen start (drop at l) = omega (arith, length-drop at l) in
-      x ∙ rw (← run-last start (drop at l) h) inv
+pub unmarked-on : (l : List ℕ) (i k : ℕ) (v : Bool) → i + suc k ≤ length l → v ≡ any isMark (take (suc k) (drop i l)) → v ≡ false
+    → (q : ℕ) → q < 5 → (q ≡ closed → ⊥) → run q (drop (i + k) l) ≡ run q (drop i l)
+unmarked-on l i k v h e z q known unclosed =
+    rw (← drop-drop k i l) (unmarked-run q known unclosed k (drop i l) (omega (arith, length-drop i l)) (sym e ∙ z))
 
-  -- this field is counted and its end noted, and those from past it are left
-  pub count-on : (n k : ℕ) → n + length (fieldsFrom l at) ≡ k → n + 1 + length (fieldsFrom l (e + 1)) ≡ k
-  count-on n k inv = let z : length (fieldsFrom l at) ≡ suc (length (fieldsFrom l (e + 1))) = rw (from-step l at within e ends) in omega arith
+-- a byte on
+pub run-next : (l : List ℕ) (i : ℕ) → i < length l → (q p k : ℕ) → p ≡ next q (getD l i 0) → run q (drop i l) ≡ k → run p (drop (i + 1) l) ≡ k
+unfolding run
+run-next l i more q p k to inv = rw to (rw (drop-next l i more) at inv)
 
-  pub count-last : (n k : ℕ) → length l ≤ e → n + length (fieldsFrom l at) ≡ k + 1 → n ≡ k
-  count-last n k over inv =
-      let z : length (fieldsFrom l at) ≡ 1 = rw (from-step l at within e ends, from-over l (e + 1) (omega arith)) in omega arith
+pub run-done : (l : List ℕ) (i : ℕ) → length l ≤ i → (q k : ℕ) → run q (drop i l) ≡ k → q ≡ k
+unfolding run
+run-done l i over q k inv = rw (drop-over l i over) at inv
 
-  module _ (n : ℕ) (t u v : List ℕ) (noted : u ≡ set t n (e + 1)) (inv : pastEnds (fieldsFrom l at) n t ≡ v) where
-    pub note-on : pastEnds (fieldsFrom l (e + 1)) (n + 1) u ≡ v
+-- a walk by a cursor: from its place and state on, the line's state is that of the whole line
+abbrev pub Told : List ℕ → Cursor → Type 0
+Told l c = (c .state < 5) × (c .at ≤ length l → c .state ≡ start) × (run (c .state) (drop (c .at) l) ≡ run start l)
+
+module _ (l : List ℕ) (c : Cursor) where
+  pub told-first : (c .at ≡ 0) × (c .state ≡ start) → Told l c
+  told-first h = (omega (arith, h .1), λ _. h .1, rw (h .0, h .1))
+
+  module _ (h : Told l c) where
+    pub told-next : (a e : ℕ) (n : Cursor) → stepAt l (c .at) ≡ Field a e n → Told l n
+    told-next a e n p =
+        let s = field-found l (c .at) a e n p in
+        let m : n ≡ record { at = c .at + fieldLen start (drop (c .at) l) + 1; state = fieldState start (drop (c .at) l) } = field-moved l (c .at) a e n p in
+        let b : c .at ≤ length l = omega arith in
+        let z : c .state ≡ start = h .1 b in
+        let y : run start (drop (c .at) l) ≡ run start l = ap (λ q. run q (drop (c .at) l)) (sym z) ∙ h .2 in
+        let d : c .at + (fieldLen start (drop (c .at) l) + 1) ≡ c .at + fieldLen start (drop (c .at) l) + 1 = omega arith in
+        rw m (
+          state-lt start (drop (c .at) l) (omega arith),
+          λ w. state-on start (drop (c .at) l) (omega (arith, length-drop (c .at) l)),
+          rw (← d, ← drop-drop (fieldLen start (drop (c .at) l) + 1) (c .at) l) (run-past start (drop (c .at) l) ∙ y),
+        )
+
+    pub told-last : (g : Bool) → length l < c .at → g ≡ getD endings (c .state) false → g ≡ good l
+    unfolding good
+    told-last g over e = e ∙ ap (λ q. getD endings q false) (run-done l (c .at) (omega arith) (c .state) _ (h .2))
+
+    pub told-rest : (q : ℕ) (g : Bool) → q ≡ run (c .state) (drop (c .at) l) → g ≡ getD endings q false → g ≡ good l
+    unfolding good
+    told-rest q g r e = e ∙ ap (λ q. getD endings q false) (r ∙ h .2)
+
+-- how many fields a walk has told
+pub up-few : (n : ℕ) → n < 33 → upTo33 n ≡ n
+unfolding upTo33
+up-few n h = rw (lt-ltb n 33 h)
+
+pub up-many : (n : ℕ) → 33 ≤ n → upTo33 n ≡ 33
+unfolding upTo33
+up-many n h = rw (le-ltb n 33 h)
+
+pub up-exact : (n k : ℕ) → k ≡ upTo33 n → k < 33 → k ≡ n
+up-exact n k e h = go (ltb n 33) refl
+  where
+    go : (t : Bool) → ltb n 33 ≡ t → k ≡ n
+    go true t = e ∙ up-few n (ltb-true n 33 t)
+    go false t = let z = up-many n (ltb-false n 33 t) in absurd (omega arith)
+
+pub up-over : (n k : ℕ) → k ≡ upTo33 n → 32 < k → 32 < n
+up-over n k e h = go (ltb n 33) refl
+  where
+    go : (t : Bool) → ltb n 33 ≡ t → 32 < n
+    go true t = let z = up-few n (ltb-true n 33 t) in omega arith
+    go false t = omega (arith, ltb-false n 33 t)
+
+pub count-first : (l : List ℕ) (at : ℕ) → at ≡ 0 → length (fieldsFrom l at) ≡ length (fields l)
+count-first l at e = rw (e, from-start l)
+
+-- this field is counted and its end noted, and those from past it are left
+module _ (l : List ℕ) (at a e n : ℕ) (stands : FieldStands l at a e n) (k : ℕ) where
+  pub count-on : (m : ℕ) → k + length (fieldsFrom l at) ≡ m → k + 1 + length (fieldsFrom l n) ≡ m
+  count-on m inv = let z : length (fieldsFrom l at) ≡ suc (length (fieldsFrom l n)) = ap length (stands .fields) in omega arith
+
+  pub note-on : (t u v : List ℕ) → k < 33 → u ≡ set t (k + 1) n
+      → pastEnds (take (33 - k) (fieldsFrom l at)) (k + 1) t ≡ v → pastEnds (take (33 - (k + 1)) (fieldsFrom l n)) (k + 1 + 1) u ≡ v
+  unfolding pastEnds
+  note-on t u v few noted inv =
+      let d : 33 - k ≡ suc (33 - (k + 1)) = omega arith in
+      rw (noted, stands .moves) (rw (d, stands .fields, stands .moves) at inv)
+
+-- and none is left, past the line's end or past field 33
+module _ (l : List ℕ) (at k : ℕ) where
+  pub count-last : (m : ℕ) → length l < at → k < 33 → k + length (fieldsFrom l at) ≡ m → k ≡ upTo33 m
+  count-last m over few inv =
+      let z : length (fieldsFrom l at) ≡ 0 = rw (from-over l at over) in
+      omega (arith, up-few m (omega arith))
+
+  pub count-rest : (m : ℕ) → k ≡ 33 → k + length (fieldsFrom l at) ≡ m → k ≡ upTo33 m
+  count-rest m many inv = omega (arith, up-many m (omega arith))
+
+  module _ (t v : List ℕ) (inv : pastEnds (take (33 - k) (fieldsFrom l at)) (k + 1) t ≡ v) where
+    pub note-last : length l < at → t ≡ v
     unfolding pastEnds
-    note-on = rw noted (rw (from-step l at within e ends) at inv)
+    note-last over = rw (from-over l at over, take-nil) at inv
 
-    pub note-last : length l ≤ e → u ≡ v
+    pub note-rest : k ≡ 33 → t ≡ v
     unfolding pastEnds
-    note-last over = rw noted (rw (from-step l at within e ends, from-over l (e + 1) (omega arith)) at inv)
+    note-rest many = rw many at inv
+
+-- a line has a field
+pub up-some : (l : List ℕ) (n : ℕ) → n ≡ upTo33 (length (fields l)) → (1 ≤ n) × (n ≤ 33)
+up-some l n e = go (ltb (length (fields l)) 33) refl
+  where
+    s : length (fields l) ≡ suc (length (fieldsFrom l (0 + fieldLen start (drop 0 l) + 1)))
+    s = ap length (sym (from-start l) ∙ from-step l 0 (omega arith) _ refl)
+
+    go : (t : Bool) → ltb (length (fields l)) 33 ≡ t → (1 ≤ n) × (n ≤ 33)
+    go true t = let h : length (fields l) < 33 = ltb-true _ _ t in let z = up-few _ h in let w = s in (omega arith, omega arith)
+    go false t = let h : 33 ≤ length (fields l) = ltb-false _ _ t in let z = up-many _ h in (omega arith, omega arith)
 
 -- what stands in a table of ends
 pub past-length : (bs : List Bounds) (n : ℕ) (t : List ℕ) → length (pastEnds bs n t) ≡ length t

@@ -2,11 +2,11 @@
 use Prim.Native.Nat.{ℕ, _+_, _≤_}
 use mathlib.Core.Path.{_≡_}
 use mathlib.Core.List.{List, [], _∷_}
-use mathlib.Core.Bool.{Bool, cond, _||_}
+use mathlib.Core.Bool.{Bool, true, cond, _||_}
 use lib.ListN.{length, set, take, drop}
 use lib.Dec.{ltb, eqb}
 use Rattle.meaning.specs.declared.Bounds.{Bounds}
-use Rattle.meaning.specs.Bytes.{bounds, part, start, bare, next, fieldsGo, value, valuesOf}
+use Rattle.meaning.specs.Bytes.{bounds, part, start, bare, closed, next, fieldsGo, value, valuesOf}
 use Rattle.text.specs.Lines.{toFirst}
 use Rattle.text.specs.declared.Step.{Step}
 use Rattle.text.specs.declared.Step.the-variants.{Field, Done}
@@ -35,9 +35,13 @@ toMark r = toFirst isMark r
 abbrev pub toBreak : List ℕ → ℕ
 toBreak r = toFirst isBreak r
 
--- the state after so many bytes of a field, none of which is a comma or a mark
-unfoldable pub afterRun : ℕ → ℕ
-afterRun n = cond (eqb n 0) start bare
+-- is the quoting table asked for a byte in a state, or does the byte keep the state: in a bare field a comma or a mark is asked for, past a closing mark
+-- any byte, else a mark; and how many bytes stand before the first that is
+unfoldable pub asked : ℕ → ℕ → Bool
+asked q b = cond (eqb q bare) (isBreak b) (cond (eqb q closed) true (isMark b))
+
+abbrev pub toAsked : ℕ → List ℕ → ℕ
+toAsked q r = toFirst (asked q) r
 
 -- the state at the end of a field from a state on: start where a comma ends it
 unfoldable pub fieldState : ℕ → List ℕ → ℕ
@@ -48,6 +52,10 @@ fieldState q (b ∷ r) = let k = fieldState (next q b) r in cond (eqb (next q b)
 unfoldable pub pastEnds : List Bounds → ℕ → List ℕ → List ℕ
 pastEnds [] n t = t
 pastEnds (b ∷ bs) n t = pastEnds bs (n + 1) (set t n (b .end + 1))
+
+-- a count of fields as a walk along a line tells it: 33 is one more than rule 7 allows, and stands for any greater
+unfoldable pub upTo33 : ℕ → ℕ
+upTo33 n = cond (ltb n 33) n 33
 
 -- does a byte end a line: the LF of its ending, or the CR before it
 unfoldable pub endsLine : ℕ → Bool
@@ -62,11 +70,11 @@ fieldRun q (b ∷ r) = let k = fieldRun (next q b) r + 1 in cond (endsLine b) 0 
 unfoldable pub fieldOn : List ℕ → ℕ → List ℕ
 fieldOn s at = take (fieldRun start (drop at s)) (drop at s)
 
--- the step of a cursor that has come to `at`, where a field begins: none past the line's end
+-- the step of a cursor that has come to `at`, where a field begins: none past the line's end. The moved cursor has the state in which the field ended.
 unfoldable pub stepAt : List ℕ → ℕ → Step
 stepAt l at =
     let e = at + fieldLen start (drop at l) in
-    cond (ltb (length l) at) Done (Field at e (record { at = e + 1 }))
+    cond (ltb (length l) at) Done (Field at e (record { at = e + 1; state = fieldState start (drop at l) }))
 
 -- the fields from byte `at`, where one begins: none past the line's end
 unfoldable pub fieldsFrom : List ℕ → ℕ → List Bounds

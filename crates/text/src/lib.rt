@@ -2,13 +2,13 @@
 ghost use mathlib.Core.Bool.{true, false, _||_};
 ghost use mathlib.Core.Path.{_≡_};
 ghost use mathlib.Core.List.{[], _∷_};
-ghost use Prim.Native.Nat.{_+_, _-_, _<_, _≤_};
-ghost use lib.ListN.{length, getD, set, drop};
+ghost use Prim.Native.Nat.{ℕ, _+_, _<_, _≤_};
+ghost use lib.ListN.{length, getD, set, take, drop};
 ghost use Rattle.meaning.specs.Lists.{same, any, empty};
-ghost use Rattle.meaning.specs.Bytes.{countLf, startOf, start, classOf, quoting, endings, next, good, fields, marked, content, undouble, value};
+ghost use Rattle.meaning.specs.Bytes.{countLf, startOf, start, closed, classOf, quoting, endings, next, run, good, fields, marked, content, undouble, value};
 ghost use Rattle.meaning.specs.Refusals.{ended, rule5};
 ghost use Rattle.text.specs.Lines.{isLf, toLf, lineTo, lineAt};
-ghost use Rattle.text.specs.Fields.{toBreak, toMark, afterRun, fieldLen, fieldState, pastEnds, endsLine, fieldRun, fieldOn, stepAt};
+ghost use Rattle.text.specs.Fields.{isMark, isBreak, toBreak, toMark, toAsked, pastEnds, upTo33, endsLine, fieldRun, fieldOn, stepAt};
 ghost use Rattle.text.specs.Values.{widthOf};
 
 // As many bytes as a turn counts: twenty-eight times eight. Their count fits a byte, and wide registers take them with nothing left over.
@@ -239,16 +239,23 @@ fn next_state(table: &[[u8; 3]; 5], q: u8, b: u8) -> u8
     table[k][c]
 }
 
+// Is a byte a comma or a mark? Most are above both.
+fn is_break(b: u8) -> bool
+    ensures { λ r. ⌜ r ≡ isBreak b ⌝ }
+{
+    if b',' < b {
+        return false;
+    }
+    b == b',' || b == b'"'
+}
+
 // Where the first comma or mark from `at` on stands; the line's end where there is none.
 fn break_from(l: &[u8], at: usize) -> usize
     ensures { λ r. ⌜ (r ≡ at + toBreak (drop at (now (l .entry)))) × (at ≤ r) ⌝ }
 {
     let mut i = at;
     while i < l.len() {
-        if l[i] == b',' {
-            return i;
-        }
-        if l[i] == b'"' {
+        if is_break(l[i]) {
             return i;
         }
         i += 1;
@@ -270,65 +277,141 @@ fn mark_from(l: &[u8], at: usize) -> usize
     i
 }
 
-// Where a field ends, and whether a line that ends there is good.
-struct Span {
-    end: usize,
-    good: bool,
+// Where the first byte from `at` on stands that the quoting table is asked for in a state; those before it keep the state.
+fn asked_from(l: &[u8], at: usize, q: u8) -> usize
+    ensures { λ r. ⌜ (r ≡ at + toAsked q (drop at (now (l .entry)))) × (at ≤ r) ⌝ }
+{
+    if q == BARE {
+        return break_from(l, at);
+    }
+    if q == CLOSED {
+        return at;
+    }
+    mark_from(l, at)
 }
 
-// The rest of a field from `at` on, by the quoting table from a state on. Between quotes only a mark is looked for.
-fn marked_span(l: &[u8], at: usize, state: u8) -> Span
-    requires { ⌜ state < 5 ⌝ }
-    ensures { λ r. ⌜ (r .end ≡ at + fieldLen state (drop at (now (l .entry))))
-        × (r .good ≡ getD endings (fieldState state (drop at (now (l .entry)))) false) ⌝ }
+// A place along a line, where a field begins, in the state START; past the line's end, with the state in which its last field ended.
+pub struct Cursor {
+    pub at: usize,
+    pub state: u8,
+}
+
+// What a step along a line finds: a field's bounds and the moved cursor, or no field any more.
+pub enum Step {
+    Field {
+        start: usize,
+        end: usize,
+        next: Cursor,
+    },
+    Done,
+}
+
+impl Cursor {
+    pub fn new() -> Self
+        ensures { λ r. ⌜ (r .at ≡ 0) × (r .state ≡ start) ⌝ }
+    {
+        Cursor {
+            at: 0,
+            state: START,
+        }
+    }
+
+    // The next field.
+    pub fn next(self, l: &[u8]) -> Step
+        ensures { λ r. ⌜ r ≡ stepAt (now (l .entry)) (self .at) ⌝ }
+    {
+        let table = QUOTING;
+        self.next_by(&table, l)
+    }
+
+    // The same by a lent quoting table: a constant's array is written anew wherever it is named. Each next state comes from the table, and a run of bytes
+    // that keep the state is passed over.
+    fn next_by(self, table: &[[u8; 3]; 5], l: &[u8]) -> Step
+        requires { ⌜ now table ≡ quoting ⌝ }
+        ensures { λ r. ⌜ r ≡ stepAt (now (l .entry)) (self .at) ⌝ }
+    {
+        let at = self.at;
+        if l.len() < at {
+            return Step::Done;
+        }
+        let mut q = START;
+        let mut i = at;
+        while i < l.len() {
+            q = next_state(table, q, l[i]);
+            if q == START {
+                break;
+            }
+            i = asked_from(l, i + 1, q);
+        }
+        Step::Field {
+            start: at,
+            end: i,
+            next: Cursor {
+                at: i + 1,
+                state: q,
+            },
+        }
+    }
+}
+
+// Is one of these bytes a mark? No byte is left out, as above.
+fn has_mark(s: &[u8]) -> bool
+    ensures { λ r. ⌜ r ≡ any isMark (now (s .entry)) ⌝ }
 {
-    // Made once a field: a constant's array is written anew wherever it is named.
+    let mut some = false;
+    let mut i = 0;
+    while i < s.len() {
+        some = either(some, s[i] == b'"');
+        i += 1;
+    }
+    some
+}
+
+// Past bytes from `at` on that aren't marks, but for the last of them: it alone tells what state they lead to, from any state but CLOSED.
+fn past_unmarked(l: &[u8], at: usize) -> usize
+    ensures { λ r. ⌜ ((q : ℕ) → q < 5 → (q ≡ closed → ⊥) → run q (drop r (now (l .entry))) ≡ run q (drop at (now (l .entry)))) × (at ≤ r) ⌝ }
+{
+    let mut i = at;
+    while i < l.len() {
+        if l.len() - i < 32 {
+            return i;
+        }
+        if has_mark(&l[i..i + 32]) {
+            return i;
+        }
+        i += 31;
+    }
+    i
+}
+
+// The state at a line's end, from a place and a state on, by the quoting table: for a line whose fields needn't be told any more.
+fn last_state(l: &[u8], at: usize, state: u8) -> u8
+    requires { ⌜ state < 5 ⌝ }
+    ensures { λ r. ⌜ (r ≡ run state (drop at (now (l .entry)))) × (r < 5) ⌝ }
+{
     let table = QUOTING;
     let mut q = state;
     let mut i = at;
     while i < l.len() {
         q = next_state(&table, q, l[i]);
-        if q == START {
-            return Span { end: i, good: true };
-        }
         i += 1;
-        if q == QUOTED {
-            i = mark_from(l, i);
+        if q != CLOSED {
+            i = past_unmarked(l, i);
         }
     }
+    q
+}
+
+// Is the line's end good in a state?
+fn ends_good(q: u8) -> bool
+    requires { ⌜ q < 5 ⌝ }
+    ensures { λ r. ⌜ r ≡ getD endings q false ⌝ }
+{
     let k = q as usize;
-    Span {
-        end: i,
-        good: ENDINGS[k],
-    }
+    ENDINGS[k]
 }
 
-// The state after a field's bytes from `at` to i, none of which is a comma or a mark.
-fn state_after(at: usize, i: usize) -> u8
-    ensures { λ r. ⌜ (r ≡ afterRun (i - at)) × (r < 5) ⌝ }
-{
-    if at < i {
-        return BARE;
-    }
-    START
-}
-
-// The field that begins at `at`. Most have no mark, and end at the first comma or with the line.
-fn field_span(l: &[u8], at: usize) -> Span
-    ensures { λ r. ⌜ (r .end ≡ at + fieldLen start (drop at (now (l .entry))))
-        × (r .good ≡ getD endings (fieldState start (drop at (now (l .entry)))) false) ⌝ }
-    ensures { λ r. ⌜ (at ≤ r .end) × (at ≤ length (now (l .entry)) → r .end ≤ length (now (l .entry))) ⌝ }
-{
-    let i = break_from(l, at);
-    if i < l.len() {
-        if l[i] == b'"' {
-            return marked_span(l, i, state_after(at, i));
-        }
-    }
-    Span { end: i, good: true }
-}
-
-// What one walk along a line tells: whether the quoting table calls it good, and how many fields it has.
+// What a walk along a line tells: whether the quoting table calls it good, and how many fields it has, 33 standing for more than rule 7 allows.
 pub struct Measured {
     pub good: bool,
     pub fields: usize,
@@ -343,36 +426,46 @@ fn note(t: &mut [usize], n: usize, v: usize)
     }
 }
 
-// One walk along a line. Past the end of field n, counted from 1, begins the next: that place is noted in number n of a table, as far as it goes.
+// One walk along a line by its cursor, from field to field, no further than it takes to know that rule 7 is broken; what is left is only judged for quoting.
+// Past the end of field n, counted from 1, begins the next: that place is noted in number n of a table, as far as it goes.
 pub fn walk_fields(l: &[u8], starts: &mut [usize]) -> Measured
     ensures { λ r. ⌜ (r .good ≡ good (now (l .entry)))
-        × (r .fields ≡ length (fields (now (l .entry))))
+        × (r .fields ≡ upTo33 (length (fields (now (l .entry)))))
         × (1 ≤ r .fields)
-        × (r .fields ≤ length (now (l .entry)) + 1) ⌝ }
-    ensures { λ _. ⌜ now (starts .exit) ≡ pastEnds (fields (now (l .entry))) 1 (now (starts .entry)) ⌝ }
+        × (r .fields ≤ 33) ⌝ }
+    ensures { λ _. ⌜ now (starts .exit) ≡ pastEnds (take 33 (fields (now (l .entry)))) 1 (now (starts .entry)) ⌝ }
 {
-    let mut n: usize = 1;
-    let mut at: usize = 0;
-    loop {
-        let f = field_span(l, at);
-        at = f.end + 1;
-        note(starts, n, at);
-        if l.len() <= f.end {
-            return Measured {
-                good: f.good,
-                fields: n,
-            };
+    let table = QUOTING;
+    let mut c = Cursor::new();
+    let mut n: usize = 0;
+    while n < 33 {
+        match c.next_by(&table, l) {
+            Step::Field { start, end, next } => {
+                n += 1;
+                note(starts, n, next.at);
+                c = next;
+            }
+            Step::Done => {
+                return Measured {
+                    good: ends_good(c.state),
+                    fields: n,
+                };
+            }
         }
-        n += 1;
+    }
+    let state = last_state(l, c.at, c.state);
+    Measured {
+        good: ends_good(state),
+        fields: n,
     }
 }
 
 // The same, and nothing is noted.
 pub fn measure(l: &[u8]) -> Measured
     ensures { λ r. ⌜ (r .good ≡ good (now (l .entry)))
-        × (r .fields ≡ length (fields (now (l .entry))))
+        × (r .fields ≡ upTo33 (length (fields (now (l .entry)))))
         × (1 ≤ r .fields)
-        × (r .fields ≤ length (now (l .entry)) + 1) ⌝ }
+        × (r .fields ≤ 33) ⌝ }
 {
     let mut none = [0usize; 1];
     walk_fields(l, &mut none)
@@ -416,46 +509,6 @@ pub fn field_on(s: &[u8], at: usize) -> &[u8]
     }
     let e = run_end(s, at);
     &s[at..e]
-}
-
-// A place along a line, where a field begins.
-pub struct Cursor {
-    pub at: usize,
-}
-
-// What a step along a line finds: a field's bounds and the moved cursor, or no field any more.
-pub enum Step {
-    Field {
-        start: usize,
-        end: usize,
-        next: Cursor,
-    },
-    Done,
-}
-
-impl Cursor {
-    pub fn new() -> Self
-        ensures { λ r. ⌜ r .at ≡ 0 ⌝ }
-    {
-        Cursor { at: 0 }
-    }
-
-    // The next field.
-    pub fn next(self, l: &[u8]) -> Step
-        ensures { λ r. ⌜ r ≡ stepAt (now (l .entry)) (self .at) ⌝ }
-    {
-        let at = self.at;
-        if l.len() < at {
-            return Step::Done;
-        }
-        let f = field_span(l, at);
-        let end = f.end;
-        Step::Field {
-            start: at,
-            end,
-            next: Cursor { at: end + 1 },
-        }
-    }
 }
 
 // Is a raw field quoted?

@@ -1,5 +1,6 @@
 // Writes what `text` answers at the edges of lines, endings, quoting and values; the file `stdout` has what document 01 says.
-ghost use Prim.Native.Nat.{_≤_};
+ghost use Prim.Native.Nat.{_+_, _≤_};
+ghost use lib.ListN.{length};
 use libc::STDOUT_FILENO;
 use text::Cursor;
 use text::LineStep;
@@ -232,6 +233,98 @@ fn starts() {
     past(b"a,\"b\"c,de");
 }
 
+// Writes a word into bytes, from `at` on.
+fn put(s: &mut [u8], at: usize, word: &[u8])
+    requires { ⌜ at + length (now word) ≤ length (now s) ⌝ }
+{
+    let mut i = 0;
+    while i < word.len() {
+        s[at + i] = word[i];
+        i += 1;
+    }
+}
+
+// Writes what a walk tells of a line: whether it is good, how many fields are told, and the places past the ends of fields 32, 33 and 34; 9 stands where
+// none is noted.
+fn walked(l: &[u8]) {
+    let mut t = [9usize; 40];
+    let m = text::walk_fields(l, &mut t);
+    flag(b" good", m.good);
+    count(b" fields ", m.fields);
+    count(b" past ", t[32]);
+    count(b" ", t[33]);
+    count(b" ", t[34]);
+    say(b"\n");
+}
+
+// Writes it of n commas with a word in their midst, from `at` on.
+fn long(n: usize, at: usize, word: &[u8])
+    requires { ⌜ (at + length (now word) ≤ 500) × (n ≤ 500) ⌝ }
+{
+    let mut s = filled(b',');
+    put(&mut s, at, word);
+    count(b"commas ", n);
+    count(b" from ", at);
+    say(b" ");
+    say(word);
+    walked(&s[..n]);
+}
+
+// Fields are told as far as rule 7 needs them, and quoting is judged to the line's end.
+fn lengths() {
+    long(30, 0, b"");
+    long(31, 0, b"");
+    long(32, 0, b"");
+    long(33, 0, b"");
+    long(34, 0, b"");
+    long(500, 0, b"");
+    long(37, 3, b"\",,,,\"");
+    long(38, 3, b"\",,,,\"");
+    long(39, 3, b"\",,,,\"");
+    long(40, 3, b"a\"");
+    long(40, 3, b"\"");
+}
+
+// Quoting past field 33, good and bad, with its first mark at a byte.
+fn quotes(at: usize)
+    requires { ⌜ at ≤ 400 ⌝ }
+{
+    long(100, at, b"\"");
+    long(100, at, b"\"\"");
+    long(100, at, b"\"\"a");
+    long(100, at, b"\"a\"");
+    long(100, at, b"a\"");
+    long(100, at, b"\"\"\"");
+}
+
+// The same from byte to byte.
+fn along(from: usize, to: usize)
+    requires { ⌜ to ≤ 400 ⌝ }
+{
+    let mut at = from;
+    while at < to {
+        quotes(at);
+        at += 1;
+    }
+}
+
+// However many bytes are looked at together, marks are found wherever they stand.
+fn rests() {
+    along(30, 36);
+    along(62, 69);
+    along(93, 101);
+    long(
+        200,
+        40,
+        b"\",,,,,,,,,,,,,,,,,,,,,,,,,,,,,,,,,,,,,,,,,,,,,,,,,,,,,,,,,,,,,,,,,,,,,,,,,,\"",
+    );
+    long(
+        200,
+        40,
+        b"\",,,,,,,,,,,,,,,,,,,,,,,,,,,,,,,,,,,,,,,,,,,,,,,,,,,,,,,,,,,,,,,,,,,,,,,,,,\"a",
+    );
+}
+
 // Names and ids are compared by value; case and spaces count.
 fn values() {
     pair(b"\"A\"", b"A");
@@ -251,5 +344,7 @@ fn main() {
     quoting();
     blocks();
     starts();
+    lengths();
+    rests();
     values();
 }

@@ -1,7 +1,7 @@
 -- Laws: a readable feed is ready to be filled, and a filled one to be judged.
 use Prim.Native.Nat.{ℕ, zero, suc, _+_, _-_, _<_, _≤_}
 use mathlib.Core.Path.{_≡_, refl, ap}
-use mathlib.Core.List.{List, [], _∷_, map}
+use mathlib.Core.List.{List, [], map}
 use mathlib.Core.Bool.{false, cond}
 use native.Mathlib.Omega.{arith}
 use lib.IntN.{ℤ}
@@ -15,7 +15,7 @@ use Rattle.meaning.specs.declared.Answer.{Answer}
 use Rattle.meaning.specs.declared.Answer.the-variants.{Accepted, Findings, Refused}
 use Rattle.meaning.specs.Bytes.{countLf}
 use Rattle.meaning.specs.Columns.{rowsOf, schemas, schema, knownAt, columnOf, countOf, tripsColumns, stopTimesColumns}
-use Rattle.meaning.specs.Tables.{Feed, fileOf, feedOf, rowsIn, filled}
+use Rattle.meaning.specs.Tables.{fileOf, feedOf, rowsIn}
 use Rattle.meaning.specs.Refusals.{verdictOf, mayLack, maxLines}
 use Rattle.meaning.specs.Findings.{findingsOf, answerOf, handed, page, roomOf}
 use Rattle.meaning.specs.Outcome.{Outcome, readOutcome, filledFrom, outcome}
@@ -44,19 +44,6 @@ rows-read files (suc (suc (suc (suc zero)))) low high = refl
 rows-read files (suc (suc (suc (suc (suc zero))))) low high = refl
 rows-read files (suc (suc (suc (suc (suc (suc zero)))))) low high = refl
 rows-read files (suc (suc (suc (suc (suc (suc (suc f))))))) low high = absurd (omega arith)
-
--- six tables that are filled one by one are filled
-pub all-filled :
-    (w : Feed) (s₁ s₂ s₃ s₄ s₅ s₆ : List ℕ) (t₁ t₂ t₃ t₄ t₅ t₆ u₁ u₂ u₃ u₄ u₅ u₆ : List ℤ)
-    → u₁ ≡ filled 1 w s₁ t₁
-    → u₂ ≡ filled 2 w s₂ t₂
-    → u₃ ≡ filled 3 w s₃ t₃
-    → u₄ ≡ filled 4 w s₄ t₄
-    → u₅ ≡ filled 5 w s₅ t₅
-    → u₆ ≡ filled 6 w s₆ t₆
-    → u₁ ∷ u₂ ∷ u₃ ∷ u₄ ∷ u₅ ∷ u₆ ∷ [] ≡ filledFrom 1 w (s₁ ∷ s₂ ∷ s₃ ∷ s₄ ∷ s₅ ∷ s₆ ∷ []) (t₁ ∷ t₂ ∷ t₃ ∷ t₄ ∷ t₅ ∷ t₆ ∷ [])
-unfolding filledFrom
-all-filled w s₁ s₂ s₃ s₄ s₅ s₆ t₁ t₂ t₃ t₄ t₅ t₆ u₁ u₂ u₃ u₄ u₅ u₆ a b c d e g = rw (a, b, c, d, e, g)
 
 module _ (files : List (List ℕ)) (tables : List (List ℤ)) (six : length files ≡ 6) (lent : length tables ≡ 6) (read : verdictOf files (map length tables) ≡ Readable) where
   kept : (f : ℕ) → 1 ≤ f → f ≤ 6 → WholeKept files f (fileOf files f) (length (tableOf tables f))

@@ -31,34 +31,21 @@ fn answer_of(k: Sink) -> Answer
 }
 
 // How many LF bytes each file has.
-fn count_all(
-    stops: &[u8],
-    routes: &[u8],
-    calendar: &[u8],
-    trips: &[u8],
-    stop_times: &[u8],
-    calendar_dates: &[u8],
-) -> [usize; 6]
-    ensures { λ r. ⌜ r ≡ map countLf (now (stops .entry) ∷ now (routes .entry) ∷ now (calendar .entry) ∷ now (trips .entry) ∷ now («stop_times» .entry) ∷ now («calendar_dates» .entry) ∷ []) ⌝ }
+fn count_all(files: [&[u8]; 6]) -> [usize; 6]
+    ensures { λ r. ⌜ r ≡ map countLf (map now (files .entry)) ⌝ }
 {
-    [
-        text::count_lf(stops),
-        text::count_lf(routes),
-        text::count_lf(calendar),
-        text::count_lf(trips),
-        text::count_lf(stop_times),
-        text::count_lf(calendar_dates),
-    ]
+    let mut counts = [0usize; 6];
+    let mut i: usize = 0;
+    while i < 6 {
+        counts[i] = text::count_lf(files[i]);
+        i += 1;
+    }
+    counts
 }
 
 // A readable feed, whose files have so many LF bytes each: its tables are filled and its findings handed out.
 fn checked(
-    stops: &[u8],
-    routes: &[u8],
-    calendar: &[u8],
-    trips: &[u8],
-    stop_times: &[u8],
-    calendar_dates: &[u8],
+    files: [&[u8]; 6],
     counts: [usize; 6],
     stops_table: &mut [i32],
     routes_table: &mut [i32],
@@ -70,11 +57,10 @@ fn checked(
     from: Place,
     asked: Profile,
 ) -> Answer
-    requires { ⌜ verdictOf (now stops ∷ now routes ∷ now calendar ∷ now trips ∷ now «stop_times» ∷ now «calendar_dates» ∷ [])
+    requires { ⌜ verdictOf (map now files)
         (length (now «stops_table») ∷ length (now «routes_table») ∷ length (now «calendar_table») ∷ length (now «trips_table») ∷ length (now «stop_times_table») ∷ length (now «calendar_dates_table») ∷ []) ≡ Verdict.Readable ⌝ }
-    requires { ⌜ counts ≡ map countLf (now stops ∷ now routes ∷ now calendar ∷ now trips ∷ now «stop_times» ∷ now «calendar_dates» ∷ []) ⌝ }
-    ensures { λ r. ⌜ readOutcome
-        (now (stops .entry) ∷ now (routes .entry) ∷ now (calendar .entry) ∷ now (trips .entry) ∷ now («stop_times» .entry) ∷ now («calendar_dates» .entry) ∷ [])
+    requires { ⌜ counts ≡ map countLf (map now files) ⌝ }
+    ensures { λ r. ⌜ readOutcome (map now (files .entry))
         (now («stops_table» .entry) ∷ now («routes_table» .entry) ∷ now («calendar_table» .entry) ∷ now («trips_table» .entry) ∷ now («stop_times_table» .entry) ∷ now («calendar_dates_table» .entry) ∷ [])
         (now (findings .entry)) from asked
         ≡ record { answer = r; tables = now («stops_table» .exit) ∷ now («routes_table» .exit) ∷ now («calendar_table» .exit) ∷ now («trips_table» .exit) ∷ now («stop_times_table» .exit) ∷ now («calendar_dates_table» .exit) ∷ []; list = now (findings .exit) } ⌝ }
@@ -82,12 +68,7 @@ fn checked(
 {
     let mut marks = marks::blank();
     tables::fill_all(
-        stops,
-        routes,
-        calendar,
-        trips,
-        stop_times,
-        calendar_dates,
+        files,
         stops_table,
         routes_table,
         calendar_table,
@@ -114,12 +95,7 @@ fn checked(
 
 // The check: from six files, six tables and a list as lent, a starting place and the rules asked for, to the answer and what all seven hold.
 pub fn check(
-    stops: &[u8],
-    routes: &[u8],
-    calendar: &[u8],
-    trips: &[u8],
-    stop_times: &[u8],
-    calendar_dates: &[u8],
+    files: [&[u8]; 6],
     stops_table: &mut [i32],
     routes_table: &mut [i32],
     calendar_table: &mut [i32],
@@ -130,14 +106,13 @@ pub fn check(
     from: Place,
     asked: Profile,
 ) -> Answer
-    ensures { λ r. ⌜ outcome
-        (now (stops .entry) ∷ now (routes .entry) ∷ now (calendar .entry) ∷ now (trips .entry) ∷ now («stop_times» .entry) ∷ now («calendar_dates» .entry) ∷ [])
+    ensures { λ r. ⌜ outcome (map now (files .entry))
         (now («stops_table» .entry) ∷ now («routes_table» .entry) ∷ now («calendar_table» .entry) ∷ now («trips_table» .entry) ∷ now («stop_times_table» .entry) ∷ now («calendar_dates_table» .entry) ∷ [])
         (now (findings .entry)) from asked
         ≡ record { answer = r; tables = now («stops_table» .exit) ∷ now («routes_table» .exit) ∷ now («calendar_table» .exit) ∷ now («trips_table» .exit) ∷ now («stop_times_table» .exit) ∷ now («calendar_dates_table» .exit) ∷ []; list = now (findings .exit) } ⌝ }
     ensures { λ r. ⌜ Small r ⌝ }
 {
-    let counts = count_all(stops, routes, calendar, trips, stop_times, calendar_dates);
+    let counts = count_all(files);
     let rooms = [
         stops_table.len(),
         routes_table.len(),
@@ -146,23 +121,9 @@ pub fn check(
         stop_times_table.len(),
         calendar_dates_table.len(),
     ];
-    match reading::verdict(
-        stops,
-        routes,
-        calendar,
-        trips,
-        stop_times,
-        calendar_dates,
-        rooms,
-        counts,
-    ) {
+    match reading::verdict(files, rooms, counts) {
         Verdict::Readable => checked(
-            stops,
-            routes,
-            calendar,
-            trips,
-            stop_times,
-            calendar_dates,
+            files,
             counts,
             stops_table,
             routes_table,
@@ -179,31 +140,19 @@ pub fn check(
 }
 
 // Every refusal of six files at once: those after the starting place are written into a lent list, as many as fit; and how many there are.
-pub fn faults(
-    stops: &[u8],
-    routes: &[u8],
-    calendar: &[u8],
-    trips: &[u8],
-    stop_times: &[u8],
-    calendar_dates: &[u8],
-    list: &mut [i32],
-    from: Place,
-) -> Sink
-    ensures { λ r. ⌜ state (now (list .exit)) r ≡ told
-        (now (stops .entry) ∷ now (routes .entry) ∷ now (calendar .entry) ∷ now (trips .entry) ∷ now («stop_times» .entry) ∷ now («calendar_dates» .entry) ∷ [])
-        from (now (list .entry)) ⌝ }
+pub fn faults(files: [&[u8]; 6], list: &mut [i32], from: Place) -> Sink
+    ensures { λ r. ⌜ state (now (list .exit)) r ≡ told (map now (files .entry)) from (now (list .entry)) ⌝ }
     ensures { λ r. ⌜ (r .written ≤ r .total) × (r .total ≤ 6 * (maxBytes + 4)) ⌝ }
 {
-    let dated = calendar_dates.len() != 0;
-    let k = Sink {
+    let dated = files[5].len() != 0;
+    let mut k = Sink {
         written: 0,
         total: 0,
     };
-    // A call for each file: slices of several lifetimes can't stand in one array.
-    let k = file_faults::list_faults(1, stops, dated, list, k, from);
-    let k = file_faults::list_faults(2, routes, dated, list, k, from);
-    let k = file_faults::list_faults(3, calendar, dated, list, k, from);
-    let k = file_faults::list_faults(4, trips, dated, list, k, from);
-    let k = file_faults::list_faults(5, stop_times, dated, list, k, from);
-    file_faults::list_faults(6, calendar_dates, dated, list, k, from)
+    let mut i: usize = 0;
+    while i < 6 {
+        k = file_faults::list_faults(i + 1, files[i], dated, list, k, from);
+        i += 1;
+    }
+    k
 }

@@ -1,6 +1,6 @@
--- Laws: the profile that a number asks for; the outcome from a starting place, part by part; calls for faults; answers about an index.
+-- Laws: the profile that a number asks for; checks and calls for faults from a starting place; answers about an index.
 use Prim.Native.Nat.{ℕ, zero, suc}
-use mathlib.Core.Path.{_≡_, refl, ap, ap₂, sym, _∙_}
+use mathlib.Core.Path.{_≡_, refl, subst, ap, ap₂, sym, _∙_}
 use mathlib.Core.List.{List}
 use native.Mathlib.Omega.{arith}
 use lib.IntN.{ℤ, pos, negsuc, natAbs}
@@ -11,6 +11,7 @@ use Rattle.meaning.specs.Outcome.{Outcome, outcome}
 use Rattle.tusuchiy_c.specs.declared.TusuchiyAnswer.{TusuchiyAnswer}
 use Rattle.tusuchiy_c.specs.Asked.{profileOf}
 use Rattle.tusuchiy_c.specs.Told.{Told}
+use Rattle.tusuchiy_c.specs.ToldCheck.{ToldCheck}
 use Rattle.listing.specs.declared.Sink.{Sink}
 use Rattle.listing.specs.Handing.{State, state}
 use Rattle.faults.specs.Told.{told as faultsTold}
@@ -32,20 +33,17 @@ boards-asked (pos zero) h = absurd (h refl)
 boards-asked (pos (suc n)) h = refl
 boards-asked (negsuc n) h = refl
 
--- an outcome from one starting place and profile is told of others that are the same
-module _ (files : List (List ℕ)) (tables : List (List ℤ)) (list : List ℤ) (p q : Place) (asked given : Profile) (o : Outcome)
-    (is : q ≡ p) (same : given ≡ asked) (e : outcome files tables list q given ≡ o) where
-  from-p : outcome files tables list p asked ≡ o
-  from-p = ap₂ (outcome files tables list) (sym is) (sym same) ∙ e
-
-  pub told-answer : (r : TusuchiyAnswer) → Told (o .answer) r → Told (outcome files tables list p asked .answer) r
-  told-answer r t = rw (ap (λ (x : Outcome). x .answer) from-p) t
-
-  pub told-tables : outcome files tables list p asked .tables ≡ o .tables
-  told-tables = ap (λ (x : Outcome). x .tables) from-p
-
-  pub told-list : outcome files tables list p asked .list ≡ o .list
-  told-list = ap (λ (x : Outcome). x .list) from-p
+-- a check from one starting place and profile is told of others that are the same
+pub told-check :
+    (files : List (List ℕ)) (tables : List (List ℤ)) (list : List ℤ) (p q : Place) (asked given : Profile) (o : Outcome)
+    → q ≡ p
+    → given ≡ asked
+    → outcome files tables list q given ≡ o
+    → (r : TusuchiyAnswer)
+    → Told (o .answer) r
+    → ToldCheck (outcome files tables list p asked) r (o .tables) (o .list)
+told-check files tables list p q asked given o is same e r t =
+    subst (λ (x : Outcome). ToldCheck x r (o .tables) (o .list)) (sym e ∙ ap₂ (outcome files tables list) is same) (record { answer = t; tables = refl; findings = refl })
 
 -- a call for faults from one starting place is told of another that is the same
 pub told-faults :

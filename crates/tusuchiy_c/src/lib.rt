@@ -13,6 +13,7 @@ ghost use Rattle.indexes.specs.Index.{checked, wrote, written};
 ghost use Rattle.indexes.specs.Small.{Small as SmallIndex};
 ghost use Rattle.tusuchiy_c.specs.Asked.{profileOf};
 ghost use Rattle.tusuchiy_c.specs.Told.{Told};
+ghost use Rattle.tusuchiy_c.specs.ToldCheck.{ToldCheck};
 ghost use Rattle.tusuchiy_c.specs.ToldFaults.{ToldFaults};
 ghost use Rattle.tusuchiy_c.specs.ToldIndex.{ToldIndex};
 use indexes::IndexAnswer;
@@ -106,13 +107,13 @@ fn profile_of(number: i32) -> Profile
 // The check over six files, six lent tables and a lent list, from a starting place, for boards where `profile` isn't 0. An empty slice of file 3 or 6
 // means: not supplied.
 #[no_mangle]
-pub extern "C" fn tusuchiy_check(
-    stops: &[u8],
-    routes: &[u8],
-    calendar: &[u8],
-    trips: &[u8],
-    stop_times: &[u8],
-    calendar_dates: &[u8],
+pub extern "C" fn tusuchiy_check<'a>(
+    stops: &'a [u8],
+    routes: &'a [u8],
+    calendar: &'a [u8],
+    trips: &'a [u8],
+    stop_times: &'a [u8],
+    calendar_dates: &'a [u8],
     stops_table: &mut [i32],
     routes_table: &mut [i32],
     calendar_table: &mut [i32],
@@ -125,30 +126,18 @@ pub extern "C" fn tusuchiy_check(
     after_rule: i32,
     profile: i32,
 ) -> TusuchiyAnswer
-    ensures { λ r. ⌜ Told (outcome
+    ensures { λ r. ⌜ ToldCheck (outcome
         (now (stops .entry) ∷ now (routes .entry) ∷ now (calendar .entry) ∷ now (trips .entry) ∷ now («stop_times» .entry) ∷ now («calendar_dates» .entry) ∷ [])
         (now («stops_table» .entry) ∷ now («routes_table» .entry) ∷ now («calendar_table» .entry) ∷ now («trips_table» .entry) ∷ now («stop_times_table» .entry) ∷ now («calendar_dates_table» .entry) ∷ [])
-        (now (findings .entry)) (record { file = «after_file»; line = «after_line»; rule = «after_rule» }) (profileOf profile) .answer) r ⌝ }
-    ensures { λ _. ⌜ outcome
-        (now (stops .entry) ∷ now (routes .entry) ∷ now (calendar .entry) ∷ now (trips .entry) ∷ now («stop_times» .entry) ∷ now («calendar_dates» .entry) ∷ [])
-        (now («stops_table» .entry) ∷ now («routes_table» .entry) ∷ now («calendar_table» .entry) ∷ now («trips_table» .entry) ∷ now («stop_times_table» .entry) ∷ now («calendar_dates_table» .entry) ∷ [])
-        (now (findings .entry)) (record { file = «after_file»; line = «after_line»; rule = «after_rule» }) (profileOf profile) .tables
-        ≡ now («stops_table» .exit) ∷ now («routes_table» .exit) ∷ now («calendar_table» .exit) ∷ now («trips_table» .exit) ∷ now («stop_times_table» .exit) ∷ now («calendar_dates_table» .exit) ∷ [] ⌝ }
-    ensures { λ _. ⌜ outcome
-        (now (stops .entry) ∷ now (routes .entry) ∷ now (calendar .entry) ∷ now (trips .entry) ∷ now («stop_times» .entry) ∷ now («calendar_dates» .entry) ∷ [])
-        (now («stops_table» .entry) ∷ now («routes_table» .entry) ∷ now («calendar_table» .entry) ∷ now («trips_table» .entry) ∷ now («stop_times_table» .entry) ∷ now («calendar_dates_table» .entry) ∷ [])
-        (now (findings .entry)) (record { file = «after_file»; line = «after_line»; rule = «after_rule» }) (profileOf profile) .list
-        ≡ now (findings .exit) ⌝ }
+        (now (findings .entry)) (record { file = «after_file»; line = «after_line»; rule = «after_rule» }) (profileOf profile)) r
+        (now («stops_table» .exit) ∷ now («routes_table» .exit) ∷ now («calendar_table» .exit) ∷ now («trips_table» .exit) ∷ now («stop_times_table» .exit) ∷ now («calendar_dates_table» .exit) ∷ [])
+        (now (findings .exit)) ⌝ }
 {
     let from = place_of(after_file, after_line, after_rule);
     let asked = profile_of(profile);
+    let files = [stops, routes, calendar, trips, stop_times, calendar_dates];
     told(tusuchiy::check(
-        stops,
-        routes,
-        calendar,
-        trips,
-        stop_times,
-        calendar_dates,
+        files,
         stops_table,
         routes_table,
         calendar_table,
@@ -181,13 +170,13 @@ fn told_faults(k: Sink) -> TusuchiyFaultsAnswer
 
 // Every refusal of six files at once, four numbers each into a lent list: file, line, number, column; those after a starting place.
 #[no_mangle]
-pub extern "C" fn tusuchiy_faults(
-    stops: &[u8],
-    routes: &[u8],
-    calendar: &[u8],
-    trips: &[u8],
-    stop_times: &[u8],
-    calendar_dates: &[u8],
+pub extern "C" fn tusuchiy_faults<'a>(
+    stops: &'a [u8],
+    routes: &'a [u8],
+    calendar: &'a [u8],
+    trips: &'a [u8],
+    stop_times: &'a [u8],
+    calendar_dates: &'a [u8],
     faults: &mut [i32],
     after_file: i32,
     after_line: i32,
@@ -198,16 +187,8 @@ pub extern "C" fn tusuchiy_faults(
         (record { file = «after_file»; line = «after_line»; rule = «after_number» }) (now (faults .entry))) r (now (faults .exit)) ⌝ }
 {
     let from = place_of(after_file, after_line, after_number);
-    told_faults(tusuchiy::faults(
-        stops,
-        routes,
-        calendar,
-        trips,
-        stop_times,
-        calendar_dates,
-        faults,
-        from,
-    ))
+    let files = [stops, routes, calendar, trips, stop_times, calendar_dates];
+    told_faults(tusuchiy::faults(files, faults, from))
 }
 
 // The answer about an index: number 0 written or accepted, 1 to 14 the file's own refusal with its file, line and column, or 40 to 46; the index's length.

@@ -22,6 +22,7 @@ pub mod readings;
 pub mod render;
 pub mod services;
 pub mod vectors;
+pub mod zips;
 
 use model::{Answer, Files, Profile, Tables, FILES};
 

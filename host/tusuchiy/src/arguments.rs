@@ -127,17 +127,17 @@ fn option(found: &mut Found, name: &'static str, parser: &mut Parser) -> Result<
 
 /// A word of the command line, safe to print.
 fn shown(word: &OsStr) -> String {
-    format!("'{}'", safe::text(word.as_bytes()))
+    format!("'{}'", safe::name(word.as_bytes()))
 }
 
 /// What the parser has to say, in one line.
 fn said(error: Error) -> String {
     match error {
-        Error::MissingValue { option: Some(option) } => format!("{} needs a value", safe::text(option.as_bytes())),
+        Error::MissingValue { option: Some(option) } => format!("{} needs a value", safe::name(option.as_bytes())),
         Error::UnexpectedValue { option, value } => {
-            format!("{} takes no value, and not {}", safe::text(option.as_bytes()), shown(&value))
+            format!("{} takes no value, and not {}", safe::name(option.as_bytes()), shown(&value))
         }
-        other => safe::text(other.to_string().as_bytes()),
+        other => safe::name(other.to_string().as_bytes()),
     }
 }
 

@@ -60,8 +60,9 @@ impl Place {
 
     /// The path of a file, safe to print.
     pub fn of(&self, name: &str) -> String {
-        let path = self.path.join(std::ffi::OsStr::from_bytes(&self.folder)).join(name);
-        safe::text(path.as_os_str().as_bytes())
+        let path = self.path.as_os_str().as_bytes();
+        let slash: &[u8] = if path.ends_with(b"/") { b"" } else { b"/" };
+        safe::name(&[path, slash, &self.folder, name.as_bytes()].concat())
     }
 }
 
@@ -71,7 +72,7 @@ pub struct Feed {
     pub unread: Unread,
     /// The folder that it was read from, if it was one.
     pub opened: Option<Folder>,
-    files: [Option<Vec<u8>>; FILES],
+    pub files: [Option<Vec<u8>>; FILES],
     ends: [Vec<u32>; FILES],
     counts: [usize; FILES],
 }
@@ -178,6 +179,18 @@ mod tests {
             let told: Vec<File> = File::ALL.into_iter().filter(|file| feed.left_out(*file)).collect();
             assert_eq!(told, left_out, "{services:?}");
         }
+    }
+
+    /// Wherever a folder says that it is, it is in the zip file.
+    #[test]
+    fn paths_begin_with_the_feed() {
+        let of =
+            |path: &str, folder: &str| Place { path: path.into(), is_zip: true, folder: folder.into() }.of("stops.txt");
+        assert_eq!(of("a.zip", ""), "a.zip/stops.txt");
+        assert_eq!(of("a.zip", "gtfs/"), "a.zip/gtfs/stops.txt");
+        assert_eq!(of("a.zip", "/etc/other/"), "a.zip//etc/other/stops.txt");
+        assert_eq!(of("feeds/", ""), "feeds/stops.txt");
+        assert_eq!(of("/", ""), "/stops.txt");
     }
 
     #[test]

@@ -181,7 +181,7 @@ pub fn limited(mut from: impl Read, expected: u64) -> io::Result<Vec<u8>> {
 
 /// What stands in the way of reading a path.
 pub fn cannot(path: &Path, why: &str) -> String {
-    format!("can't read {}: {why}", safe::text(path.as_os_str().as_bytes()))
+    format!("can't read {}: {why}", safe::name(path.as_os_str().as_bytes()))
 }
 
 #[cfg(test)]

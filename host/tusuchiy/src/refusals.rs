@@ -20,12 +20,14 @@ const MOST_ID_BYTES: usize = 64;
 pub struct Reasons<'a> {
     feed: &'a Feed,
     names: Names<'a>,
+    header_counts: [OnceCell<usize>; FILES],
     all_fit: [OnceCell<bool>; FILES],
 }
 
 impl<'a> Reasons<'a> {
     pub fn new(feed: &'a Feed) -> Self {
-        Reasons { feed, names: Names::new(feed), all_fit: Default::default() }
+        let (header_counts, all_fit) = Default::default();
+        Reasons { feed, names: Names::new(feed), header_counts, all_fit }
     }
 
     /// What the verdict's refusal is about; where a file is missing, all that are.
@@ -49,12 +51,20 @@ impl<'a> Reasons<'a> {
             4 => File::new(file).map_or_else(About::default, no_end),
             5 => guessed(stray(text), guess_by_mark(bytes)),
             6 => marks(text),
-            7 => counted(format!("it has {} fields", field_count(text)), "fields", field_count(text), MOST_FIELDS),
+            7 => many(self.field_count(file, line, text)),
             9 => self.missing(file),
             10 => counts(field_count(text), self.names.fields(file).len()),
             8 | 11..=13 => self.in_column(refusal, text).unwrap_or_default(),
             14 => self.bad_byte(file, text).unwrap_or_default(),
             _ => About::default(),
+        }
+    }
+
+    /// How many fields a line has: a header's are counted once, though the verdict and the list name it.
+    fn field_count(&self, file: usize, line: usize, text: &[u8]) -> usize {
+        match line {
+            1 => *self.header_counts[file - 1].get_or_init(|| field_count(text)),
+            _ => field_count(text),
         }
     }
 
@@ -196,6 +206,10 @@ fn marks(text: &[u8]) -> About {
 
 fn field_count(text: &[u8]) -> usize {
     fields::count(text).unwrap_or(0)
+}
+
+fn many(fields: usize) -> About {
+    counted(format!("it has {fields} fields"), "fields", fields, MOST_FIELDS)
 }
 
 fn counts(fields: usize, header: usize) -> About {

@@ -4,6 +4,10 @@
 pub const SHOWN_LINE: usize = 400;
 pub const SHOWN_VALUE: usize = 80;
 
+/// The most characters that a name is shown with, and how many stand on either side of the dots of a longer one.
+const SHOWN_NAME: usize = 200;
+const KEPT: usize = (SHOWN_NAME - 3) / 2;
+
 /// The beginning of a text, cut between characters, and whether anything was cut off.
 pub fn beginning(text: &[u8], most: usize) -> (&[u8], bool) {
     if text.len() <= most {
@@ -13,6 +17,48 @@ pub fn beginning(text: &[u8], most: usize) -> (&[u8], bool) {
     let goes_on = |place: &usize| text[*place] & 0xC0 == 0x80;
     let end = (most - 3..=most).rev().find(|place| !goes_on(place)).unwrap_or(most);
     (&text[..end], true)
+}
+
+/// A name or a path for a terminal: beyond 200 characters, as they are shown, its middle is left out.
+pub fn name(bytes: &[u8]) -> String {
+    // A character has at most four bytes, and one more may be cut.
+    const NEAR: usize = 4 * (KEPT + 1);
+    if bytes.len() <= 4 * SHOWN_NAME {
+        let whole = text(bytes);
+        if whole.chars().count() <= SHOWN_NAME {
+            return whole;
+        }
+    }
+    let near = NEAR.min(bytes.len());
+    let head = characters(&bytes[..near]);
+    let mut tail = characters(&bytes[bytes.len() - near..]);
+    tail.reverse();
+    let (head, mut tail) = (fitting(head), fitting(tail));
+    tail.reverse();
+    format!("{}...{}", head.concat(), tail.concat())
+}
+
+/// The characters of a text, each as it is shown.
+fn characters(bytes: &[u8]) -> Vec<String> {
+    let mut rest = bytes;
+    let mut shown = Vec::new();
+    while !rest.is_empty() {
+        let is_character = |length: &usize| rest.get(..*length).is_some_and(|bytes| std::str::from_utf8(bytes).is_ok());
+        let (character, more) = rest.split_at((1..=4).find(is_character).unwrap_or(1));
+        shown.push(text(character));
+        rest = more;
+    }
+    shown
+}
+
+/// As many of the first ones as are kept on either side of what is left out.
+fn fitting(characters: Vec<String>) -> Vec<String> {
+    let mut length = 0;
+    let fits = |character: &String| {
+        length += character.chars().count();
+        length <= KEPT
+    };
+    characters.into_iter().take_while(fits).collect()
 }
 
 /// Text for a terminal: what it could obey or hide is written as an escape, and so is a backslash.
@@ -107,6 +153,29 @@ mod tests {
         assert_eq!(json(b"a\"\\\n\x7f"), r#""a\"\\\u000a\u007f""#);
         assert_eq!(json("ä😀".as_bytes()), r#""\u00e4\ud83d\ude00""#);
         assert_eq!(json(b"\xFF"), r#""\ufffd""#);
+    }
+
+    /// A name of 200 characters is whole; a longer one has 200 at most, its beginning and its end, and no half of an escape.
+    #[test]
+    fn long_names_are_cut_in_the_middle() {
+        for (character, shown) in [("a", "a"), ("ä", "ä"), ("😀", "😀"), ("\n", "\\x0A"), ("\u{202E}", "\\u{202E}")]
+        {
+            let wide = shown.chars().count();
+            for count in [1, 200 / wide, 200 / wide + 1, 201, 300, 65_000] {
+                let told = name(character.repeat(count).as_bytes());
+                if count * wide <= 200 {
+                    assert_eq!(told, shown.repeat(count), "{character:?} {count}");
+                } else {
+                    let side = shown.repeat(98 / wide);
+                    assert_eq!(told, format!("{side}...{side}"), "{character:?} {count}");
+                }
+            }
+        }
+        let path = format!("/{}/stops.txt", "x".repeat(500));
+        assert_eq!(name(path.as_bytes()), format!("/{}...{}/stops.txt", "x".repeat(97), "x".repeat(88)));
+        assert_eq!(name(&[0x80; 65_000]), format!("{0}...{0}", "\\x80".repeat(24)));
+        let odd = [&b"a"[..], &[0xF0, 0x9F, 0x98].repeat(400)].concat();
+        assert!(name(&odd).starts_with("a\\xF0\\x9F\\x98\\xF0") && name(&odd).chars().count() <= 200);
     }
 
     #[test]

@@ -51,7 +51,7 @@ pub fn write(out: &mut dyn Write, feed: &Feed, report: &Report, layout: &Layout)
 pub fn write_folder(out: &mut dyn Write, feed: &Feed) -> io::Result<()> {
     match &feed.place.folder[..] {
         [] => Ok(()),
-        folder => writeln!(out, "in the folder {} of the zip file", safe::text(folder)),
+        folder => writeln!(out, "in the folder {} of the zip file", safe::name(folder)),
     }
 }
 
@@ -75,7 +75,7 @@ pub fn asked(profile: Profile) -> String {
 
 /// The verdict of one of many feeds: one line, with the place and the words of a refusal and how many other faults there are.
 pub fn verdict_line(feed: &Feed, report: &Report, style: Style) -> String {
-    let path = safe::text(feed.place.path.as_os_str().as_bytes());
+    let path = safe::name(feed.place.path.as_os_str().as_bytes());
     let more = match &report.outcome {
         Outcome::Refused { first, total, .. } => {
             let words = in_short(NAMES[first.file - 1], first, &Reasons::new(feed).about(first));
@@ -108,7 +108,7 @@ fn write_read(out: &mut dyn Write, feed: &Feed, layout: &Layout) -> io::Result<(
         writeln!(out, "not supplied: {}", left_out.join(", "))?;
     }
     if feed.unread.count > 0 {
-        let names: Vec<String> = feed.unread.names.iter().map(|name| safe::text(name)).collect();
+        let names: Vec<String> = feed.unread.names.iter().map(|name| safe::name(name)).collect();
         let more = feed.unread.count - names.len();
         let more = if more == 0 { String::new() } else { format!(" and {more} more") };
         writeln!(out, "files not read: {}{more}", names.join(", "))?;

@@ -99,8 +99,9 @@ fn random_zip_files() {
                 let folder_in_it: &&str = random.pick(&["", "", "a/", "b/"]);
                 let mut members = feed(folder_in_it, &example_files("findings"));
                 members.push(member("note", &bytes(&mut random, 100)));
+                let has_large = random.once_in(6);
                 members.iter_mut().for_each(|member| {
-                    (member.packed, member.large) = (random.once_in(2), random.once_in(4));
+                    (member.packed, member.large) = (random.once_in(2), has_large && random.once_in(4));
                 });
                 let mut zip = write(&members);
                 // Mostly near the end, where the directory is.

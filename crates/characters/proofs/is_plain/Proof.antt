@@ -1,10 +1,11 @@
 -- `characters::is_plain` meets its contract.
 use Rattle.characters.proofs.Laws.{plain-low, plain-high, plain-next, plain-over}
 use Rattle.characters.specs.States.{plain}
-use mathlib.Core.Path.{_≡_, refl}
+use mathlib.Core.Path.{_≡_}
 use Prim.Native.Nat.{_≤_, _-_}
 use native.Mathlib.Omega.{arith}
 use lib.ListN.{length, drop}
+use borrow.Author.Needs.{needs}
 use Rattle.characters.proofs.is_plain.Statement.{statement}
 use Rattle.characters.proofs.is_plain.Tie as tie
 
@@ -14,8 +15,11 @@ Inv-loop l i₀ i = (i ≤ length l) × (plain (drop i l) ≡ plain l)
 abbrev μ-loop : tie.MeasureT-loop
 μ-loop l i₀ i = length l - i
 
+past-plain-requires : tie.Need-past-plain-requires Inv-loop μ-loop
+past-plain-requires c κs = search needs
+
 loop-holds : tie.Need-loop-holds Inv-loop μ-loop
-loop-holds c = (omega arith, refl)
+loop-holds c = (c .past-plain .ensures .1, c .past-plain .ensures .0)
 
 shared-slice-read-b : tie.Need-shared-slice-read-b Inv-loop μ-loop
 shared-slice-read-b c = omega arith
@@ -50,6 +54,7 @@ is-plain-spec =
     (tie.spec
     Inv-loop
     μ-loop
+    past-plain-requires
     loop-holds
     shared-slice-read-b
     returns

@@ -1,5 +1,7 @@
 -- `columns::cells_of` meets its contract.
 use Rattle.columns.proofs.Laws.{cells-by, past-some}
+use Rattle.text.proofs.Spans.{up-exact}
+use native.Mathlib.Omega.{arith}
 use borrow.Author.Needs.{needs}
 use Rattle.columns.proofs.cells_of.Statement.{statement}
 use Rattle.columns.proofs.cells_of.Tie as tie
@@ -7,12 +9,12 @@ use Rattle.columns.proofs.cells_of.Tie as tie
 near-cells-requires : tie.Need-near-cells-requires
 near-cells-requires c κs =
     let p = c .before .before .before .pre in
-    (c .if1 .taken, past-some _ _ _ (p .0) (p .1) (c .if1 .taken))
+    (c .if1 .taken, past-some _ _ _ (up-exact _ _ (p .0) (omega arith)) (p .1) (c .if1 .taken))
 
 returns : tie.Need-returns
 returns c =
     let p = c .before .before .before .before .pre in
-    cells-by _ _ _ (p .0) (p .1) (c .before .if1 .taken) _ _ _ (c .near-cells .ensures)
+    cells-by _ _ _ (up-exact _ _ (p .0) (omega arith)) (p .1) (c .before .if1 .taken) _ _ _ (c .near-cells .ensures)
 
 wide-cells-requires : tie.Need-wide-cells-requires
 wide-cells-requires c κs = search needs

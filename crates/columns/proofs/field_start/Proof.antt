@@ -24,7 +24,7 @@ new-requires : tie.Need-new-requires Inv-loop μ-loop
 new-requires c κs = search needs
 
 loop-holds : tie.Need-loop-holds Inv-loop μ-loop
-loop-holds c = (omega arith, omega arith, omega arith, fields-first _ _ (c .new .ensures), λ h. omega arith)
+loop-holds c = (omega arith, omega arith, omega arith, fields-first _ _ (c .new .ensures .0), λ h. omega arith)
 
 next-requires : tie.Need-next-requires Inv-loop μ-loop
 next-requires c κs = search needs

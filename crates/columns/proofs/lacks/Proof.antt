@@ -15,17 +15,17 @@ use Rattle.columns.proofs.lacks.Statement.{statement}
 use Rattle.columns.proofs.lacks.Tie as tie
 
 abbrev Inv-loop : tie.InvT-loop
-Inv-loop f m at k₀ k = (k ≤ m) × (some (λ k. columnOf f k .must && eqb (getD at k 0) 0) k (m - k) ≡ lacking f at)
+Inv-loop f at m k₀ k = (k ≤ m) × (some (λ k. columnOf f k .must && eqb (getD at k 0) 0) k (m - k) ≡ lacking f at)
 
 abbrev μ-loop : tie.MeasureT-loop
-μ-loop f m at k₀ k = m - k
+μ-loop f at m k₀ k = m - k
 
 count-requires : tie.Need-count-requires Inv-loop μ-loop
 count-requires c κs = search needs
 
 loop-holds : tie.Need-loop-holds Inv-loop μ-loop
 unfolding lacking
-loop-holds c = (omega arith, rw (sub-zero, ← c .before .count .ensures .0))
+loop-holds c = (omega arith, rw (sub-zero, ← c .count .ensures .0))
 
 mul-is-missing : tie.Need-mul-is-missing Inv-loop μ-loop
 mul-is-missing c = omega arith

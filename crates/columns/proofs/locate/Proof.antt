@@ -1,6 +1,5 @@
 -- `columns::locate` meets its contract.
 use Rattle.columns.proofs.Laws.{noted-by}
-use mathlib.Core.Path.{refl}
 use borrow.Author.Needs.{needs}
 use Rattle.columns.proofs.locate.Statement.{statement}
 use Rattle.columns.proofs.locate.Tie as tie
@@ -20,7 +19,7 @@ slice-aggregate-cells-of c = search needs
 cells-of-requires : tie.Need-cells-of-requires
 cells-of-requires c κs =
     let w = c .before .before in
-    (w .walk-fields .ensures .0 .1, noted-by _ _ _ (rw (w .before .before .blank-starts .ensures) refl) (w .walk-fields .ensures .1))
+    (w .walk-fields .ensures .0 .1, noted-by _ _ _ (w .before .before .blank-starts .ensures) (w .walk-fields .ensures .1))
 
 returns : tie.Need-returns
 returns c = search needs

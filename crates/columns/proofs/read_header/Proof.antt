@@ -18,24 +18,24 @@ next-line-requires c κs = search needs
 enum-known-start : tie.Need-enum-known-start
 enum-known-start c = search needs
 
-sub-columns-of : tie.Need-sub-columns-of
-sub-columns-of c = (line-found _ _ _ _ _ (sym (c .before .before .before .next-line .ensures) ∙ c .before .start .given .1)) .ordered
+sub-names-of : tie.Need-sub-names-of
+sub-names-of c = (line-found _ _ _ _ _ (sym (c .before .before .before .next-line .ensures) ∙ c .before .start .given .1)) .ordered
 
-part-columns-of-start : tie.Need-part-columns-of-start
-part-columns-of-start c = let h = line-found _ _ _ _ _ (sym (c .before .before .before .next-line .ensures) ∙ c .before .start .given .1) in omega (arith, h .ordered)
+part-names-of-start : tie.Need-part-names-of-start
+part-names-of-start c = let h = line-found _ _ _ _ _ (sym (c .before .before .before .next-line .ensures) ∙ c .before .start .given .1) in omega (arith, h .ordered)
 
-part-columns-of-end : tie.Need-part-columns-of-end
-part-columns-of-end c = let h = line-found _ _ _ _ _ (sym (c .before .before .before .next-line .ensures) ∙ c .before .start .given .1) in omega (arith, h .before, h .within)
+part-names-of-end : tie.Need-part-names-of-end
+part-names-of-end c = let h = line-found _ _ _ _ _ (sym (c .before .before .before .next-line .ensures) ∙ c .before .start .given .1) in omega (arith, h .before, h .within)
 
-columns-of-requires : tie.Need-columns-of-requires
-columns-of-requires c κs = search needs
+names-of-requires : tie.Need-names-of-requires
+names-of-requires c κs = search needs
 
 enum-told : tie.Need-enum-told
 enum-told c = search needs
 
 returns : tie.Need-returns
 unfolding part
-returns c = header-found _ _ (c .before .before .before .before .before .before .before .body-start .ensures .0) _ _ _ _ _ (line-found _ _ _ _ _ (sym (c .before .before .before .before .before .before .next-line .ensures) ∙ c .before .before .before .before .start .given .1)) (c .before .columns-of .ensures .0)
+returns c = header-found _ _ (c .before .before .before .before .before .before .before .body-start .ensures .0) _ _ _ _ _ (line-found _ _ _ _ _ (sym (c .before .before .before .before .before .before .next-line .ensures) ∙ c .before .before .before .before .start .given .1)) (c .before .names-of .ensures .0)
 
 returns-2 : tie.Need-returns-2
 returns-2 c =
@@ -49,10 +49,10 @@ read-header-spec =
     body-start-requires
     next-line-requires
     enum-known-start
-    sub-columns-of
-    part-columns-of-start
-    part-columns-of-end
-    columns-of-requires
+    sub-names-of
+    part-names-of-start
+    part-names-of-end
+    names-of-requires
     enum-told
     returns
     returns-2)

@@ -26,7 +26,7 @@ new-requires c κs = search needs
 loop-holds : tie.Need-loop-holds Inv-loop μ-loop
 loop-holds c =
     let w : length (c .before .before .args .at) ≡ 10 = omega arith in
-    (omega arith, omega arith, omega arith, fields-first _ _ (c .new .ensures), seen-first (λ b. b .start) refl _ _ 10 w, seen-first (λ b. b .end) refl _ _ 10 w)
+    (omega arith, omega arith, omega arith, fields-first _ _ (c .new .ensures .0), seen-first (λ b. b .start) refl _ _ 10 w, seen-first (λ b. b .end) refl _ _ 10 w)
 
 next-requires : tie.Need-next-requires Inv-loop μ-loop
 next-requires c κs = search needs

@@ -16,7 +16,7 @@ text-rule-requires : tie.Need-text-rule-requires
 text-rule-requires c κs = search needs
 
 returns-2 : tie.Need-returns-2
-returns-2 c = rw (c .before .before .if1 .left) (c .text-rule .ensures)
+returns-2 c = rw (c .before .before .if1 .left) (c .text-rule .ensures .0)
 
 pub later-fault-spec : {M : Type 1} → statement M
 later-fault-spec =

@@ -4,7 +4,7 @@ use native.Mathlib.Omega.{arith}
 use borrow.Author.Needs.{needs}
 use Rattle.meaning.specs.Bytes.{part}
 use Rattle.file_faults.proofs.Steps.{any-found, any-none}
-use Rattle.file_faults.proofs.OneFault.{head-fault, head-good, head-rule, head-column}
+use Rattle.file_faults.proofs.OneFault.{head-fault, head-told, head-rule, head-column}
 use Rattle.file_faults.proofs.Walk.{lines-none, lines-some}
 use Rattle.file_faults.proofs.list_lines.Statement.{statement}
 use Rattle.file_faults.proofs.list_lines.Tie as tie
@@ -18,56 +18,38 @@ any-line-requires c κs = search needs
 enum-known-start : tie.Need-enum-known-start
 enum-known-start c = search needs
 
-sub-columns-of : tie.Need-sub-columns-of
-sub-columns-of c =
+sub-judge-header : tie.Need-sub-judge-header
+sub-judge-header c =
     let s = any-found _ _ _ _ _ (sym (c .before .before .before .any-line .ensures) ∙ c .before .start .given .1) in
     omega (arith, s .ordered)
 
-part-columns-of-start : tie.Need-part-columns-of-start
-part-columns-of-start c =
+part-judge-header-start : tie.Need-part-judge-header-start
+part-judge-header-start c =
     let s = any-found _ _ _ _ _ (sym (c .before .before .before .any-line .ensures) ∙ c .before .start .given .1) in
     omega (arith, s .ordered, s .within)
 
-part-columns-of-end : tie.Need-part-columns-of-end
-part-columns-of-end c =
+part-judge-header-end : tie.Need-part-judge-header-end
+part-judge-header-end c =
     let s = any-found _ _ _ _ _ (sym (c .before .before .before .any-line .ensures) ∙ c .before .start .given .1) in
     omega (arith, s .ordered, s .within)
 
-columns-of-requires : tie.Need-columns-of-requires
-columns-of-requires c κs = search needs
-
-sub-header-fault : tie.Need-sub-header-fault
-sub-header-fault c =
-    let s = any-found _ _ _ _ _ (sym (c .before .before .before .before .before .any-line .ensures) ∙ c .before .before .before .start .given .1) in
-    omega (arith, s .ordered)
-
-part-header-fault-start : tie.Need-part-header-fault-start
-part-header-fault-start c =
-    let s = any-found _ _ _ _ _ (sym (c .before .before .before .before .before .any-line .ensures) ∙ c .before .before .before .start .given .1) in
-    omega (arith, s .ordered, s .within)
-
-part-header-fault-end : tie.Need-part-header-fault-end
-part-header-fault-end c =
-    let s = any-found _ _ _ _ _ (sym (c .before .before .before .before .before .any-line .ensures) ∙ c .before .before .before .start .given .1) in
-    omega (arith, s .ordered, s .within)
-
-header-fault-requires : tie.Need-header-fault-requires
-header-fault-requires c κs = (c .before .before .before .before .before .before .before .before .before .pre .0, c .before .columns-of .ensures .0)
+judge-header-requires : tie.Need-judge-header-requires
+judge-header-requires c κs = search needs
 
 note-fault-requires : tie.Need-note-fault-requires
 note-fault-requires c κs =
-    let q = c .before .before .before .before .before .before .before .before .before .before .before .pre in
-    let e = c .before .header-fault .ensures in
+    let j = c .before .before in
+    let q = j .before .before .before .before .before .before .before .before .pre in
+    let e = j .judge-header .ensures .0 in
     ((omega (arith, q .0), (omega arith, (omega (arith, head-rule _ _ _ e), omega (arith, head-column _ _ _ e)))), omega (arith, q .1 .1))
 
 list-later-requires : tie.Need-list-later-requires
 list-later-requires c κs =
-    let q = c .before .before .before .before .before .before .before .before .before .before .before .before .before .before .before .pre in
-    let o = c .before .before .before .before .before .before .before .columns-of .ensures in
-    let n = c .before .before .before .note-fault .ensures .1 in (
-      (q .0, (q .1 .0, omega (arith, n, q .1 .1))),
-      record { text = _; heads = record { said = head-good _ _ _ (c .before .before .before .before .before .header-fault .ensures); columns = o .0; wide = o .1 } },
-    )
+    let n = c .before .before .before .before in
+    let j = n .before .before .before in
+    let q = j .before .before .before .before .before .before .before .before .pre in
+    let e = j .judge-header .ensures in
+    ((q .0, (q .1 .0, omega (arith, n .note-fault .ensures .1, q .1 .1))), record { text = _; heads = head-told _ _ _ (e .0) _ (e .1) })
 
 enum-told : tie.Need-enum-told
 enum-told c = search needs
@@ -78,15 +60,16 @@ same-length c = search needs
 returns : tie.Need-returns
 unfolding part
 returns c =
-    let s = any-found _ _ _ _ _ (sym (c .before .before .before .before .before .before .before .before .before .before .before .before .before .before .any-line .ensures) ∙ c .before .before .before .before .before .before .before .before .before .before .before .before .start .given .1) in
-    let e = c .before .before .before .before .before .before .before .header-fault .ensures in
-    let o = c .before .before .before .before .before .before .before .before .before .columns-of .ensures in
-    let n = c .before .before .before .before .before .note-fault .ensures in
+    let n = c .before .before .before .before .before .before in
+    let j = n .before .before .before in
+    let b = j .before .before .before in
+    let s = any-found _ _ _ _ _ (sym (b .before .before .any-line .ensures) ∙ b .start .given .1) in
+    let e = j .judge-header .ensures in
     let l = c .before .list-later .ensures in (
-      lines-some _ _ _ _ (c .before .before .before .before .before .before .before .before .before .before .before .before .before .before .before .body-start .ensures .0) _ _ _ _ _ _ s
-          (n .0 ∙ rw (head-fault _ _ _ e))
-          (l .0 _ (record { said = head-good _ _ _ e; columns = o .0; wide = o .1 })),
-      omega (arith, n .1, l .1),
+      lines-some _ _ _ _ (b .before .before .before .body-start .ensures .0) _ _ _ _ _ _ s
+          (n .note-fault .ensures .0 ∙ rw (head-fault _ _ _ (e .0)))
+          (l .0 _ (head-told _ _ _ (e .0) _ (e .1))),
+      omega (arith, n .note-fault .ensures .1, l .1),
     )
 
 returns-2 : tie.Need-returns-2
@@ -100,14 +83,10 @@ list-lines-spec =
     body-start-requires
     any-line-requires
     enum-known-start
-    sub-columns-of
-    part-columns-of-start
-    part-columns-of-end
-    columns-of-requires
-    sub-header-fault
-    part-header-fault-start
-    part-header-fault-end
-    header-fault-requires
+    sub-judge-header
+    part-judge-header-start
+    part-judge-header-end
+    judge-header-requires
     note-fault-requires
     list-later-requires
     enum-told

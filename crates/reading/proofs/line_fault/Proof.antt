@@ -3,7 +3,6 @@ use Rattle.reading.proofs.First.{first-yes, first-no, first-stop, first
 use Rattle.reading.proofs.Values.{other-yes, other-no}
 use Rattle.columns.proofs.Laws.{noted-by}
 use Rattle.meaning.specs.Refusals.{textTests, lineTests}
-use mathlib.Core.Path.{refl}
 use borrow.Author.Needs.{needs}
 use Rattle.reading.proofs.line_fault.Statement.{statement}
 use Rattle.reading.proofs.line_fault.Tie as tie
@@ -22,14 +21,14 @@ text-rule-requires c κs = search needs
 
 returns : tie.Need-returns
 unfolding lineTests
-returns c = first-stop (textTests _) _ _ (c .before .text-rule .ensures) (c .if1 .taken)
+returns c = first-stop (textTests _) _ _ (c .before .text-rule .ensures .0) (c .if1 .taken)
 
 returns-2 : tie.Need-returns-2
 unfolding lineTests textTests
 returns-2 c =
     let b = c .before .before .before in
-    first-then (textTests _) _ tt _ _ (b .before .text-rule .ensures) (b .if1 .left)
-    (first-yes _ _ _ (other-yes _ _ (b .before .before .before .walk-fields .ensures .0 .1) _ (c .if2 .taken)))
+    first-then (textTests _) _ tt _ _ (b .before .text-rule .ensures .0) (b .if1 .left)
+    (first-yes _ _ _ (other-yes _ _ (b .before .text-rule .ensures .1 (b .if1 .left)) _ (c .if2 .taken)))
 
 slice-aggregate-row-fault : tie.Need-slice-aggregate-row-fault
 slice-aggregate-row-fault c = search needs
@@ -38,14 +37,14 @@ row-fault-requires : tie.Need-row-fault-requires
 row-fault-requires c κs =
     let w = c .before .before .before .before .before .before .before .before in
     let e = w .walk-fields .ensures in
-    (w .before .before .before .before .pre, (e .0 .1, noted-by _ _ _ (rw (w .before .before .blank-starts .ensures) refl) (e .1)))
+    (w .before .before .before .before .pre, (e .0 .1, noted-by _ _ _ (w .before .before .blank-starts .ensures) (e .1)))
 
 returns-3 : tie.Need-returns-3
 unfolding lineTests textTests
 returns-3 c =
     let b = c .before .before .before .before .before .before in
-    first-then (textTests _) _ tt _ _ (b .before .text-rule .ensures) (b .if1 .left)
-    (first-no _ _ _ (other-no _ _ (b .before .before .before .walk-fields .ensures .0 .1) _ (c .before .before .before .if2 .left)) _ (c .row-fault .ensures))
+    first-then (textTests _) _ tt _ _ (b .before .text-rule .ensures .0) (b .if1 .left)
+    (first-no _ _ _ (other-no _ _ (b .before .text-rule .ensures .1 (b .if1 .left)) _ (c .before .before .before .if2 .left)) _ (c .row-fault .ensures))
 
 pub line-fault-spec : {M : Type 1} → statement M
 line-fault-spec =

@@ -1,4 +1,5 @@
 -- `reading::read_file` meets its contract.
+use Rattle.reading.proofs.Heads.{good-under}
 use Rattle.reading.proofs.Files.{file-none, file-stop, file-next}
 use Rattle.text.proofs.Lines.{line-found, line-none}
 use Rattle.meaning.specs.Bytes.{part}
@@ -17,44 +18,23 @@ next-line-requires c κs = search needs
 enum-known-start : tie.Need-enum-known-start
 enum-known-start c = search needs
 
-sub-columns-of : tie.Need-sub-columns-of
-sub-columns-of c =
+sub-judge-header : tie.Need-sub-judge-header
+sub-judge-header c =
     let s = line-found _ _ _ _ _ (sym (c .before .before .before .next-line .ensures) ∙ c .before .start .given .1) in
     omega arith
 
-part-columns-of-start : tie.Need-part-columns-of-start
-part-columns-of-start c =
+part-judge-header-start : tie.Need-part-judge-header-start
+part-judge-header-start c =
     let s = line-found _ _ _ _ _ (sym (c .before .before .before .next-line .ensures) ∙ c .before .start .given .1) in
     omega arith
 
-part-columns-of-end : tie.Need-part-columns-of-end
-part-columns-of-end c =
+part-judge-header-end : tie.Need-part-judge-header-end
+part-judge-header-end c =
     let s = line-found _ _ _ _ _ (sym (c .before .before .before .next-line .ensures) ∙ c .before .start .given .1) in
     omega arith
 
-columns-of-requires : tie.Need-columns-of-requires
-columns-of-requires c κs = search needs
-
-sub-header-fault : tie.Need-sub-header-fault
-sub-header-fault c =
-    let b = c .before .before .before in
-    let s = line-found _ _ _ _ _ (sym (b .before .before .next-line .ensures) ∙ b .start .given .1) in
-    omega arith
-
-part-header-fault-start : tie.Need-part-header-fault-start
-part-header-fault-start c =
-    let b = c .before .before .before in
-    let s = line-found _ _ _ _ _ (sym (b .before .before .next-line .ensures) ∙ b .start .given .1) in
-    omega arith
-
-part-header-fault-end : tie.Need-part-header-fault-end
-part-header-fault-end c =
-    let b = c .before .before .before in
-    let s = line-found _ _ _ _ _ (sym (b .before .before .next-line .ensures) ∙ b .start .given .1) in
-    omega arith
-
-header-fault-requires : tie.Need-header-fault-requires
-header-fault-requires c κs = (c .before .before .before .before .before .before .before .before .before .pre, c .before .columns-of .ensures .0)
+judge-header-requires : tie.Need-judge-header-requires
+judge-header-requires c κs = search needs
 
 refuse-requires : tie.Need-refuse-requires
 refuse-requires c κs = search needs
@@ -62,9 +42,10 @@ refuse-requires c κs = search needs
 returns : tie.Need-returns
 unfolding part
 returns c =
-    let b = c .before .before .before .before .before .before .before .before in
+    let j = c .before .before .before .before in
+    let b = j .before .before .before in
     let s = line-found _ _ _ _ _ (sym (b .before .before .next-line .ensures) ∙ b .start .given .1) in
-    file-stop _ _ _ (b .before .before .before .body-start .ensures .0) _ _ _ s _ (c .before .before .before .header-fault .ensures) _ (c .refuse .ensures) (c .before .if1 .taken)
+    file-stop _ _ _ (b .before .before .before .body-start .ensures .0) _ _ _ s _ (j .judge-header .ensures .0) _ (c .refuse .ensures) (c .before .if1 .taken)
 
 read-lines-requires : tie.Need-read-lines-requires
 read-lines-requires c κs = search needs
@@ -75,10 +56,13 @@ enum-told c = search needs
 returns-2 : tie.Need-returns-2
 unfolding part
 returns-2 c =
-    let b = c .before .before .before .before .before .before .before .before in
+    let j = c .before .before .before .before .before in
+    let b = j .before .before .before in
     let s = line-found _ _ _ _ _ (sym (b .before .before .next-line .ensures) ∙ b .start .given .1) in
-    let o = c .before .before .before .before .before .columns-of .ensures in
-    file-next _ _ _ (b .before .before .before .body-start .ensures .0) _ _ _ s _ (c .before .before .before .header-fault .ensures) (c .before .if1 .left) _ (o .0) _ (o .1) _ (c .read-lines .ensures)
+    let e = j .judge-header .ensures in
+    let z = c .before .before .if1 .left in
+    let o = good-under _ _ _ (e .0) z _ (e .1) in
+    file-next _ _ _ (b .before .before .before .body-start .ensures .0) _ _ _ s _ (e .0) z _ (o .0) _ (o .1) _ (c .read-lines .ensures)
 
 returns-3 : tie.Need-returns-3
 returns-3 c = file-none _ _ _ (c .before .before .before .body-start .ensures .0) (line-none _ _ (sym (c .before .before .next-line .ensures) ∙ c .enum-told .given .1))
@@ -90,14 +74,10 @@ read-file-spec =
     body-start-requires
     next-line-requires
     enum-known-start
-    sub-columns-of
-    part-columns-of-start
-    part-columns-of-end
-    columns-of-requires
-    sub-header-fault
-    part-header-fault-start
-    part-header-fault-end
-    header-fault-requires
+    sub-judge-header
+    part-judge-header-start
+    part-judge-header-end
+    judge-header-requires
     refuse-requires
     returns
     read-lines-requires

@@ -1,117 +1,122 @@
 -- `reading::read_wholes` meets its contract.
-use Rattle.reading.proofs.Wholes.{wholes-are}
+use Rattle.reading.proofs.Wholes.{wholes-next, wholes-all}
+use Rattle.reading.specs.Wholes.{wholeOf, wholesFrom, wholesOf, wholeClaims}
+use Rattle.meaning.specs.Bytes.{countLf}
+use Rattle.meaning.specs.Refusals.{speaks}
 use Rattle.meaning.specs.Lists.{empty}
 use Rattle.meaning.specs.Tables.{fileOf}
-use Prim.Native.Nat.{ℕ}
-use mathlib.Core.Path.{refl, ap}
-use mathlib.Core.List.{List, [], _∷_}
+use Prim.Native.Nat.{ℕ, _+_, _-_, _≤_}
+use mathlib.Core.Path.{_≡_, refl, sym, ap, _∙_}
+use mathlib.Core.Bool.{Bool}
+use mathlib.Core.List.{List, [], _++_, map}
 use native.Mathlib.Omega.{arith}
-use lib.ListN.{getD}
+use lib.ListN.{length, getD, take, drop, length-map, length-set, List·getD-map}
+use denote.Ref.{now}
 use borrow.Author.Needs.{needs}
 use Rattle.reading.proofs.read_wholes.Statement.{statement}
 use Rattle.reading.proofs.read_wholes.Tie as tie
 
-array-read-whole-of : tie.Need-array-read-whole-of
-array-read-whole-of c = search needs
+abbrev Inv-loop : tie.InvT-loop
+Inv-loop t1 files rooms counts dated wholes₀ i₀ wholes i =
+    (i ≤ 6) × ((length wholes ≡ 6) × (take i wholes ++ wholesFrom (map now t1) (i + 1) (drop i (map now t1)) (drop i rooms) ≡ wholesOf (map now t1) rooms))
 
-array-read-whole-of-2 : tie.Need-array-read-whole-of-2
-array-read-whole-of-2 c = search needs
+abbrev μ-loop : tie.MeasureT-loop
+μ-loop t1 files rooms counts dated wholes₀ i₀ wholes i = 6 - i
 
-whole-of-requires : tie.Need-whole-of-requires
-whole-of-requires c κs = (omega arith, omega arith, ap (λ (l : List ℕ). getD l 0 0) (c .before .before .before .before .before .before .pre))
+element-copy-out-dated : tie.Need-element-copy-out-dated Inv-loop μ-loop
+element-copy-out-dated c = search needs
 
-array-read-whole-of-3 : tie.Need-array-read-whole-of-3
-array-read-whole-of-3 c = search needs
+loop-holds : tie.Need-loop-holds Inv-loop μ-loop
+unfolding wholesOf
+loop-holds c = (omega arith, (refl, refl))
 
-array-read-whole-of-4 : tie.Need-array-read-whole-of-4
-array-read-whole-of-4 c = search needs
+add-whole-of : tie.Need-add-whole-of Inv-loop μ-loop
+add-whole-of c = omega arith
 
-whole-of-requires-2 : tie.Need-whole-of-requires-2
-whole-of-requires-2 c κs = (omega arith, omega arith, ap (λ (l : List ℕ). getD l 1 0) (c .before .before .before .before .before .before .before .pre))
+mul-whole-of : tie.Need-mul-whole-of Inv-loop μ-loop
+mul-whole-of c = omega arith
 
-array-read-whole-of-5 : tie.Need-array-read-whole-of-5
-array-read-whole-of-5 c = search needs
+array-copy-out-whole-of : tie.Need-array-copy-out-whole-of Inv-loop μ-loop
+array-copy-out-whole-of c = omega arith
 
-array-read-whole-of-6 : tie.Need-array-read-whole-of-6
-array-read-whole-of-6 c = search needs
+mul-whole-of-2 : tie.Need-mul-whole-of-2 Inv-loop μ-loop
+mul-whole-of-2 c = omega arith
 
-whole-of-requires-3 : tie.Need-whole-of-requires-3
-whole-of-requires-3 c κs = (omega arith, omega arith, ap (λ (l : List ℕ). getD l 2 0) (c .before .before .before .before .before .before .before .before .pre))
+array-read-whole-of : tie.Need-array-read-whole-of Inv-loop μ-loop
+array-read-whole-of c = omega arith
 
-array-read-whole-of-7 : tie.Need-array-read-whole-of-7
-array-read-whole-of-7 c = search needs
+mul-whole-of-3 : tie.Need-mul-whole-of-3 Inv-loop μ-loop
+mul-whole-of-3 c = omega arith
 
-array-read-whole-of-8 : tie.Need-array-read-whole-of-8
-array-read-whole-of-8 c = search needs
+array-read-whole-of-2 : tie.Need-array-read-whole-of-2 Inv-loop μ-loop
+array-read-whole-of-2 c = omega arith
 
-whole-of-requires-4 : tie.Need-whole-of-requires-4
-whole-of-requires-4 c κs = (omega arith, omega arith, ap (λ (l : List ℕ). getD l 3 0) (c .before .before .before .before .before .before .before .before .before .pre))
+whole-of-requires : tie.Need-whole-of-requires Inv-loop μ-loop
+unfolding countLf
+whole-of-requires c κs =
+    let z = c .before .before .before in
+    let i = c .before .before .loop .i in
+    (omega arith, omega arith, ap (λ (l : List ℕ). getD l i 0) (z .pre) ∙ List·getD-map countLf (map now (z .args .t1)) i [] ∙ ap countLf (List·getD-map now (z .args .t1) i _))
 
-array-read-whole-of-9 : tie.Need-array-read-whole-of-9
-array-read-whole-of-9 c = search needs
+mul-wholes : tie.Need-mul-wholes Inv-loop μ-loop
+mul-wholes c = omega arith
 
-array-read-whole-of-10 : tie.Need-array-read-whole-of-10
-array-read-whole-of-10 c = search needs
+array-set-from-wholes : tie.Need-array-set-from-wholes Inv-loop μ-loop
+array-set-from-wholes c = omega arith
 
-whole-of-requires-5 : tie.Need-whole-of-requires-5
-whole-of-requires-5 c κs = (omega arith, omega arith, ap (λ (l : List ℕ). getD l 4 0) (c .before .before .before .before .before .before .before .before .before .before .pre))
+add-i : tie.Need-add-i Inv-loop μ-loop
+add-i c = omega arith
 
-array-read-whole-of-11 : tie.Need-array-read-whole-of-11
-array-read-whole-of-11 c = search needs
+loop-less : tie.Need-loop-less Inv-loop μ-loop
+loop-less c = omega arith
 
-array-read-whole-of-12 : tie.Need-array-read-whole-of-12
-array-read-whole-of-12 c = search needs
+loop-again : tie.Need-loop-again Inv-loop μ-loop
+unfolding fileOf empty
+loop-again c =
+    let z = c .before .before .before .before in
+    let l = c .before .before .before .loop in
+    let files = map now (z .args .t1) in
+    let six : length files ≡ 6 = length-map (z .args .t1) now ∙ z .good .0 .1 .0 .1 in
+    let rooms : length (z .args .t2) ≡ 6 = omega (arith, z .good) in
+    let w = c .whole-of .ensures files (rw (← List·getD-map now (z .args .t1) 5 _)) in (
+      omega arith,
+      (
+        omega (arith, length-set (l .wholes) (l .i) (c .whole-of .result), l .inv .1 .0),
+        wholes-next files (z .args .t2) (l .wholes) (l .i) (l .inv .1 .1) (omega arith) (omega arith) (omega (arith, l .inv .1 .0)) _ (w ∙ ap (λ (s : List ℕ). wholeOf files (l .i + 1) s (getD (z .args .t2) (l .i) 0)) (sym (List·getD-map now (z .args .t1) (l .i) _))),
+      ),
+    )
 
-whole-of-requires-6 : tie.Need-whole-of-requires-6
-whole-of-requires-6 c κs = (omega arith, omega arith, ap (λ (l : List ℕ). getD l 5 0) (c .before .before .before .before .before .before .before .before .before .before .before .pre))
-
-order-requires : tie.Need-order-requires
+order-requires : tie.Need-order-requires Inv-loop μ-loop
 order-requires c κs = search needs
 
-returns : tie.Need-returns
-unfolding fileOf empty
+returns : tie.Need-returns Inv-loop μ-loop
 returns c =
-    let w6 = c .before in
-    let w5 = w6 .before in
-    let w4 = w5 .before in
-    let w3 = w4 .before in
-    let w2 = w3 .before in
-    let w1 = w2 .before in
-    let start = w1 .before .before .before .before .before .before .before in
-    let a = start .args in
-    let files = a .s1 .now ∷ a .s2 .now ∷ a .s3 .now ∷ a .s4 .now ∷ a .s5 .now ∷ a .s6 .now ∷ [] in
-    rw (
-      ← wholes-are (a .s1 .now) (a .s2 .now) (a .s3 .now) (a .s4 .now) (a .s5 .now) (a .s6 .now) (a .t7) (omega (arith, start .good)),
-      ← w1 .whole-of .ensures files refl,
-      ← w2 .whole-of2 .ensures files refl,
-      ← w3 .whole-of3 .ensures files refl,
-      ← w4 .whole-of4 .ensures files refl,
-      ← w5 .whole-of5 .ensures files refl,
-      ← w6 .whole-of6 .ensures files refl,
-    )
-    (c .order .ensures)
+    let z = c .before .before .before in
+    let l = c .before .before .loop in
+    let files = map now (z .args .t1) in
+    let six : length files ≡ 6 = length-map (z .args .t1) now ∙ z .good .0 .1 .0 .1 in
+    c .order .ensures ∙ ap (λ (ws : List (List Bool)). speaks (wholeClaims ws)) (wholes-all files (z .args .t2) (l .wholes) (l .i) (l .inv .1 .1) (omega arith) (omega (arith, l .inv .1 .0)))
 
 pub read-wholes-spec : {M : Type 1} → statement M
 read-wholes-spec =
     tie.close
     (tie.spec
+    Inv-loop
+    μ-loop
+    element-copy-out-dated
+    loop-holds
+    add-whole-of
+    mul-whole-of
+    array-copy-out-whole-of
+    mul-whole-of-2
     array-read-whole-of
+    mul-whole-of-3
     array-read-whole-of-2
     whole-of-requires
-    array-read-whole-of-3
-    array-read-whole-of-4
-    whole-of-requires-2
-    array-read-whole-of-5
-    array-read-whole-of-6
-    whole-of-requires-3
-    array-read-whole-of-7
-    array-read-whole-of-8
-    whole-of-requires-4
-    array-read-whole-of-9
-    array-read-whole-of-10
-    whole-of-requires-5
-    array-read-whole-of-11
-    array-read-whole-of-12
-    whole-of-requires-6
+    mul-wholes
+    array-set-from-wholes
+    add-i
+    loop-less
+    loop-again
     order-requires
     returns)

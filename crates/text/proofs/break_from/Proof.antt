@@ -1,11 +1,11 @@
 -- `text::break_from` meets its contract.
 use Rattle.text.proofs.Lines.{first-here, first-next, first-over}
-use Rattle.text.proofs.Spans.{is-comma, is-mark, is-other}
 use Rattle.text.specs.Fields.{isBreak, toBreak}
-use mathlib.Core.Path.{_≡_, refl}
+use mathlib.Core.Path.{_≡_, refl, sym, _∙_}
 use Prim.Native.Nat.{_≤_, _-_, _+_}
 use native.Mathlib.Omega.{arith}
 use lib.ListN.{length, drop}
+use borrow.Author.Needs.{needs}
 use Rattle.text.proofs.break_from.Statement.{statement}
 use Rattle.text.proofs.break_from.Tie as tie
 
@@ -18,22 +18,16 @@ abbrev μ-loop : tie.MeasureT-loop
 loop-holds : tie.Need-loop-holds Inv-loop μ-loop
 loop-holds c = (omega arith, refl)
 
-shared-slice-read-if1 : tie.Need-shared-slice-read-if1 Inv-loop μ-loop
-shared-slice-read-if1 c = omega arith
+shared-slice-read-is-break : tie.Need-shared-slice-read-is-break Inv-loop μ-loop
+shared-slice-read-is-break c = omega arith
+
+is-break-requires : tie.Need-is-break-requires Inv-loop μ-loop
+is-break-requires c κs = search needs
 
 returns : tie.Need-returns Inv-loop μ-loop
 returns c =
-    let w = c .before .before in
-    (first-here isBreak _ _ _ (w .before .loop .inv .1) (w .loop-test .taken) (is-comma _ (c .if1 .taken)), omega arith)
-
-shared-slice-read-if2 : tie.Need-shared-slice-read-if2 Inv-loop μ-loop
-shared-slice-read-if2 c = omega arith
-
-returns-2 : tie.Need-returns-2 Inv-loop μ-loop
-returns-2 c =
-    let b = c .before .before in
-    let w = b .before .before in
-    (first-here isBreak _ _ _ (w .before .loop .inv .1) (w .loop-test .taken) (is-mark _ (b .if1 .left) (c .if2 .taken)), omega arith)
+    let w = c .before .before .before in
+    (first-here isBreak _ _ _ (w .before .loop .inv .1) (w .loop-test .taken) (sym (c .before .is-break .ensures) ∙ c .if1 .taken), omega arith)
 
 add-i : tie.Need-add-i Inv-loop μ-loop
 add-i c = omega arith
@@ -43,12 +37,11 @@ loop-less c = omega arith
 
 loop-again : tie.Need-loop-again Inv-loop μ-loop
 loop-again c =
-    let b = c .before .before in
-    let w = b .before .before in
-    (omega arith, first-next isBreak _ _ _ (w .before .loop .inv .1) (w .loop-test .taken) (is-other _ (b .if1 .left) (c .if2 .left)))
+    let w = c .before .before .before in
+    (omega arith, first-next isBreak _ _ _ (w .before .loop .inv .1) (w .loop-test .taken) (sym (c .before .is-break .ensures) ∙ c .if1 .left))
 
-returns-3 : tie.Need-returns-3 Inv-loop μ-loop
-returns-3 c = (first-over isBreak _ _ _ (c .before .loop .inv .1) (c .loop-test .left), omega arith)
+returns-2 : tie.Need-returns-2 Inv-loop μ-loop
+returns-2 c = (first-over isBreak _ _ _ (c .before .loop .inv .1) (c .loop-test .left), omega arith)
 
 pub break-from-spec : {M : Type 1} → statement M
 break-from-spec =
@@ -57,11 +50,10 @@ break-from-spec =
     Inv-loop
     μ-loop
     loop-holds
-    shared-slice-read-if1
+    shared-slice-read-is-break
+    is-break-requires
     returns
-    shared-slice-read-if2
-    returns-2
     add-i
     loop-less
     loop-again
-    returns-3)
+    returns-2)

@@ -35,10 +35,10 @@ loop-less c = omega arith
 loop-again : tie.Need-loop-again Inv-loop μ-loop
 loop-again c =
     let w = c .before .before in
-    (omega arith, any-turn _ _ (w .loop-test .taken) (w .before .loop .some) _ _ (c .either .ensures) (w .before .loop .inv .1))
+    (omega arith, any-turn isLf _ _ (w .loop-test .taken) (w .before .loop .some) _ _ (c .either .ensures) (w .before .loop .inv .1))
 
 returns : tie.Need-returns Inv-loop μ-loop
-returns c = any-over _ _ (c .loop-test .left) (c .before .loop .some) _ (c .before .loop .inv .1)
+returns c = any-over isLf _ _ (c .loop-test .left) (c .before .loop .some) _ (c .before .loop .inv .1)
 
 pub has-lf-spec : {M : Type 1} → statement M
 has-lf-spec =

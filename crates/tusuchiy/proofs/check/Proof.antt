@@ -1,6 +1,8 @@
 -- `tusuchiy::check` meets its contract.
 use mathlib.Core.Path.{sym, _∙_}
 use native.Mathlib.Omega.{arith}
+use lib.ListN.{length-map}
+use denote.Ref.{now}
 use Rattle.tusuchiy.proofs.Bounds.{small-refusal}
 use Rattle.tusuchiy.proofs.Laws.{outcome-readable, outcome-refused}
 use borrow.Author.Needs.{needs}
@@ -17,9 +19,7 @@ enum-told : tie.Need-enum-told
 enum-told c = search needs
 
 checked-requires : tie.Need-checked-requires
-checked-requires c κs =
-    let v = c .before .before .before .before .before .before .before .before .before in
-    (sym (v .verdict .ensures) ∙ c .before .before .before .before .before .before .before .enum-told .given .1, v .before .count-all .ensures)
+checked-requires c κs = let v = c .before .before .before .before .before .before .before .before .before in (sym (v .verdict .ensures) ∙ c .before .before .before .before .before .before .before .enum-told .given .1, v .before .count-all .ensures)
 
 enum-known-r : tie.Need-enum-known-r
 enum-known-r c = search needs
@@ -53,8 +53,10 @@ returns c =
 
 returns-2 : tie.Need-returns-2
 returns-2 c =
+    let z = c .before .before .before .before .before in
     let e = sym (c .before .before .before .verdict .ensures) ∙ c .before .r .given .1 in
-    (outcome-refused _ _ _ _ _ _ e, small-refusal _ _ _ e (omega arith) (omega arith))
+    let six = length-map (z .args .files) now in
+    (outcome-refused _ _ _ _ _ _ e, small-refusal _ _ _ e (omega (arith, six, z .good .0 .1 .0 .1)) (omega (arith, six, z .good .0 .1 .0 .1)))
 
 pub check-spec : {M : Type 1} → statement M
 check-spec =

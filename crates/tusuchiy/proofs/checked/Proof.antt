@@ -1,12 +1,13 @@
 -- `tusuchiy::checked` meets its contract.
-use mathlib.Core.Path.{refl}
-use mathlib.Core.List.{[], _∷_}
-use Rattle.meaning.specs.Tables.{fileOf, feedOf}
+use mathlib.Core.Path.{_≡_, refl, _∙_}
+use mathlib.Core.List.{[], _∷_, map}
+use lib.ListN.{length, length-map}
+use denote.Ref.{now}
 use Rattle.meaning.specs.Refusals.{mayLack}
 use Rattle.rules.specs.Tabled.{tableOf}
 use native.Mathlib.Omega.{arith}
 use Rattle.tusuchiy.proofs.Bounds.{small-findings}
-use Rattle.tusuchiy.proofs.Laws.{all-filled, fits, roomy, few-lines, tabled, outcome-read}
+use Rattle.tusuchiy.proofs.Laws.{fits, roomy, few-lines, tabled, outcome-read}
 use borrow.Author.Needs.{needs}
 use Rattle.tusuchiy.proofs.checked.Statement.{statement}
 use Rattle.tusuchiy.proofs.checked.Tie as tie
@@ -18,22 +19,23 @@ slice-aggregate-fill-all : tie.Need-slice-aggregate-fill-all
 slice-aggregate-fill-all c = search needs
 
 fill-all-requires : tie.Need-fill-all-requires
-unfolding fileOf tableOf mayLack
+unfolding tableOf mayLack
 fill-all-requires c κs =
-    let z = c .before .before .before .before .before .before .before .before .before .before .before .before .before .before in
-    let files = z .args .stops .now ∷ z .args .routes .now ∷ z .args .calendar .now ∷ z .args .trips .now ∷ z .args .stop-times .now ∷ z .args .calendar-dates .now ∷ [] in
-    let tables = z .args .stops-table .now ∷ z .args .routes-table .now ∷ z .args .calendar-table .now ∷ z .args .trips-table .now ∷ z .args .stop-times-table .now ∷ z .args .calendar-dates-table .now ∷ [] in (
-      roomy files tables refl refl (z .pre .0) 1 (omega arith) (omega arith) refl,
+    let z = c .before .before .before .before .before .before .before .before in
+    let files = map now (z .args .files) in
+    let tables = z .args .stops-table .now ∷ z .args .routes-table .now ∷ z .args .calendar-table .now ∷ z .args .trips-table .now ∷ z .args .stop-times-table .now ∷ z .args .calendar-dates-table .now ∷ [] in
+    let six : length files ≡ 6 = length-map (z .args .files) now ∙ z .good .0 .1 .0 .1 in (
+      roomy files tables six refl (z .pre .0) 1 (omega arith) (omega arith) refl,
       (
-        roomy files tables refl refl (z .pre .0) 2 (omega arith) (omega arith) refl,
+        roomy files tables six refl (z .pre .0) 2 (omega arith) (omega arith) refl,
         (
-          fits files tables refl refl (z .pre .0) 3 (omega arith) (omega arith),
+          fits files tables six refl (z .pre .0) 3 (omega arith) (omega arith),
           (
-            roomy files tables refl refl (z .pre .0) 4 (omega arith) (omega arith) refl,
+            roomy files tables six refl (z .pre .0) 4 (omega arith) (omega arith) refl,
             (
-              roomy files tables refl refl (z .pre .0) 5 (omega arith) (omega arith) refl,
+              roomy files tables six refl (z .pre .0) 5 (omega arith) (omega arith) refl,
               (
-                fits files tables refl refl (z .pre .0) 6 (omega arith) (omega arith),
+                fits files tables six refl (z .pre .0) 6 (omega arith) (omega arith),
                 (c .before .before .before .before .before .before .before .blank .ensures, search needs),
               ),
             ),
@@ -47,10 +49,11 @@ slice-aggregate-list-findings c = search needs
 
 list-findings-requires : tie.Need-list-findings-requires
 list-findings-requires c κs =
-    let z = c .before .before .before .before .before .before .before .before .before .before .before .before .before .before .before .before .before .before .before .before .before .before .before .before .before .before .before .before .before .before in
-    let files = z .args .stops .now ∷ z .args .routes .now ∷ z .args .calendar .now ∷ z .args .trips .now ∷ z .args .stop-times .now ∷ z .args .calendar-dates .now ∷ [] in
+    let z = c .before .before .before .before .before .before .before .before .before .before .before .before .before .before .before .before .before .before .before .before .before .before .before .before in
+    let files = map now (z .args .files) in
     let tables = z .args .stops-table .now ∷ z .args .routes-table .now ∷ z .args .calendar-table .now ∷ z .args .trips-table .now ∷ z .args .stop-times-table .now ∷ z .args .calendar-dates-table .now ∷ [] in
-    few-lines files tables refl refl (z .pre .0) _ (z .pre .1)
+    let six : length files ≡ 6 = length-map (z .args .files) now ∙ z .good .0 .1 .0 .1 in
+    few-lines files tables six refl (z .pre .0) _ (z .pre .1)
 
 answer-of-requires : tie.Need-answer-of-requires
 answer-of-requires c κs = search needs
@@ -78,14 +81,14 @@ same-length-7 c = search needs
 
 returns : tie.Need-returns
 returns c =
-    let z = c .before .before .before .before .before .before .before .before .before .before .before .before .before .before .before .before .before .before .before .before .before .before .before .before .before .before .before .before .before .before .before .before .before in
-    let files = z .args .stops .now ∷ z .args .routes .now ∷ z .args .calendar .now ∷ z .args .trips .now ∷ z .args .stop-times .now ∷ z .args .calendar-dates .now ∷ [] in
+    let z = c .before .before .before .before .before .before .before .before .before .before .before .before .before .before .before .before .before .before .before .before .before .before .before .before .before .before .before in
+    let files = map now (z .args .files) in
     let tables = z .args .stops-table .now ∷ z .args .routes-table .now ∷ z .args .calendar-table .now ∷ z .args .trips-table .now ∷ z .args .stop-times-table .now ∷ z .args .calendar-dates-table .now ∷ [] in
+    let six : length files ≡ 6 = length-map (z .args .files) now ∙ z .good .0 .1 .0 .1 in
     let f = c .before .before .before .before .before .before .before .before .before .before .before .before .before .before .before .before .before .before .fill-all .ensures in
-    let all = all-filled (feedOf files) _ _ _ _ _ _ (z .args .stops-table .now) (z .args .routes-table .now) (z .args .calendar-table .now) (z .args .trips-table .now) (z .args .stop-times-table .now) (z .args .calendar-dates-table .now) _ _ _ _ _ _ (f .0) (f .1 .0) (f .1 .1 .0) (f .1 .1 .1 .0) (f .1 .1 .1 .1 .0) (f .1 .1 .1 .1 .1 .0) in
     let k = c .before .before .list-findings .ensures in
-    let h = k .0 _ (tabled files tables refl refl (z .pre .0) _ all _ (z .pre .1) _ (f .1 .1 .1 .1 .1 .1 .0) (f .1 .1 .1 .1 .1 .1 .1)) in (
-      outcome-read files tables refl refl (z .pre .0) _ all (z .args .findings .now) _ (z .args .from) (z .args .asked) (c .before .before .list-findings .result) _ h (c .answer-of .ensures),
+    let h = k .0 _ (tabled files tables six refl (z .pre .0) _ (f .0) _ (z .pre .1) _ (f .1 .0) (f .1 .1)) in (
+      outcome-read files tables six refl (z .pre .0) _ (f .0) (z .args .findings .now) _ (z .args .from) (z .args .asked) (c .before .before .list-findings .result) _ h (c .answer-of .ensures),
       small-findings (z .args .from) _ (z .args .findings .now) _ (c .before .before .list-findings .result) _ h (k .1) (c .answer-of .ensures),
     )
 

@@ -3,7 +3,7 @@ use mathlib.Core.Path.{ap, _∙_}
 use mir.ValLaws.{toZ-ofZ}
 use mir.Syntax.{w32}
 use Rattle.tusuchiy_c.specs.Asked.{profileOf}
-use Rattle.tusuchiy_c.proofs.Laws.{told-answer, told-tables, told-list}
+use Rattle.tusuchiy_c.proofs.Laws.{told-check}
 use borrow.Author.Needs.{needs}
 use Rattle.tusuchiy_c.proofs.tusuchiy_check.Statement.{statement}
 use Rattle.tusuchiy_c.proofs.tusuchiy_check.Tie as tie
@@ -47,7 +47,7 @@ returns c =
     let z = c .before .before .before .before .before .before .before .before .before .before .before .before .before .before .before .before .before .before .before .before .before .before .before .before in
     let is = simp (toZ-ofZ w32 (z .args .after-file) (z .fits .after-file), toZ-ofZ w32 (z .args .after-line) (z .fits .after-line), toZ-ofZ w32 (z .args .after-rule) (z .fits .after-rule)) at (c .before .before .before .before .before .before .before .before .before .before .before .before .before .before .before .before .before .place-of .ensures) in
     let same = c .before .before .before .before .before .before .before .before .before .before .before .before .before .before .before .before .profile-of .ensures ∙ ap profileOf (toZ-ofZ w32 (z .args .profile) (z .fits .profile)) in
-    (told-answer _ _ _ _ _ _ _ _ is same k _ (c .told .ensures), (told-tables _ _ _ _ _ _ _ _ is same k, told-list _ _ _ _ _ _ _ _ is same k))
+    told-check _ _ _ _ _ _ _ _ is same k _ (c .told .ensures)
 
 pub tusuchiy-check-spec : {M : Type 1} → statement M
 tusuchiy-check-spec =

@@ -69,7 +69,7 @@ fn must_be_folder(path: &Path) -> Result<Folder, String> {
     Folder::open(path).map_err(|error| {
         let is_other = error.raw_os_error() == Some(libc::ENOTDIR);
         let why = if is_other { "it isn't a folder".to_string() } else { error.to_string() };
-        format!("can't use {} as --output: {why}", safe::text(path.as_os_str().as_bytes()))
+        format!("can't use {} as --output: {why}", safe::name(path.as_os_str().as_bytes()))
     })
 }
 
@@ -124,7 +124,7 @@ fn judge(feed: &Feed, file: File, index: Option<&[u8]>) -> Result<Outcome, Strin
 /// Writes all indexes that there are; one that can't be written is no reason to leave out the others.
 fn write_all(feed: &Feed, folder: Option<&Folder>) -> Result<[Outcome; FILES.len()], String> {
     let Some(folder) = folder else {
-        let path = safe::text(feed.place.path.as_os_str().as_bytes());
+        let path = safe::name(feed.place.path.as_os_str().as_bytes());
         return Err(format!("can't write beside the files in {path}: unpack it, or name a folder with --output"));
     };
     all(FILES.map(|file| write(feed, file, folder)))
@@ -137,7 +137,7 @@ fn write(feed: &Feed, file: File, folder: &Folder) -> Result<Outcome, String> {
     }
     let cannot = |why: String| {
         let path = folder.path_of(name);
-        format!("can't write {}: {why}", safe::text(path.as_os_str().as_bytes()))
+        format!("can't write {}: {why}", safe::name(path.as_os_str().as_bytes()))
     };
     match memory::told(|| index::of(file, feed.bytes(file))).map_err(|error| cannot(error.to_string()))? {
         Ok(index) => {
@@ -202,7 +202,7 @@ impl Done<'_> {
 
     /// The path of an index, safe to print.
     fn path(&self, name: &str) -> String {
-        let of_output = |folder: &PathBuf| safe::text(folder.join(name).as_os_str().as_bytes());
+        let of_output = |folder: &PathBuf| safe::name(folder.join(name).as_os_str().as_bytes());
         self.asked.output.as_ref().map_or_else(|| self.feed.place.of(name), of_output)
     }
 }

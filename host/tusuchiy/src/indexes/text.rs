@@ -41,7 +41,7 @@ pub fn verdict(done: &Done, style: Style) -> String {
 
 /// The verdict of one of many feeds: one line, with what is refused first and how much else is.
 pub fn verdict_line(done: &Done, style: Style) -> String {
-    let path = safe::text(done.feed.place.path.as_os_str().as_bytes());
+    let path = safe::name(done.feed.place.path.as_os_str().as_bytes());
     let mut refused = done.refused();
     let first = refused.next().map(|(refusal, about)| format!(": {}", text::in_short(named(refusal), refusal, about)));
     let words = first.unwrap_or_default() + &text::and_more(refused.count());

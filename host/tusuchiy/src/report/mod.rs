@@ -44,7 +44,7 @@ pub fn run(asked: &Asked) -> Result<u8, String> {
     }
     let feed = source::read(&asked.feed, asked.follow_links)?;
     let cannot =
-        |path: &Path, error: io::Error| format!("can't write {}: {error}", safe::text(path.as_os_str().as_bytes()));
+        |path: &Path, error: io::Error| format!("can't write {}: {error}", safe::name(path.as_os_str().as_bytes()));
     // Asked first, so that nobody waits for a check in vain.
     let place =
         asked.output.as_ref().map(|path| place(path, &feed).map_err(|error| cannot(path, error))).transpose()?;

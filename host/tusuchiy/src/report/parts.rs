@@ -31,9 +31,9 @@ fn escaped(text: &str) -> String {
     out
 }
 
-/// Bytes of the feed, safe to show.
+/// A name from the feed or of it, safe to show.
 fn shown(bytes: &[u8]) -> String {
-    escaped(&safe::text(bytes))
+    escaped(&safe::name(bytes))
 }
 
 /// A number with commas, as people read it.
