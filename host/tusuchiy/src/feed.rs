@@ -1,5 +1,6 @@
 //! A feed as it was read: the bytes of its six files, and where their lines are.
 
+use crate::folder::Folder;
 use crate::memory;
 use crate::safe;
 use std::collections::BTreeSet;
@@ -69,6 +70,8 @@ impl Place {
 pub struct Feed {
     pub place: Place,
     pub unread: Unread,
+    /// The folder that it was read from, if it was one.
+    pub opened: Option<Folder>,
     files: [Option<Vec<u8>>; FILES],
     ends: [Vec<u32>; FILES],
     counts: [usize; FILES],
@@ -84,7 +87,7 @@ impl Feed {
             let kept = counts[file].min(MOST_LINES);
             memory::list(line_ends(bytes[file]).take(kept).map(|place| place as u32), kept)
         });
-        Feed { place, unread, files, ends, counts }
+        Feed { place, unread, opened: None, files, ends, counts }
     }
 
     /// The six files as the check takes them: one that isn't there has no bytes.
