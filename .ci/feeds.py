@@ -1,4 +1,4 @@
-# Feeds for the tests of the report: a small town with faults, one with 65,000 findings, and hostile ones.
+# Feeds for the tests of the report: a small town with faults, one with 65,000 findings, one with a long trip, one from right to left, and hostile ones.
 import math
 import os
 import random
@@ -138,3 +138,20 @@ def shuffled(folder):
     times += ["T,08:20:00,08:50:00,C,30", "T,08:10:00,08:05:00,B,20", "T,08:40:00,08:41:00,D,40", "T,08:00:00,08:01:00,A,10"]
     stops = ["stop_id,stop_name,stop_lat,stop_lon"] + [f"{name},{name},{n},{n}" for n, name in enumerate("ABCD")]
     return put(folder, stops, ["route_id,route_short_name,route_type", "R,1,3"], CALENDAR + [WEEK], ["route_id,service_id,trip_id", "R,W,T"], times)
+
+
+# Lines whose letters go from right to left: beside digits, in marks with a comma, in two scripts, in a field that is marked and beside it.
+def leftward(folder):
+    stops = ["stop_id,stop_name,stop_lat,stop_lon,note", "ב1,רחוב,31.5,34.75,שלום", 'ב1,"שלום, עולם",31.5,34.75,7', "ب2,محطة,31.6,34.80,12", "ب2,12 رقم,31.6,34.80,א"]
+    return put(folder, stops, ["route_id,route_long_name,route_type", "קו 5,,3"], CALENDAR + [WEEK], ["route_id,service_id,trip_id", "קו 5,ש,ת"], ["trip_id,arrival_time,departure_time,stop_id,stop_sequence", "ת,8:00:00,8:00:00,ב1,1", "ת,7:00:00,7:10:00,אין,2"])
+
+
+# One trip with as many lines as a file may have; one of them arrives an hour before the line above it departs.
+FALLS = 60_000
+
+
+def long_trip(folder):
+    time = lambda place: clock(20_000 + place - (3600 if place == FALLS else 0))
+    calls = [f"T,{time(place)},{time(place)},A,{place}" for place in range(1, 65_536)]
+    return put(folder, ["stop_id,stop_name,stop_lat,stop_lon", "A,Alder,1,2"], ["route_id,route_short_name,route_type", "R,1,3"], CALENDAR + [WEEK],
+               ["route_id,service_id,trip_id", "R,W,T"], ["trip_id,arrival_time,departure_time,stop_id,stop_sequence"] + calls)

@@ -383,13 +383,65 @@ def policy(browser, case):
 
 
 # Without its script the page still has the verdict, the totals and the first findings.
-def without_script(browser, case):
+def without_script(browser, case, more=lambda: None):
     browser.call("Emulation.setScriptExecutionDisabled", value=True)
     browser.call("Page.navigate", url="file://" + case.page)
     browser.wait("document.readyState === 'complete'")
     same(f"{case.name}: findings without a script", browser.value("document.querySelectorAll('noscript li').length"), min(100, len(case.findings)))
     compare_head(browser, case)
+    more()
     browser.call("Emulation.setScriptExecutionDisabled", value=False)
+
+
+# Each letter of lines that are shown, with its place from the left and from the top.
+LETTERS = """[...document.querySelectorAll('SHOWN')].map((line) => {
+  const texts = document.createTreeWalker(line, NodeFilter.SHOW_TEXT), letters = [];
+  for (let text = texts.nextNode(); text; text = texts.nextNode()) {
+    for (let place = 0; place < text.length; place++) {
+      const range = new Range();
+      range.setStart(text, place);
+      range.setEnd(text, place + 1);
+      const { left, top } = range.getBoundingClientRect();
+      letters.push([text.data[place], left, top]);
+    }
+  }
+  return letters;
+})"""
+
+
+# The fields of a line stand from left to right, whatever letters are in them, and letters that go left do so inside their field.
+def fields_in_order(browser, case, shown):
+    lines = browser.value(LETTERS.replace("SHOWN", shown))
+    leftward = 0
+    for letters in lines:
+        fields, quoted = [[]], False
+        for letter, left, _ in letters:
+            quoted ^= letter == '"'
+            if letter == "," and not quoted:
+                fields.append([])
+            else:
+                fields[-1].append((letter, left))
+        text = "".join(letter for letter, _, _ in letters)
+        holds(f"{case.name}: one row: {text}", len({round(top / 12) for _, _, top in letters}) == 1)
+        edges = [(min(left for _, left in field), max(left for _, left in field)) for field in fields if field]
+        holds(f"{case.name}: fields of {text}: {edges}", all(one[1] < other[0] for one, other in zip(edges, edges[1:])))
+        for field in fields:
+            places = [left for letter, left in field if "\u0590" < letter < "\u0700"]
+            holds(f"{case.name}: letters of {text}", places == sorted(places, reverse=True))
+            leftward += len(places) > 1
+    holds(f"{case.name}: {len(lines)} lines, {leftward} fields go left", len(lines) > 5 and leftward > 5)
+
+
+# A trip of 65,535 lines is drawn around the one that falls, without a standstill.
+def long_trip(browser, case):
+    seconds = browser.open(case.page)
+    holds(f"long_trip: opened in {seconds:.1f} s", seconds < 10)
+    same("long_trip: findings", [[found["line"], number(found)] for found in case.findings], [[feeds.FALLS + 1, 29]])
+    label = browser.value("document.querySelector('.diagram[open] svg').getAttribute('aria-label')")
+    line, before = feeds.FALLS + 1, feeds.FALLS
+    falls = f"line {line} arrives at {feeds.clock(20_000 + feeds.FALLS - 3600)}, before line {before} departs at {feeds.clock(20_000 + feeds.FALLS - 1)}"
+    holds(label, label.endswith(f"with 65535 lines, line {line} marked: {falls}"))
+    same("long_trip: steps that fall", browser.value("document.querySelectorAll('.diagram[open] .fall').length"), 1)
 
 
 # 65,000 findings: few elements, no long standstill, and a text is found.
@@ -431,12 +483,12 @@ def every_page(browser, case):
 def main():
     os.makedirs(PICTURES, exist_ok=True)
     with tempfile.TemporaryDirectory() as folder:
-        for name in ["many", "town", "nodes", "nowhere", "hostile_refused", "hostile_bytes", "shuffled"]:
+        for name in ["many", "long_trip", "leftward", "town", "nodes", "nowhere", "hostile_refused", "hostile_bytes", "shuffled"]:
             getattr(feeds, name)(os.path.join(folder, name))
         feeds.hostile(os.path.join(folder, feeds.HOSTILE_NAME))
-        large_case = Case(folder, "many", "many", plain=True)
+        large_case, long_case = [Case(folder, name, name, plain=True) for name in ["many", "long_trip"]]
         cases = {name: Case(folder, name, os.path.join(TOP, "examples", name)) for name in ["feed", "findings", "refused", "by-date", "faults"]}
-        cases.update({name: Case(folder, name, name) for name in ["town", "nodes", "nowhere", "hostile_refused", "hostile_bytes", "shuffled"]})
+        cases.update({name: Case(folder, name, name) for name in ["town", "nodes", "nowhere", "hostile_refused", "hostile_bytes", "shuffled", "leftward"]})
         cases["hostile"] = Case(folder, "hostile", feeds.HOSTILE_NAME)
         # With the profile for boards: a feed of its own, one with other findings, one that a board can show, a refused one, and markup in the way.
         boards = {"boards": "boards", "both": "findings", "shown": "by-date", "still-refused": "refused"}
@@ -477,6 +529,10 @@ def main():
             without_script(browser, cases["faults"])
             browser.open(cases["shuffled"].page)
             time_diagram(browser, cases["shuffled"])
+            browser.open(cases["leftward"].page)
+            fields_in_order(browser, cases["leftward"], "#list .line-text")
+            without_script(browser, cases["leftward"], lambda: fields_in_order(browser, cases["leftward"], "noscript code"))
+            long_trip(browser, long_case.wait())
             browser.open(cases["hostile"].page)
             filters(browser, cases["hostile"], "constructor")
             stops_map(browser, cases["hostile"])
@@ -490,7 +546,7 @@ def main():
             picture(browser, cases["town"])
         finally:
             browser.close()
-    print("report: six examples, the profile for boards, a town, stops without coordinates, hostile feeds and 65,000 findings show in a browser what the JSON document says", flush=True)
+    print("report: six examples, the profile for boards, a town, stops without coordinates, lines from right to left, a trip of 65,535 lines, hostile feeds and 65,000 findings show in a browser what the JSON document says", flush=True)
 
 
 main()

@@ -1,5 +1,5 @@
 -- Laws of headers, of tables of ten, and of a line's fields under them.
-use mathlib.Core.Path.{_≡_, refl, sym, ap, _∙_}
+use mathlib.Core.Path.{_≡_, refl, sym, ap, _∙_, subst}
 use mathlib.Core.Bool.{Bool, true, false, cond, _&&_}
 use mathlib.Core.List.{List, [], _∷_, map}
 use Prim.Native.Nat.{ℕ, zero, suc, _+_, _-_, _≤_, _<_}
@@ -16,7 +16,7 @@ use Rattle.meaning.specs.Bytes.{bounds, part, value, fields}
 use Rattle.meaning.specs.Columns.{schema, columnOf, countOf, places, fieldAt, cell, rowOf}
 use Rattle.meaning.specs.Refusals.{rule9}
 use Rattle.meaning.proofs.Columns.{row-at}
-use Rattle.text.specs.Fields.{fieldsFrom, pastEnds, FieldStands}
+use Rattle.text.specs.Fields.{fieldsFrom, pastEnds, FieldStands, Inside}
 use Rattle.text.proofs.Fields.{from-over, from-start, field-inside, fields-begin, fields-adjoin}
 use Rattle.text.proofs.Spans.{past-length, past-before, past-at}
 use Rattle.schema.proofs.Laws.{count-le}
@@ -269,6 +269,9 @@ module _ (l t : List ℕ) (n : ℕ) (counted : n ≡ length (fields l)) (noted :
           let h : p ≤ n = ltb-false n p d in
           let y : p - 1 + 1 ≡ p = omega arith in
           rw (e, d, by-start (p - 1) (omega arith)) (rw y at (ap (λ (x : ℕ). bounds (getD (fields l) (p - 1) (bounds 0 0) .start) x) (by-end (p - 1) (omega arith))))
+
+  pub inside-by : (p : ℕ) (b : Bounds) → b ≡ fieldBy n t p → Inside (length l) b
+  inside-by p b e = subst (λ (x : Bounds). Inside (length l) x) (sym (e ∙ by-line p)) (field-inside l p)
 
   -- so the cells by the table are the line's
   cells-same : (g : Bounds → ℕ) (ps : List ℕ) → map (λ p. g (fieldBy n t p)) ps ≡ map (λ p. g (fieldAt l p)) ps

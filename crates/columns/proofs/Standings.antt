@@ -2,16 +2,18 @@
 use mathlib.Core.Path.{_≡_, refl, sym, _∙_}
 use mathlib.Core.Bool.{Bool, true, false, cond}
 use mathlib.Core.List.{List, [], _∷_}
-use Prim.Native.Nat.{ℕ, _+_, _-_, _≤_, _<_}
+use Prim.Native.Nat.{ℕ, zero, suc, _+_, _-_, _≤_, _<_}
 use native.Mathlib.Omega.{arith}
 use native.Mathlib.Decide.{ℕ-discrete}
+use native.Mathlib.Numerals.{unary-clauses}
 use lib.Dec.{eqb, ltb}
-use lib.ListN.{length, getD, set, replicate, length-set, getD-replicate}
+use lib.ListN.{length, getD, set, drop, replicate, length-set, getD-replicate}
 use lib.Seq.{getD-set-same, getD-set-other, ext-getD}
 use borrow.Author.Tests.{eq-eqb, ne-eqb, eqb-true, ltb-true, ltb-false}
 use Rattle.meaning.specs.Lists.{same, place, find, findAgain, least}
-use Rattle.meaning.specs.Bytes.{bounds, part, value, values}
-use Rattle.meaning.specs.Columns.{nameOf, countOf, places}
+use Rattle.meaning.specs.declared.Bounds.{Bounds}
+use Rattle.meaning.specs.Bytes.{bounds, part, value, fields, valuesOf, values}
+use Rattle.meaning.specs.Columns.{nameOf, countOf, places, fieldAt}
 use Rattle.meaning.specs.Refusals.{rule8}
 use Rattle.meaning.proofs.Columns.{Least, none, one, least-is, least-none, place-at}
 use Rattle.text.specs.Fields.{valuesFrom, FieldStands}
@@ -259,3 +261,50 @@ module _ (f : ℕ) (h : List ℕ) (n : ℕ) (ps : List ℕ) (again at : ℕ) whe
 
   pub walk-last : Met f (values h) n (valuesFrom h at) ps again → valuesFrom h at ≡ [] → (ps ≡ placesOf f (values h)) × (again ≡ rule8 f (values h))
   walk-last r e = let l : Met f (values h) n [] ps again = rw e at r in (met-firsts f (values h) n ps again l, met-again f (values h) n ps again l)
+
+-- ---- the same by the columns of its fields
+
+-- the value in a column, and those behind it
+value-next : (l : List ℕ) (bs : List Bounds) (j : ℕ) → j < length bs → drop j (valuesOf l bs) ≡ value (part l (getD bs j (bounds 0 0))) ∷ drop (j + 1) (valuesOf l bs)
+unfolding valuesOf
+value-next l [] j h = absurd (omega arith)
+value-next l (b ∷ bs) zero h = refl
+value-next l (b ∷ bs) (suc j) h = simp unary-clauses (simp unary-clauses at (value-next l bs j (omega arith)))
+
+value-all : (l : List ℕ) (bs : List Bounds) (j : ℕ) → length bs ≤ j → drop j (valuesOf l bs) ≡ []
+unfolding valuesOf
+value-all l [] zero h = refl
+value-all l [] (suc j) h = refl
+value-all l (b ∷ bs) zero h = absurd (omega arith)
+value-all l (b ∷ bs) (suc j) h = value-all l bs j (omega arith)
+
+pub near-first : (f : ℕ) (h : List ℕ) → Met f (values h) 1 (drop (1 - 1) (values h)) (replicate 10 0) 0
+near-first f h = met-none f (values h)
+
+module _ (f : ℕ) (h : List ℕ) (n : ℕ) (ps : List ℕ) (again : ℕ) (m : Met f (values h) n (drop (n - 1) (values h)) ps again) where
+  pub near-next :
+      1 ≤ n
+      → n ≤ length (fields h)
+      → (b : Bounds)
+      → b ≡ fieldAt h n
+      → (k : ℕ)
+      → k ≡ namedBy f (value (part h b))
+      → (qs : List ℕ)
+      → qs ≡ firstsWith ps k n
+      → (q : ℕ)
+      → q ≡ againWith ps again k n
+      → Met f (values h) (n + 1) (drop (n + 1 - 1) (values h)) qs q
+  unfolding values fieldAt
+  near-next c l b e k z qs x q y =
+      let o : n ≡ 0 → ⊥ = λ p. omega arith in
+      let u : n - 1 + 1 ≡ n = omega arith in
+      let w : n + 1 - 1 ≡ n = omega arith in
+      let t : b ≡ getD (fields h) (n - 1) (bounds 0 0) = rw (ne-eqb n 0 o) at e in
+      let v = rw (u, ← t) at (value-next h (fields h) (n - 1) (omega arith)) in
+      rw (x, y, z, w) (met-turn f (values h) n _ _ ps again (rw v at m) c)
+
+  pub near-last : length (fields h) < n → (ps ≡ placesOf f (values h)) × (again ≡ rule8 f (values h))
+  unfolding values
+  near-last l =
+      let e : Met f (values h) n [] ps again = rw (value-all h (fields h) (n - 1) (omega arith)) at m in
+      (met-firsts f (values h) n ps again e, met-again f (values h) n ps again e)

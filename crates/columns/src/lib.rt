@@ -50,8 +50,8 @@ fn note_name(names: Names, k: usize, n: usize) -> Names
     names
 }
 
-// The names of a header, in one walk along it.
-pub fn names_of(f: usize, h: &[u8]) -> Names
+// The names of a header, each noted where it is met: for headers of any number of fields.
+fn wide_names(f: usize, h: &[u8]) -> Names
     requires { ⌜ f < 7 ⌝ }
     ensures { λ r. ⌜ (r .at ≡ placesOf f (values (now (h .entry)))) × (r .again ≡ rule8 f (values (now (h .entry)))) ⌝ }
 {
@@ -71,31 +71,6 @@ pub fn names_of(f: usize, h: &[u8]) -> Names
             Step::Done => {
                 return names;
             }
-        }
-    }
-}
-
-// What a file's header tells: the columns of its known names, and where the next line starts.
-pub struct Header {
-    pub known: [usize; 10],
-    pub next: usize,
-}
-
-// The header of a file that has a line.
-pub fn read_header(f: usize, s: &[u8]) -> Header
-    requires { ⌜ (f < 7) × (1 ≤ countLf (now s)) ⌝ }
-    ensures { λ r. ⌜ Heading f (now (s .entry)) (r .known) (r .next) ⌝ }
-{
-    let at = text::body_start(s);
-    match text::next_line(s, at) {
-        LineStep::Line { start, end, next } => {
-            let names = names_of(f, &s[start..end]);
-            let known = names.at;
-            Header { known, next }
-        }
-        LineStep::Done => {
-            let known = [0usize; 10];
-            Header { known, next: at }
         }
     }
 }
@@ -225,6 +200,74 @@ pub fn blank_starts() -> [usize; 33]
     ensures { λ r. ⌜ r ≡ replicate 33 0 ⌝ }
 {
     [0usize; 33]
+}
+
+// The names of a header with so many fields, by where they start.
+fn near_names(f: usize, h: &[u8], count: usize, starts: &[usize]) -> Names
+    requires { ⌜ f < 7 ⌝ }
+    requires { ⌜ (count ≡ length (fields (now h))) × (count < length (now starts)) × Noted (now h) (now starts) ⌝ }
+    ensures { λ r. ⌜ (r .at ≡ placesOf f (values (now (h .entry)))) × (r .again ≡ rule8 f (values (now (h .entry)))) ⌝ }
+{
+    let mut names = Names {
+        at: [0usize; 10],
+        again: 0,
+    };
+    let mut n: usize = 1;
+    while n <= count {
+        let b = field_by(count, starts, n);
+        let a = b.start;
+        let e = b.end;
+        names = note_name(names, schema::named(f, &h[a..e]), n);
+        n += 1;
+    }
+    names
+}
+
+// The names of a header, where a walk along it told how many fields it has and, as far as the table goes, where they start.
+pub fn names_of(f: usize, h: &[u8], count: usize, starts: &[usize]) -> Names
+    requires { ⌜ f < 7 ⌝ }
+    requires { ⌜ (count ≡ upTo33 (length (fields (now h)))) × Noted (now h) (now starts) ⌝ }
+    ensures { λ r. ⌜ (r .at ≡ placesOf f (values (now (h .entry)))) × (r .again ≡ rule8 f (values (now (h .entry)))) ⌝ }
+{
+    if count < starts.len() {
+        return near_names(f, h, count, starts);
+    }
+    wide_names(f, h)
+}
+
+// The names of a header, in one walk along it.
+fn header_names(f: usize, h: &[u8]) -> Names
+    requires { ⌜ f < 7 ⌝ }
+    ensures { λ r. ⌜ (r .at ≡ placesOf f (values (now (h .entry)))) × (r .again ≡ rule8 f (values (now (h .entry)))) ⌝ }
+{
+    let mut starts = blank_starts();
+    let m = text::walk_fields(h, &mut starts);
+    names_of(f, h, m.fields, &starts)
+}
+
+// What a file's header tells: the columns of its known names, and where the next line starts.
+pub struct Header {
+    pub known: [usize; 10],
+    pub next: usize,
+}
+
+// The header of a file that has a line.
+pub fn read_header(f: usize, s: &[u8]) -> Header
+    requires { ⌜ (f < 7) × (1 ≤ countLf (now s)) ⌝ }
+    ensures { λ r. ⌜ Heading f (now (s .entry)) (r .known) (r .next) ⌝ }
+{
+    let at = text::body_start(s);
+    match text::next_line(s, at) {
+        LineStep::Line { start, end, next } => {
+            let names = header_names(f, &s[start..end]);
+            let known = names.at;
+            Header { known, next }
+        }
+        LineStep::Done => {
+            let known = [0usize; 10];
+            Header { known, next: at }
+        }
+    }
 }
 
 // The fields of a line under columns, in one walk along the line.

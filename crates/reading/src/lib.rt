@@ -320,17 +320,18 @@ fn bad_head(rule: usize, column: usize) -> Head
     }
 }
 
-// A header judged: its text first, so that names are looked for in no more than 32 fields.
+// A header judged in one walk along it: its text first, so that names are looked for in no more than 32 fields.
 pub fn judge_header(f: usize, h: &[u8]) -> Head
     requires { ⌜ f < 7 ⌝ }
     ensures { λ r. ⌜ (r .fault ≡ first (headTests f (now (h .entry)))) × (r .columns ≡ columnsUnder f (now (h .entry))) ⌝ }
 {
-    let m = text::measure(h);
+    let mut starts = columns::blank_starts();
+    let m = text::walk_fields(h, &mut starts);
     let t = text_rule(h, m);
     if t != 0 {
         return bad_head(t, 0);
     }
-    let names = columns::names_of(f, h);
+    let names = columns::names_of(f, h, m.fields, &starts);
     if names.again != 0 {
         return bad_head(8, names.again);
     }

@@ -94,7 +94,7 @@ fn wide(text: &str) -> usize {
 
 /// Letters and digits of scripts that go from right to left, with the ranges kept for them (Unicode's DerivedBidiClass.txt):
 /// some terminals show a line that has them in another order, so that nobody knows what stands above a caret.
-fn goes_left(char: char) -> bool {
+pub fn goes_left(char: char) -> bool {
     matches!(char as u32, 0x590..=0x8FF | 0xFB1D..=0xFDFF | 0xFE70..=0xFEFF | 0x10800..=0x10FFF | 0x1E800..=0x1EFFF)
 }
 

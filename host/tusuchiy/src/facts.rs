@@ -2,8 +2,9 @@
 
 use crate::columns::IDS;
 use crate::feed::{Feed, FILES};
-use crate::fields::{field, split, value};
+use crate::fields::{field, value};
 use crate::memory;
+use crate::names::Names;
 use crate::paging::Finding;
 use crate::safe;
 use crate::value::{Members, Value};
@@ -58,7 +59,7 @@ type Key<'a> = (Cow<'a, [u8]>, Option<i32>);
 pub struct Facts<'a> {
     feed: &'a Feed,
     tables: &'a [Vec<i32>; FILES],
-    headers: [OnceCell<Vec<Vec<u8>>>; FILES],
+    names: Names<'a>,
     firsts: [OnceCell<HashMap<Key<'a>, u32>>; FILES],
     calls: OnceCell<Vec<Calls>>,
     beside: OnceCell<Vec<Beside>>,
@@ -67,8 +68,8 @@ pub struct Facts<'a> {
 impl<'a> Facts<'a> {
     /// Nothing is looked up before it is asked for.
     pub fn new(feed: &'a Feed, tables: &'a [Vec<i32>; FILES]) -> Self {
-        let (headers, firsts) = Default::default();
-        Facts { feed, tables, headers, firsts, calls: OnceCell::new(), beside: OnceCell::new() }
+        let (names, firsts) = (Names::new(feed), Default::default());
+        Facts { feed, tables, names, firsts, calls: OnceCell::new(), beside: OnceCell::new() }
     }
 
     /// What a finding is about.
@@ -105,21 +106,15 @@ impl<'a> Facts<'a> {
         record.map(|record| record + 1)
     }
 
-    /// Where a known column stands in the header, counted from 0; none where it is absent.
-    fn column(&self, file: usize, column: &str) -> Option<usize> {
-        let header = self.headers[file - 1].get_or_init(|| names(self.feed, file));
-        header.iter().position(|name| name == column.as_bytes())
-    }
-
     /// The value under a known column; empty where the column is absent.
     fn value(&self, file: usize, line: usize, column: &str) -> Cow<'a, [u8]> {
-        self.column(file, column).map_or(Cow::Borrowed(&[]), |place| value_at(self.feed, file, line, place))
+        self.names.place(file, column).map_or(Cow::Borrowed(&[]), |place| value_at(self.feed, file, line, place))
     }
 
     /// The columns of a finding's line that carets stand under, counted from 1: those that break a rule of a profile.
     pub fn marked(&self, finding: &Finding, about: &About) -> Vec<usize> {
         let columns = breaking(finding.rule, about).into_iter();
-        columns.filter_map(|column| Some(self.column(finding.file, column)? + 1)).collect()
+        columns.filter_map(|column| Some(self.names.place(finding.file, column)? + 1)).collect()
     }
 
     /// The key of a line of files 1 to 4 or 6: where its id stands is in numbers 0 and 1 of its record.
@@ -524,12 +519,6 @@ fn wanting(times: &[Option<String>; 2]) -> &'static str {
         [None, _] => "arrival_time",
         _ => "departure_time",
     }
-}
-
-/// The names of a header.
-pub fn names(feed: &Feed, file: usize) -> Vec<Vec<u8>> {
-    let text = feed.line(file, 1).unwrap_or(&[]);
-    split(text).map_or(Vec::new(), |fields| fields.into_iter().map(|field| value(&text[field]).into_owned()).collect())
 }
 
 /// The value of a field of a line, places counted from 0; empty where there is no such field.

@@ -1,5 +1,6 @@
 //! A feed as it was read: the bytes of its six files, and where their lines are.
 
+use crate::folder::Folder;
 use crate::memory;
 use crate::safe;
 use std::collections::BTreeSet;
@@ -69,7 +70,9 @@ impl Place {
 pub struct Feed {
     pub place: Place,
     pub unread: Unread,
-    pub files: [Option<Vec<u8>>; FILES],
+    /// The folder that it was read from, if it was one.
+    pub opened: Option<Folder>,
+    files: [Option<Vec<u8>>; FILES],
     ends: [Vec<u32>; FILES],
     counts: [usize; FILES],
 }
@@ -84,12 +87,18 @@ impl Feed {
             let kept = counts[file].min(MOST_LINES);
             memory::list(line_ends(bytes[file]).take(kept).map(|place| place as u32), kept)
         });
-        Feed { place, unread, files, ends, counts }
+        Feed { place, unread, opened: None, files, ends, counts }
     }
 
     /// The six files as the check takes them: one that isn't there has no bytes.
     pub fn slices(&self) -> [&[u8]; FILES] {
         self.files.each_ref().map(|file| file.as_deref().unwrap_or(&[]))
+    }
+
+    /// The files that are there.
+    #[cfg(test)]
+    pub fn supplied(&self) -> [Option<&[u8]>; FILES] {
+        self.files.each_ref().map(Option::as_deref)
     }
 
     /// Is it without any bytes, as the check lets it be?

@@ -1,5 +1,6 @@
 //! The fields of a line, for words about them: what is a field is the check's to say, and a test holds this to the model.
 
+use crate::memory;
 use std::borrow::Cow;
 use std::ops::Range;
 
@@ -19,14 +20,22 @@ enum State {
     Closed,
 }
 
-/// Where the fields of a line stand, or what is wrong at which place; places count from 0.
+/// The most fields that rule 7 allows a line.
+pub const MOST_FIELDS: usize = 32;
+
+/// Where the fields of a line stand, or what is wrong at which place; places count from 0. Of a line that has too many it is the first ones:
+/// there may be millions, and nobody asks for them.
 pub fn split(line: &[u8]) -> Result<Vec<Range<usize>>, (Wrong, usize)> {
     let mut fields = Vec::new();
-    each(line, |field| fields.push(field))?;
+    each(line, |field| {
+        if fields.len() < MOST_FIELDS {
+            fields.push(field);
+        }
+    })?;
     Ok(fields)
 }
 
-/// How many fields a line has, or what is wrong with it: without a list, since there may be millions.
+/// How many fields a line has, or what is wrong with it.
 pub fn count(line: &[u8]) -> Result<usize, (Wrong, usize)> {
     let mut count = 0;
     each(line, |_| count += 1)?;
@@ -70,20 +79,29 @@ pub fn field(line: &[u8], column: usize) -> Option<Range<usize>> {
     walked.ok().and(found)
 }
 
+/// A field without its outer marks, if it has them.
+fn inside(raw: &[u8]) -> Option<&[u8]> {
+    raw.strip_prefix(b"\"").and_then(|rest| rest.strip_suffix(b"\""))
+}
+
+/// Is this the value of a field? Such a name has no marks in it, so nothing is copied.
+pub fn is_named(raw: &[u8], name: &str) -> bool {
+    inside(raw).unwrap_or(raw) == name.as_bytes()
+}
+
 /// The value of a field: outer marks taken off, a doubled mark inside means one.
 pub fn value(raw: &[u8]) -> Cow<'_, [u8]> {
-    let Some(inside) = raw.strip_prefix(b"\"").and_then(|rest| rest.strip_suffix(b"\"")) else {
-        return Cow::Borrowed(raw);
-    };
-    if !inside.contains(&b'"') {
+    let Some(inside) = inside(raw) else { return Cow::Borrowed(raw) };
+    let marks = inside.iter().filter(|byte| **byte == b'"').count();
+    if marks == 0 {
         return Cow::Borrowed(inside);
     }
-    let mut marks = 0;
+    let mut seen = 0;
     let kept = |byte: &u8| {
-        marks += usize::from(*byte == b'"');
-        *byte != b'"' || marks % 2 == 1
+        seen += usize::from(*byte == b'"');
+        *byte != b'"' || seen % 2 == 1
     };
-    Cow::Owned(inside.iter().copied().filter(kept).collect())
+    Cow::Owned(memory::list(inside.iter().copied().filter(kept), inside.len() - marks / 2))
 }
 
 #[cfg(test)]
@@ -114,5 +132,16 @@ mod tests {
         assert_eq!([field(line, 0), field(line, 5), field(b"a,b\"", 1)], [None, None, None]);
         assert_eq!([&line[..], b"", b"a,"].map(count), [Ok(4), Ok(1), Ok(2)]);
         assert_eq!(count(b"a,b\""), Err((Wrong::MarkInBareField, 3)));
+        let many = b",".repeat(99);
+        assert_eq!((count(&many), split(&many).map(|fields| fields.len())), (Ok(100), Ok(MOST_FIELDS)));
+    }
+
+    #[test]
+    fn names_with_and_without_marks() {
+        for (raw, is_it) in
+            [("a", true), ("\"a\"", true), ("\"a", false), ("\"\"a\"\"", false), ("", false), ("A", false)]
+        {
+            assert_eq!(is_named(raw.as_bytes(), "a"), is_it, "{raw}");
+        }
     }
 }

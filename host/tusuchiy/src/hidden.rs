@@ -2,7 +2,6 @@
 
 use crate::feed::{Feed, NAMES};
 use crate::paging::Refusal;
-use std::collections::BTreeSet;
 
 const LINES: &str = "a line is named once, for the first thing that is wrong with it: look at all of it";
 const HEADERS: &str =
@@ -13,8 +12,8 @@ const LONG: &str = "the file is too long, so its lines weren't judged and may br
 /// each; from all faults of the feed.
 pub fn sentences(feed: &Feed, faults: &[Refusal]) -> Vec<String> {
     let of = |hides: &dyn Fn(&Refusal) -> bool| {
-        let files: BTreeSet<usize> = faults.iter().filter(|fault| hides(fault)).map(|fault| fault.file).collect();
-        files.into_iter().map(|file| NAMES[file - 1]).collect::<Vec<_>>().join(", ")
+        let has = |name: &&str| faults.iter().any(|fault| NAMES[fault.file - 1] == *name && hides(fault));
+        NAMES.into_iter().filter(has).collect::<Vec<_>>().join(", ")
     };
     // Of a single fault its line is shown, and there is nothing else to look at.
     let lines = (faults.len() > 1 && faults.iter().any(|fault| fault.line > 0)).then(|| LINES.to_string());

@@ -1,5 +1,6 @@
 //! The command `tusuchiy`: reads feeds, lends memory to the proved check, prints what it answers, writes indexes.
 #![deny(unsafe_code)]
+#![cfg_attr(not(test), no_main)]
 
 mod arguments;
 mod carets;
@@ -15,6 +16,7 @@ mod json;
 mod manual;
 mod many;
 mod memory;
+mod names;
 mod paging;
 mod progress;
 mod refusals;
@@ -23,35 +25,47 @@ mod report;
 mod safe;
 mod source;
 mod style;
+mod system;
 mod text;
 mod value;
+mod whole;
 mod zip;
 
 use arguments::Command;
+use many::Patient;
 use std::io::{self, Write};
-use std::process::ExitCode;
+use std::thread;
 use tusuchiy::explain;
 
 /// The exit status of a refusal, and that where the command could not do what it was asked for.
 const REFUSED: u8 = 2;
 const COULD_NOT_RUN: u8 = 3;
 
-fn main() -> ExitCode {
+/// The command, in a thread with a stack of its own size; its exit status.
+fn start() -> u8 {
     // What stands on standard error is for the user: in one line, where the fault is.
     std::panic::set_hook(Box::new(|fault| {
         let place = fault.location().map_or(String::new(), |place| format!(" at {place}"));
         complain(&format!("this should not have happened{place}"));
     }));
+    match thread::Builder::new().stack_size(system::STACK).spawn(obey) {
+        Ok(thread) => thread.join().unwrap_or(COULD_NOT_RUN),
+        Err(error) => complain(&format!("can't run: {error}")),
+    }
+}
+
+/// Does what the words of the command line say, and gives the exit status.
+fn obey() -> u8 {
     let words: Vec<_> = std::env::args_os().skip(1).collect();
     let asked = arguments::parse(&words).map_err(|message| format!("{message} (see tusuchiy --help)"));
-    ExitCode::from(asked.and_then(run).unwrap_or_else(|message| complain(&message)))
+    asked.and_then(run).unwrap_or_else(|message| complain(&message))
 }
 
 /// Says why the command couldn't run, in one line or in a line for each file, and gives its status.
 fn complain(message: &str) -> u8 {
     let lines: String = message.lines().map(|line| format!("tusuchiy: {line}\n")).collect();
     // Nothing can be done where standard error is gone too.
-    let _ = io::stderr().write_all(lines.as_bytes());
+    let _ = Patient(io::stderr()).write_all(lines.as_bytes());
     COULD_NOT_RUN
 }
 

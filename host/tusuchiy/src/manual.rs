@@ -75,7 +75,7 @@ pub const VERBS: &[Verb] = &[
         operand: "FEED",
         help: "checks a feed and writes one page about it, for a browser: all findings or faults with filters, a map, time diagrams",
         flags: &[
-            Flag { short: Some('o'), ..valued("output", "FILE", "the file to write, as report.html; standard output if not given") },
+            Flag { short: Some('o'), ..valued("output", "FILE", "the file to write, as report.html, whole or not at all and never over the feed; standard output if not given") },
             PROFILE,
             FOLLOW_LINKS,
         ],
@@ -124,7 +124,7 @@ pub const STATUSES: [(u8, &str); 4] = [
     (0, "accepted; of index, all are written or accepted"),
     (1, "findings: the files can be read, and a rule is broken"),
     (2, "refused: a file can't be read as it stands, or an index isn't that of its file"),
-    (3, "the command couldn't run"),
+    (3, "the command couldn't run, for want of memory, room or time too"),
 ];
 
 /// What people type most.
@@ -233,8 +233,12 @@ pub fn man() -> String {
 pub fn complete_bash() -> String {
     let words = |flags: &[Flag]| flags.iter().map(|flag| format!("--{}", flag.long)).collect::<Vec<_>>().join(" ");
     let reply = |words: &str| format!("COMPREPLY=($(compgen -W '{words}' -- \"$word\"))");
-    let values = all_flags().filter(|flag| !flag.choices.is_empty());
-    let values = values.map(|flag| format!("        --{}) {}; return ;;\n", flag.long, reply(&flag.choices.join(" "))));
+    // Several commands have an option with the same choices, which is asked about once.
+    let mut values: Vec<&Flag> = all_flags().filter(|flag| !flag.choices.is_empty()).collect();
+    values.sort_by_key(|flag| flag.long);
+    values.dedup_by_key(|flag| flag.long);
+    let values =
+        values.iter().map(|flag| format!("        --{}) {}; return ;;\n", flag.long, reply(&flag.choices.join(" "))));
     let verbs = VERBS.iter().map(|verb| {
         let all = format!("{} {}", words(verb.flags), words(FLAGS));
         format!("        {}) [[ $word == -* ]] && {} ;;\n", verb.name, reply(all.trim_start()))

@@ -5,8 +5,9 @@ use crate::feed::Feed;
 use crate::paging::{self, Outcome, Report};
 use crate::style::{self, Style};
 use crate::text::Layout;
-use crate::{json, progress, source, text, COULD_NOT_RUN, REFUSED};
+use crate::{json, progress, source, system, text, COULD_NOT_RUN, REFUSED};
 use std::io::{self, BufWriter, ErrorKind, Write};
+use std::os::fd::AsRawFd;
 use std::panic::{self, AssertUnwindSafe};
 use std::path::{Path, PathBuf};
 use std::sync::atomic::{AtomicU8, AtomicUsize, Ordering};
@@ -55,7 +56,7 @@ fn in_threads(jobs: usize, work: impl Fn() + Sync) {
     thread::scope(|scope| {
         // Where there is no further thread, those that there are do the work.
         for _ in 1..jobs {
-            let _ = thread::Builder::new().spawn_scoped(scope, &work);
+            let _ = thread::Builder::new().stack_size(system::STACK).spawn_scoped(scope, &work);
         }
         work();
     });
@@ -126,7 +127,7 @@ pub fn guarded<Done>(work: impl FnOnce() -> Result<Done, String>) -> Result<Done
 
 /// Writes to standard output, to its end. A reader who went away has read enough; any other failure is one.
 pub fn write(write: impl FnOnce(&mut dyn Write) -> io::Result<()>) -> Result<(), String> {
-    let mut out = BufWriter::new(io::stdout().lock());
+    let mut out = BufWriter::new(Patient(io::stdout().lock()));
     match write(&mut out).and_then(|()| out.flush()) {
         Err(error) if error.kind() == ErrorKind::BrokenPipe => {
             // What is left is dropped, not written once more.
@@ -134,6 +135,30 @@ pub fn write(write: impl FnOnce(&mut dyn Write) -> io::Result<()>) -> Result<(),
             Ok(())
         }
         done => done.map_err(|error| format!("can't write to standard output: {error}")),
+    }
+}
+
+/// Waits for a reader where others wouldn't: whoever shares standard output may have set it so that a write which would wait is an error.
+pub struct Patient<Out>(pub Out);
+
+impl<Out: Write + AsRawFd> Patient<Out> {
+    fn until_done<Done>(&mut self, mut write: impl FnMut(&mut Out) -> io::Result<Done>) -> io::Result<Done> {
+        loop {
+            match write(&mut self.0) {
+                Err(error) if error.kind() == ErrorKind::WouldBlock => system::wait_to_write(self.0.as_raw_fd()),
+                done => return done,
+            }
+        }
+    }
+}
+
+impl<Out: Write + AsRawFd> Write for Patient<Out> {
+    fn write(&mut self, bytes: &[u8]) -> io::Result<usize> {
+        self.until_done(|out| out.write(bytes))
+    }
+
+    fn flush(&mut self) -> io::Result<()> {
+        self.until_done(Write::flush)
     }
 }
 

@@ -1,13 +1,19 @@
 //! Memory that isn't there ends the command with its exit status, never with an abort.
 #![allow(unsafe_code)]
 
+use crate::system;
 use std::alloc::{GlobalAlloc, Layout, System};
-use std::io::Write;
+use std::cell::Cell;
 
-/// Larger pieces are asked for where an error can be told; for smaller ones nobody could go on.
+/// For smaller pieces nobody could go on, even where an error can be told.
 const LARGE: usize = 1 << 20;
 
-/// The system's allocator, but for the end that it makes of small pieces that it hasn't got.
+thread_local! {
+    /// Does this thread ask for its large pieces where an error can be told?
+    static TOLD: Cell<bool> = const { Cell::new(false) };
+}
+
+/// The system's allocator, but for the end that Rust makes where it has none.
 pub struct Memory;
 
 #[global_allocator]
@@ -15,8 +21,15 @@ static MEMORY: Memory = Memory;
 
 /// Ends the command for want of memory.
 pub fn none() -> ! {
-    let _ = std::io::stderr().write_all(b"tusuchiy: out of memory\n");
-    std::process::exit(i32::from(crate::COULD_NOT_RUN))
+    system::leave("tusuchiy: out of memory\n")
+}
+
+/// Work that asks for large pieces, each so that it hears of it where there is none, and can go on.
+pub fn told<Done>(work: impl FnOnce() -> Done) -> Done {
+    let before = TOLD.replace(true);
+    let done = work();
+    TOLD.set(before);
+    done
 }
 
 /// A list of this length, made in one piece however long.
@@ -27,9 +40,9 @@ pub fn list<Element>(elements: impl Iterator<Item = Element>, length: usize) -> 
     list
 }
 
-/// Ends the command where a small piece wasn't there.
+/// Ends the command where a piece wasn't there, unless its want can be told.
 fn kept(piece: *mut u8, size: usize) -> *mut u8 {
-    if piece.is_null() && size < LARGE {
+    if piece.is_null() && !(size >= LARGE && TOLD.get()) {
         none()
     }
     piece

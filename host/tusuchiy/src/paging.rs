@@ -83,7 +83,7 @@ fn call(check: &mut Check, after: [i32; 3], room: usize, list: &mut Vec<Finding>
 
 /// Checks a feed by the rules that are asked for: one page as the check hands it out, or all findings; where it is refused, the same of its faults.
 pub fn check(feed: &Feed, page: Option<Page>, profile: Profile, progress: &Progress) -> Result<Report, String> {
-    check_by(feed, page, profile, PAGE_ROOM, progress)
+    memory::told(|| check_by(feed, page, profile, PAGE_ROOM, progress))
 }
 
 /// The same with pages of this room where no other is asked for.

@@ -4,32 +4,30 @@ use crate::columns::{Column, COLUMNS};
 use crate::encoding::{all_fit, guess, guess_by_mark, ill_formed, windows_1252, Guess};
 use crate::facts::{shown, shown_value, About};
 use crate::feed::{Feed, FILES, MOST_BYTES, MOST_LINES};
-use crate::fields::{self, field, split, value, Wrong};
+use crate::fields::{self, field, value, Wrong, MOST_FIELDS};
+use crate::names::Names;
 use crate::paging::Refusal;
 use crate::value::{Members, Value};
 use std::borrow::Cow;
 use std::cell::OnceCell;
-use std::ops::Range;
 use tusuchiy::File;
 
-/// The most fields that rule 7 allows a line, and the most bytes that rule 11 allows an id.
-const MOST_FIELDS: usize = 32;
+/// The most bytes that rule 11 allows an id.
 const MOST_ID_BYTES: usize = 64;
 
 /// What the refusals of a feed are about. What is asked of a file for each of its lines is looked up once: a header, or a whole
 /// file, may have 16 MB, and each of 65,536 lines a fault.
 pub struct Reasons<'a> {
     feed: &'a Feed,
-    headers: [OnceCell<Vec<Range<usize>>>; FILES],
+    names: Names<'a>,
     header_counts: [OnceCell<usize>; FILES],
     all_fit: [OnceCell<bool>; FILES],
-    type_field: OnceCell<Option<usize>>,
 }
 
 impl<'a> Reasons<'a> {
     pub fn new(feed: &'a Feed) -> Self {
-        let (headers, header_counts, all_fit) = Default::default();
-        Reasons { feed, headers, header_counts, all_fit, type_field: OnceCell::new() }
+        let (header_counts, all_fit) = Default::default();
+        Reasons { feed, names: Names::new(feed), header_counts, all_fit }
     }
 
     /// What the verdict's refusal is about; where a file is missing, all that are.
@@ -55,7 +53,7 @@ impl<'a> Reasons<'a> {
             6 => marks(text),
             7 => many(self.field_count(file, line, text)),
             9 => self.missing(file),
-            10 => counts(field_count(text), self.header(file).len()),
+            10 => counts(field_count(text), self.names.fields(file).len()),
             8 | 11..=13 => self.in_column(refusal, text).unwrap_or_default(),
             14 => self.bad_byte(file, text).unwrap_or_default(),
             _ => About::default(),
@@ -70,20 +68,9 @@ impl<'a> Reasons<'a> {
         }
     }
 
-    /// Where the names of a header stand that has 32 fields at most.
-    fn header(&self, file: usize) -> &[Range<usize>] {
-        self.headers[file - 1].get_or_init(|| split(self.feed.line(file, 1).unwrap_or(&[])).unwrap_or_default())
-    }
-
-    /// A name of the header, places counted from 0.
-    fn name(&self, file: usize, place: usize) -> Option<Cow<'a, [u8]>> {
-        let field = self.header(file).get(place)?.clone();
-        Some(value(&self.feed.line(file, 1)?[field]))
-    }
-
     /// The name that the header has for the column of a refusal: a known one, and so a short one.
     pub fn column_name(&self, refusal: &Refusal) -> Option<Cow<'a, [u8]>> {
-        self.name(refusal.file, refusal.column?.checked_sub(1)?)
+        self.names.written(refusal.file, refusal.column?.checked_sub(1)?).map(value)
     }
 
     /// A byte at which no UTF-8 character begins.
@@ -102,8 +89,7 @@ impl<'a> Reasons<'a> {
     }
 
     fn missing(&self, file: usize) -> About {
-        let names: Vec<Cow<[u8]>> = (0..self.header(file).len()).filter_map(|place| self.name(file, place)).collect();
-        let there = |column: &Column| names.iter().any(|name| **name == *column.name.as_bytes());
+        let there = |column: &Column| self.names.place(file, column.name).is_some();
         let must = COLUMNS[file - 1].iter().filter(|column| column.must);
         let missing: Vec<&str> = must.filter(|column| !there(column)).map(|column| column.name).collect();
         About {
@@ -134,12 +120,6 @@ impl<'a> Reasons<'a> {
         Some(About { words, members })
     }
 
-    /// The field of stops.txt that is the type, counted from 1.
-    fn type_field(&self) -> Option<usize> {
-        let is_type = |place: &usize| self.name(1, place - 1).as_deref() == Some(b"location_type");
-        *self.type_field.get_or_init(|| (1..=self.header(1).len()).find(is_type))
-    }
-
     /// Why a stop may not lack a value that a node or a boarding area may.
     fn why_needed(&self, file: usize, column: &str, text: &[u8]) -> String {
         let other = match (file, column) {
@@ -148,7 +128,7 @@ impl<'a> Reasons<'a> {
             (1, "stop_lon") => Some("stop_lat"),
             _ => return String::new(),
         };
-        let own = self.type_field().and_then(|place| field(text, place));
+        let own = self.names.place(1, "location_type").and_then(|place| field(text, place + 1));
         let kind = own.map_or(Cow::Borrowed(&[][..]), |field| value(&text[field]));
         match (&*kind, other) {
             (b"3" | b"4", Some(other)) => format!(" and {other} isn't, wanted: both or neither"),

@@ -154,7 +154,7 @@ fn the_report_marks_the_field() {
         let plain = out(&output).split("<noscript>").nth(1).and_then(|rest| rest.split("</noscript>").next());
         let plain = plain.expect("a part for readers without a script");
         assert!(plain.contains(&format!("<li><b>{place}</b>, refusal ")), "{plain}");
-        assert!(plain.contains(&format!("{marked}</code></li>")), "{plain}");
+        assert!(plain.contains(&format!("{marked}</bdi></code></li>")), "{plain}");
         let (_, column) = place.rsplit_once(", ").expect("a column");
         let rows = between(out(&output), "id=\"block-0\">", "</script>");
         assert_eq!(rows.list()[0].list()[3].text(), column);

@@ -634,6 +634,9 @@ fn bash_completes() {
     assert_eq!(complete("tusuchiy index --ch", 2), "--check");
     assert_eq!(complete("tusuchiy check --ch", 2), "");
     assert_eq!(complete("tusuchiy --generate m", 2), "man");
+    for option in ["--profile", "--color", "--generate"] {
+        assert_eq!(out(&script).matches(&format!(" {option}) ")).count(), 1, "{option}");
+    }
 }
 
 /// The manual page is one that man takes without a warning, where there is man.

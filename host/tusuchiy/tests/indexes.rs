@@ -546,17 +546,11 @@ fn with_routes(folder: &Folder, count: usize) {
 fn a_full_disk() {
     let folder = indexed("index-full");
     with_routes(&folder, 5_000);
-    let mut command = command_after("trap '' XFSZ && ulimit -f 8");
-    let output = command.args(["index", folder.path()]).output().expect("the command runs");
+    let output = command_after("ulimit -f 8").args(["index", folder.path()]).output().expect("the command runs");
     let wanted = format!("tusuchiy: can't write {}: File too large (os error 27)\n", folder.at("routes.ttx"));
     assert_eq!((status(&output), out(&output), said(&output)), (3, "", &wanted[..]));
     assert_eq!(bytes(&folder, "routes.ttx").as_deref(), Some(ROUTES));
     assert_eq!(beside(&folder).len(), 4);
-    // Without the trap the command is killed half way: only a hidden file is left, and the next run goes past it.
-    let output = command_after("ulimit -f 8").args(["index", folder.path()]).output().expect("the command runs");
-    assert_eq!((output.status.code(), out(&output)), (None, ""), "killed by a signal");
-    assert_eq!(bytes(&folder, "routes.ttx").as_deref(), Some(ROUTES));
-    assert!(beside(&folder)[0].starts_with(".routes.ttx."), "{:?}", beside(&folder));
     assert_said(&folder, &["--quiet"], 0, "written\n");
     assert_said(&folder, &["--quiet", "--check"], 0, "accepted\n");
 }

@@ -3,6 +3,7 @@
 mod common;
 
 use common::json::Json;
+use common::memory::{own, starts, within, FEED};
 use common::zip::{feed, member, write, Member};
 use common::{
     assert_cannot, command_after, document, example_files, json, out, program, run, said, status, Folder, NAMES, RUNNER,
@@ -10,7 +11,8 @@ use common::{
 use std::fs::{self, File};
 use std::os::unix::fs::symlink;
 use std::process::{Command, Output, Stdio};
-use std::sync::OnceLock;
+use std::sync::atomic::{AtomicBool, Ordering};
+use std::thread;
 
 /// A file that isn't there is the check's own refusal, and all that are missing are named.
 #[test]
@@ -212,32 +214,49 @@ fn links_in_a_feed_are_not_followed() {
     assert_eq!(status(&run(&["check", &whole.at("feed")])), 0);
 }
 
-/// Checks with so much address space, in MiB.
-fn within(most: usize, words: &[&str]) -> Output {
-    limited(most, 900, words)
+/// A link that moves from one feed to another while it is read: each run has the one or the other, or says that it changed, and none a mixture,
+/// in which no reference would lead anywhere.
+#[test]
+fn a_link_that_moves() {
+    let folder = Folder::empty("moves");
+    let [one, other] = ["one", "other"].map(|name| {
+        let ids = |bytes: &Vec<u8>| {
+            String::from_utf8_lossy(bytes)
+                .replace("B7", name)
+                .replace("HILL", name)
+                .replace("WEEKDAYS", name)
+                .into_bytes()
+        };
+        folder.put_feed(name, &example_files("feed").each_ref().map(ids));
+        name
+    });
+    let link = |to: &str| {
+        symlink(to, folder.at("new")).expect("a link");
+        fs::rename(folder.at("new"), folder.at("feed")).expect("another name");
+    };
+    link(one);
+    let over = AtomicBool::new(false);
+    let outputs: Vec<Output> = thread::scope(|scope| {
+        scope.spawn(|| {
+            while !over.load(Ordering::Relaxed) {
+                [other, one].iter().for_each(|name| link(name));
+            }
+        });
+        let outputs = (0..60).map(|_| run(&["check", &folder.at("feed")])).collect();
+        over.store(true, Ordering::Relaxed);
+        outputs
+    });
+    for output in &outputs {
+        match status(output) {
+            0 => assert!(out(output).starts_with("accepted\n")),
+            code => {
+                assert_eq!((code, out(output)), (3, ""));
+                assert!(said(output).contains("feed: it changed while it was read; try again\n"), "{}", said(output));
+            }
+        }
+    }
+    assert!(outputs.iter().any(|output| status(output) == 0), "never still");
 }
-
-/// The same, for so many seconds: an emulator with too little for itself may go on for ever.
-fn limited(most: usize, seconds: usize, words: &[&str]) -> Output {
-    let limits = format!("ulimit -v {} && exec timeout {seconds} \"$0\" \"$@\"", most << 10);
-    command_after(&limits).args(words).output().expect("the command runs")
-}
-
-/// Is a small feed accepted with so much?
-fn starts(most: usize) -> bool {
-    limited(most, 30, &["check", "--quiet", &common::example("feed")]).status.code() == Some(0)
-}
-
-/// The address space that the program itself takes, and an emulator where there is one: in MiB, to the next 16.
-/// It isn't the same in every run, so this is where it is always enough, here and with more.
-fn own() -> usize {
-    static OWN: OnceLock<usize> = OnceLock::new();
-    let always = |most: &usize| (0..40).all(|run| starts(*most + run % 5 * 16));
-    *OWN.get_or_init(|| (1..256).map(|step| step * 16).find(always).expect("memory"))
-}
-
-/// A feed's memory, as the README has it, in MiB.
-const FEED: usize = 192;
 
 /// Six files of 2 GiB, which are holes.
 fn huge(name: &str) -> Folder {
@@ -315,7 +334,7 @@ fn memory_has_a_bound_with_many_findings_for_boards() {
     let output = within(own + FEED, &["check", "--profile", "boards", folder.path()]);
     assert_eq!(status(&output), 1, "{}", said(&output));
     assert!(out(&output).starts_with("findings: 393211 (profile boards)\n"), "{}", out(&output));
-    let output = within(own + FEED, &["report", "--profile", "boards", "-o", "/dev/null", folder.path()]);
+    let output = within(own + FEED, &["report", "--profile", "boards", "-o", &folder.at("report.html"), folder.path()]);
     assert_eq!(status(&output), 1, "{}", said(&output));
 }
 
@@ -332,7 +351,7 @@ fn memory_has_a_bound_with_many_faults() {
     let output = within(own + FEED, &["check", folder.path()]);
     assert_eq!(status(&output), 2, "{}", said(&output));
     assert!(out(&output).contains("\nfaults: 393228, this one among them\n"), "{}", out(&output));
-    let output = within(own + FEED, &["report", "-o", "/dev/null", folder.path()]);
+    let output = within(own + FEED, &["report", "-o", &folder.at("report.html"), folder.path()]);
     assert_eq!(status(&output), 2, "{}", said(&output));
 }
 

@@ -2,8 +2,11 @@
 
 mod common;
 
-use common::{assert_cannot, example, out, run, said, status, Folder};
+use common::zip::{feed, write};
+use common::{assert_cannot, command_after, example, example_files, out, run, said, status, Folder};
 use std::fs;
+use std::os::unix::fs::symlink;
+use std::process::Command;
 
 #[test]
 fn the_status_is_the_verdict_and_the_page_is_the_file() {
@@ -127,6 +130,88 @@ fn what_cannot_be_read_or_written() {
     assert_cannot(&["report", &example("feed"), "-o", &folder.at("no/where.html")], &["can't write"]);
     assert_cannot(&["report", &example("feed"), "-o", "/dev/full"], &["can't write /dev/full"]);
     assert_cannot(&["report", &example("feed"), &example("feed")], &["report takes one feed"]);
+    for output in ["", ".", "..", "/", &folder.at("new.html/"), folder.path()] {
+        assert_cannot(&["report", &example("feed"), "-o", output], &[&format!("can't write {output}: ")]);
+    }
+    assert_eq!(fs::read_dir(&folder.0).expect("a folder").count(), 0);
+    // Nobody reads a pipe, and nothing waits for one.
+    assert!(Command::new("mkfifo").arg(folder.at("pipe")).status().expect("mkfifo").success());
+    let mut bounded = command_after("exec timeout 20 \"$0\" \"$@\"");
+    let output =
+        bounded.args(["report", &example("feed"), "-o", &folder.at("pipe")]).output().expect("the command runs");
+    assert_eq!((status(&output), out(&output)), (3, ""));
+    assert!(said(&output).contains("pipe: it isn't a regular file"), "{}", said(&output));
+}
+
+/// What is written to standard output doesn't go there twice.
+#[test]
+fn standard_output_is_no_file_of_its_own() {
+    let folder = Folder::empty("report-stdout");
+    let page = folder.at("page.html");
+    for name in [&page[..], "/dev/stdout", "/dev/fd/1"] {
+        let into = format!("exec > '{page}'");
+        let output = command_after(&into).args(["report", &example("feed"), "-o", name]).output().expect("bash");
+        assert_eq!(status(&output), 3, "{name}");
+        assert!(said(&output).contains("standard output goes there"), "{}", said(&output));
+        assert_eq!(fs::read(&page).expect("a file"), b"", "{name}");
+    }
+}
+
+/// A link in the page's place is replaced, and what it names stays; a page takes the place of an older one, and nothing is left beside it.
+#[test]
+fn a_page_is_put_in_its_place_whole() {
+    let folder = Folder::empty("report-whole");
+    let [page, precious] = ["report.html", "precious"].map(|name| folder.at(name));
+    folder.put("precious", b"precious");
+    let whole = out(&run(&["report", &example("feed")])).to_string();
+    for target in ["precious", "nowhere"] {
+        symlink(target, &page).expect("a link");
+        assert_eq!(status(&run(&["report", &example("feed"), "-o", &page])), 0);
+        assert!(fs::symlink_metadata(&page).expect("a page").is_file());
+        assert_eq!(fs::read(&precious).expect("a file"), b"precious");
+        assert!(fs::read_to_string(&page).expect("a page") == whole);
+        // In place of the older one.
+        assert_eq!(status(&run(&["report", &example("findings"), "-o", &page])), 1);
+        assert!(fs::read_to_string(&page).expect("a page").contains("5 findings"));
+        assert_eq!(fs::read_dir(&folder.0).expect("a folder").count(), 2);
+        folder.take("report.html");
+    }
+    let long = folder.at(&"x".repeat(255));
+    assert_eq!(status(&run(&["report", &example("feed"), "-o", &long])), 0);
+}
+
+/// A page never takes the place of what was checked, by whatever name, nor of a file that the feed may yet have.
+#[test]
+fn a_page_never_goes_over_the_feed() {
+    let folder = Folder::empty("report-over");
+    let files = example_files("feed");
+    let path = folder.put_feed("feed", &files);
+    fs::remove_file(folder.0.join("feed/calendar_dates.txt")).expect("a file taken away");
+    let zip = write(&feed("", &files));
+    folder.put("feed.zip", &zip);
+    fs::hard_link(folder.0.join("feed/stops.txt"), folder.0.join("hard")).expect("a link");
+    symlink("feed", folder.at("by-link")).expect("a link");
+    symlink("feed/trips.txt", folder.at("soft")).expect("a link");
+    let of_folder =
+        ["feed/stops.txt", "feed/calendar_dates.txt", "feed/../feed/trips.txt", "by-link/routes.txt", "hard", "soft"];
+    for name in of_folder {
+        for feed in [&path, &folder.at("by-link")] {
+            assert_cannot(&["report", feed, "-o", &folder.at(name)], &[&format!("{name}: it is of the feed")]);
+        }
+    }
+    assert_cannot(&["report", &folder.at("feed.zip"), "-o", &folder.at("feed.zip")], &["feed.zip: it is of the feed"]);
+    assert_eq!(fs::read(folder.at("feed.zip")).expect("a file"), zip);
+    for (name, bytes) in common::NAMES.iter().zip(&files).take(5) {
+        assert_eq!(fs::read(format!("{path}/{name}")).expect("a file"), *bytes);
+    }
+    assert!(!folder.0.join("feed/calendar_dates.txt").exists());
+    // Where a link of the feed leads is the feed's too.
+    folder.put("elsewhere", &files[0]);
+    fs::remove_file(folder.0.join("feed/stops.txt")).expect("a file taken away");
+    symlink("../elsewhere", folder.at("feed/stops.txt")).expect("a link");
+    assert_cannot(&["report", "-L", &path, "-o", &folder.at("elsewhere")], &["elsewhere: it is of the feed"]);
+    // Beside the files a page may stand.
+    assert_eq!(status(&run(&["report", "-L", &path, "-o", &folder.at("feed/report.html")])), 0);
 }
 
 /// Elements of the page are the frame's: however hostile a feed, their number is that of a tame feed with as many lines.

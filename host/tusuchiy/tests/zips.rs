@@ -64,6 +64,60 @@ fn second_directory(zip: &mut Zip) -> Vec<u8> {
     other.directory()
 }
 
+/// Packs a folder with the feed by a bash command, which writes to $0, and checks what it has made.
+fn packed(command: &str) -> std::process::Output {
+    let folder = Folder::empty("writers");
+    folder.put_feed("gtfs", &example_files("by-date"));
+    folder.take("gtfs/calendar.txt");
+    let zip = folder.at("feed.zip");
+    let mut bash = std::process::Command::new("bash");
+    let made = bash.args(["-c", &format!("set -o pipefail; {command}"), &zip]).current_dir(&folder.0).output();
+    let made = made.expect("bash");
+    assert!(made.status.success(), "{command}: {}", said(&made));
+    run(&["check", "--quiet", &zip])
+}
+
+/// Python's way to pack by this method to where nothing can be written anew.
+fn python(method: &str) -> String {
+    let words = "import sys, zipfile, pathlib; out = zipfile.ZipFile(sys.stdout.buffer, 'w', zipfile.METHOD); \
+                 [out.write(path) for path in pathlib.Path('gtfs').rglob('*')]; out.close()";
+    format!("python3 -c \"{}\" | cat > \"$0\"", words.replace("METHOD", method))
+}
+
+/// What writers make is read, packed or not, in one go or to a pipe.
+#[test]
+fn zip_files_as_writers_make_them() {
+    let read = [
+        "zip -qr \"$0\" gtfs",
+        "zip -qr0 \"$0\" gtfs",
+        "zip -qr - gtfs | cat > \"$0\"",
+        "zip -qr - gtfs -z <<< 'a comment' > \"$0\"",
+        "cd gtfs && zip -q \"$0\" *",
+        "7z a -bso0 -bsp0 \"$0\" gtfs",
+        "7z a -bso0 -bsp0 -mx0 \"$0\" ./gtfs/*",
+        "bsdtar -a -cf \"$0\" gtfs",
+        "python3 -m zipfile -c \"$0\" gtfs",
+        &python("ZIP_DEFLATED"),
+        "jar cfM \"$0\" gtfs",
+        "jar cf0M \"$0\" -C gtfs .",
+    ];
+    for command in read {
+        let output = packed(command);
+        assert_eq!((status(&output), out(&output)), (0, "accepted\n"), "{command}: {}", said(&output));
+    }
+    let behind = "it isn't packed, and its size stands behind it";
+    let not_read = [
+        ("zip -qr -fz \"$0\" gtfs", LARGE),
+        (": > gtfs/empty.txt; zip -qr - gtfs | cat > \"$0\"", behind),
+        (&python("ZIP_STORED"), behind),
+        ("bsdtar --format zip --options zip:compression=store -cf \"$0\" gtfs", behind),
+    ];
+    for (command, words) in not_read {
+        let output = packed(command);
+        assert!(status(&output) == 3 && said(&output).contains(words), "{command}: {}", said(&output));
+    }
+}
+
 /// What stands behind the directory could be the one that a program finds by going back from the end.
 #[test]
 fn a_second_directory() {
@@ -363,7 +417,7 @@ fn fields_behind_a_name() {
         refused(|zip| zip.members[0].local.extra = field(kind, &[0; 12]), &words);
         refused(|zip| zip.members[0].listed.extra = field(kind, &[0; 12]), &words);
     }
-    for extra in [&[0x55][..], &[0x55, 0x54, 9], &[0x55, 0x54, 9, 0, 1]] {
+    for extra in [&[0x55][..], &[0x55, 0x54, 9], &[0x55, 0x54, 9, 0, 1], &[0x55, 0x54, 0, 0]] {
         let words = "stops.txt: the fields behind its name are damaged";
         refused(|zip| zip.members[0].local.extra = extra.to_vec(), words);
         refused(|zip| zip.members[0].listed.extra = extra.to_vec(), words);

@@ -18,24 +18,24 @@ next-line-requires c κs = search needs
 enum-known-start : tie.Need-enum-known-start
 enum-known-start c = search needs
 
-sub-names-of : tie.Need-sub-names-of
-sub-names-of c = (line-found _ _ _ _ _ (sym (c .before .before .before .next-line .ensures) ∙ c .before .start .given .1)) .ordered
+sub-header-names : tie.Need-sub-header-names
+sub-header-names c = (line-found _ _ _ _ _ (sym (c .before .before .before .next-line .ensures) ∙ c .before .start .given .1)) .ordered
 
-part-names-of-start : tie.Need-part-names-of-start
-part-names-of-start c = let h = line-found _ _ _ _ _ (sym (c .before .before .before .next-line .ensures) ∙ c .before .start .given .1) in omega (arith, h .ordered)
+part-header-names-start : tie.Need-part-header-names-start
+part-header-names-start c = let h = line-found _ _ _ _ _ (sym (c .before .before .before .next-line .ensures) ∙ c .before .start .given .1) in omega (arith, h .ordered)
 
-part-names-of-end : tie.Need-part-names-of-end
-part-names-of-end c = let h = line-found _ _ _ _ _ (sym (c .before .before .before .next-line .ensures) ∙ c .before .start .given .1) in omega (arith, h .before, h .within)
+part-header-names-end : tie.Need-part-header-names-end
+part-header-names-end c = let h = line-found _ _ _ _ _ (sym (c .before .before .before .next-line .ensures) ∙ c .before .start .given .1) in omega (arith, h .before, h .within)
 
-names-of-requires : tie.Need-names-of-requires
-names-of-requires c κs = search needs
+header-names-requires : tie.Need-header-names-requires
+header-names-requires c κs = search needs
 
 enum-told : tie.Need-enum-told
 enum-told c = search needs
 
 returns : tie.Need-returns
 unfolding part
-returns c = header-found _ _ (c .before .before .before .before .before .before .before .body-start .ensures .0) _ _ _ _ _ (line-found _ _ _ _ _ (sym (c .before .before .before .before .before .before .next-line .ensures) ∙ c .before .before .before .before .start .given .1)) (c .before .names-of .ensures .0)
+returns c = header-found _ _ (c .before .before .before .before .before .before .before .body-start .ensures .0) _ _ _ _ _ (line-found _ _ _ _ _ (sym (c .before .before .before .before .before .before .next-line .ensures) ∙ c .before .before .before .before .start .given .1)) (c .before .header-names .ensures .0)
 
 returns-2 : tie.Need-returns-2
 returns-2 c =
@@ -49,10 +49,10 @@ read-header-spec =
     body-start-requires
     next-line-requires
     enum-known-start
-    sub-names-of
-    part-names-of-start
-    part-names-of-end
-    names-of-requires
+    sub-header-names
+    part-header-names-start
+    part-header-names-end
+    header-names-requires
     enum-told
     returns
     returns-2)

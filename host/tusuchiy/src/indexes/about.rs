@@ -1,9 +1,10 @@
 //! What a refusal of an index is about, from the bytes of the index and the ids of its file.
 
 use crate::columns::IDS;
-use crate::facts::{names, repeated_id, shown, shown_text, value_at, About};
+use crate::facts::{repeated_id, shown, shown_text, value_at, About};
 use crate::feed::{Feed, MOST_BYTES};
 use crate::memory;
+use crate::names::Names;
 use crate::value::{Members, Value};
 use std::borrow::Cow;
 use std::collections::HashMap;
@@ -173,7 +174,7 @@ impl<'a> Ids<'a> {
     fn new(feed: &'a Feed, file: File) -> Option<Self> {
         let file = file.number();
         let column = IDS[file - 1];
-        let place = names(feed, file).iter().position(|name| name == column.as_bytes())?;
+        let place = Names::new(feed).place(file, column)?;
         Some(Ids { feed, file, column, place })
     }
 

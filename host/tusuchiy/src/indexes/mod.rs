@@ -3,17 +3,18 @@
 mod about;
 mod json;
 mod text;
-mod whole;
 
 use crate::arguments::Form;
 use crate::facts::About;
 use crate::feed::Feed;
-use crate::folder::{self, Files};
+use crate::folder::{Files, Folder};
+use crate::memory;
 use crate::paging::Refusal;
 use crate::refusals::Reasons;
 use crate::style::{self, Style, When};
-use crate::{many, safe, source, zip, REFUSED};
-use std::fs;
+use crate::{many, safe, source, whole, zip, REFUSED};
+use std::ffi::OsStr;
+use std::io::Write;
 use std::os::unix::ffi::OsStrExt;
 use std::path::{Path, PathBuf};
 use tusuchiy::index::{self, Refused, ENTRY, FILES, HEAD};
@@ -56,20 +57,20 @@ pub fn run(asked: &Asked) -> u8 {
 }
 
 fn done<'a>(asked: &'a Asked, path: &Path) -> Result<Done<'a>, String> {
-    asked.output.as_ref().map_or(Ok(()), |folder| must_be_folder(folder))?;
+    let output = asked.output.as_ref().map(|folder| must_be_folder(folder)).transpose()?;
     let feed = source::read(path, asked.follow_links)?;
-    let outcomes = if asked.check { judge_all(asked, &feed)? } else { write_all(asked, &feed)? };
+    let folder = output.as_ref().or(feed.opened.as_ref());
+    let outcomes = if asked.check { judge_all(asked, &feed, folder)? } else { write_all(&feed, folder)? };
     Ok(Done { asked, feed, outcomes })
 }
 
 /// A folder that isn't there is a slip of the user's, and not one without indexes.
-fn must_be_folder(path: &Path) -> Result<(), String> {
-    let why = match fs::metadata(path) {
-        Ok(about) if about.is_dir() => return Ok(()),
-        Ok(_) => "it isn't a folder".to_string(),
-        Err(error) => error.to_string(),
-    };
-    Err(format!("can't use {} as --output: {why}", safe::name(path.as_os_str().as_bytes())))
+fn must_be_folder(path: &Path) -> Result<Folder, String> {
+    Folder::open(path).map_err(|error| {
+        let is_other = error.raw_os_error() == Some(libc::ENOTDIR);
+        let why = if is_other { "it isn't a folder".to_string() } else { error.to_string() };
+        format!("can't use {} as --output: {why}", safe::name(path.as_os_str().as_bytes()))
+    })
 }
 
 /// Prints what was done for a feed, and gives its exit status.
@@ -94,18 +95,18 @@ fn records(length: usize) -> usize {
 }
 
 /// Judges all indexes. One that isn't there has no bytes, unless its file isn't supplied either.
-fn judge_all(asked: &Asked, feed: &Feed) -> Result<[Outcome; FILES.len()], String> {
-    let indexes = read(asked, feed)?;
+fn judge_all(asked: &Asked, feed: &Feed, folder: Option<&Folder>) -> Result<[Outcome; FILES.len()], String> {
+    let indexes = read(asked, feed, folder)?;
     let mut places = indexes.iter();
     all(FILES.map(|file| judge(feed, file, places.next().and_then(Option::as_deref))))
 }
 
 /// Reads the indexes from where they stand.
-fn read(asked: &Asked, feed: &Feed) -> Result<Files<{ FILES.len() }>, String> {
+fn read(asked: &Asked, feed: &Feed, folder: Option<&Folder>) -> Result<Files<{ FILES.len() }>, String> {
     let names = FILES.map(name);
-    match &asked.output {
-        None if feed.place.is_zip => zip::read_beside(&feed.place, names),
-        output => folder::read_files(output.as_ref().unwrap_or(&feed.place.path), names, asked.follow_links),
+    match folder {
+        None => zip::read_beside(&feed.place, names),
+        Some(folder) => folder.read_files(names, asked.follow_links),
     }
 }
 
@@ -113,34 +114,35 @@ fn judge(feed: &Feed, file: File, index: Option<&[u8]>) -> Result<Outcome, Strin
     if feed.left_out(file) && index.is_none() {
         return Ok(Outcome::NotSupplied);
     }
-    let judged = index::judge(file, feed.bytes(file), index.unwrap_or(&[])).map_err(|error| error.to_string())?;
-    Ok(match judged {
+    let judged = memory::told(|| index::judge(file, feed.bytes(file), index.unwrap_or(&[])));
+    Ok(match judged.map_err(|error| error.to_string())? {
         Ok(()) => Outcome::Good(index.map_or(0, <[u8]>::len)),
         Err(refused) => refusal(feed, file, index, refused),
     })
 }
 
 /// Writes all indexes that there are; one that can't be written is no reason to leave out the others.
-fn write_all(asked: &Asked, feed: &Feed) -> Result<[Outcome; FILES.len()], String> {
-    let path = &feed.place.path;
-    let folder = match &asked.output {
-        None if feed.place.is_zip => {
-            let path = safe::name(path.as_os_str().as_bytes());
-            return Err(format!("can't write beside the files in {path}: unpack it, or name a folder with --output"));
-        }
-        output => output.as_ref().unwrap_or(path),
+fn write_all(feed: &Feed, folder: Option<&Folder>) -> Result<[Outcome; FILES.len()], String> {
+    let Some(folder) = folder else {
+        let path = safe::name(feed.place.path.as_os_str().as_bytes());
+        return Err(format!("can't write beside the files in {path}: unpack it, or name a folder with --output"));
     };
-    all(FILES.map(|file| write(feed, file, &folder.join(name(file)))))
+    all(FILES.map(|file| write(feed, file, folder)))
 }
 
-fn write(feed: &Feed, file: File, path: &Path) -> Result<Outcome, String> {
-    if feed.left_out(file) && fs::symlink_metadata(path).is_err() {
+fn write(feed: &Feed, file: File, folder: &Folder) -> Result<Outcome, String> {
+    let name = OsStr::new(name(file));
+    if feed.left_out(file) && matches!(folder.about(name, false), Ok(None) | Err(_)) {
         return Ok(Outcome::NotSupplied);
     }
-    let cannot = |why: String| format!("can't write {}: {why}", safe::name(path.as_os_str().as_bytes()));
-    match index::of(file, feed.bytes(file)).map_err(|error| cannot(error.to_string()))? {
+    let cannot = |why: String| {
+        let path = folder.path_of(name);
+        format!("can't write {}: {why}", safe::name(path.as_os_str().as_bytes()))
+    };
+    match memory::told(|| index::of(file, feed.bytes(file))).map_err(|error| cannot(error.to_string()))? {
         Ok(index) => {
-            whole::put(path, &index).map_err(|error| cannot(error.to_string())).map(|()| Outcome::Good(index.len()))
+            let put = whole::put(folder, name, |out| out.write_all(&index));
+            put.map_err(|error| cannot(error.to_string())).map(|()| Outcome::Good(index.len()))
         }
         Err(refused) => Ok(refusal(feed, file, None, refused)),
     }

@@ -1,14 +1,16 @@
 //! What the page's script reads: JSON in elements that nothing in it can end, in blocks that are parsed when they are shown.
 
 use super::marks::{Headers, Piece, Shown};
+use super::parts::counts;
 use super::{Fault, Subject};
 use crate::explain::meaning;
 use crate::feed::NAMES;
 use crate::fields::value;
+use crate::memory;
 use crate::safe;
 use crate::value::Value;
 use std::borrow::Cow;
-use std::collections::{BTreeSet, HashMap};
+use std::collections::HashMap;
 use std::io::{self, Write};
 use tusuchiy::WIDTHS;
 
@@ -47,15 +49,16 @@ fn element(out: &mut dyn Write, id: &str, write: impl FnOnce(&mut dyn Write) -> 
     out.write_all(b"</script>\n")
 }
 
-/// A list whose elements are written one by one.
+/// A list whose elements are written one by one: all of them at once would take memory for each.
 fn list<Element>(
     out: &mut dyn Write,
     all: impl Iterator<Item = Element>,
-    write: impl Fn(&Element) -> Value,
+    write: impl Fn(&mut dyn Write, Element) -> io::Result<()>,
 ) -> io::Result<()> {
     out.write_all(b"[")?;
     for (place, element) in all.enumerate() {
-        write!(out, "{}{}", if place == 0 { "" } else { "," }, write(&element))?;
+        out.write_all(if place == 0 { b"" } else { b"," })?;
+        write(out, element)?;
     }
     out.write_all(b"]")
 }
@@ -64,30 +67,31 @@ fn list<Element>(
 pub fn write(out: &mut dyn Write, subject: &Subject) -> io::Result<()> {
     let headers = Headers::new(subject.feed);
     let trips = Trips::of(subject, &headers);
-    let blocks = subject.faults.len().div_ceil(BLOCK);
+    let blocks = subject.count().div_ceil(BLOCK);
     element(out, "data", |out| write!(out, "{}", head(subject, blocks)))?;
     element(out, "index", |out| {
-        let numbers =
-            subject.faults.iter().flat_map(|fault| [fault.file, fault.line, fault.number, stop(subject, fault)]);
-        list(out, numbers, |number| Value::size(*number))
+        let numbers = subject.faults().flat_map(|fault| [fault.file, fault.line, fault.number, stop(subject, &fault)]);
+        list(out, numbers, |out, number| write!(out, "{number}"))
     })?;
-    for (place, block) in subject.faults.chunks(BLOCK).enumerate() {
-        let id = format!("block-{place}");
-        element(out, &id, |out| list(out, block.iter(), |fault| row(subject, &headers, &trips, fault)))?;
+    for block in 0..blocks {
+        let faults = subject.faults_at(block * BLOCK..subject.count().min((block + 1) * BLOCK));
+        let write_row = |out: &mut dyn Write, fault| write!(out, "{}", row(subject, &headers, &trips, &fault));
+        element(out, &format!("block-{block}"), |out| list(out, faults, write_row))?;
     }
-    element(out, "stops", |out| list(out, stop_lines(subject), |line| stop_row(subject, &headers, *line)))?;
-    element(out, "trips", |out| list(out, trips.lines.iter(), |lines| trip_row(subject, &headers, lines)))
+    let write_stop = |out: &mut dyn Write, line| write!(out, "{}", stop_row(subject, &headers, line));
+    element(out, "stops", |out| list(out, stop_lines(subject), write_stop))?;
+    let write_trip = |out: &mut dyn Write, place| write_trip(out, subject, &headers, trips.lines(place));
+    element(out, "trips", |out| list(out, 0..trips.places.len(), write_trip))
 }
 
 fn head(subject: &Subject, blocks: usize) -> Value {
-    let numbers: BTreeSet<usize> = subject.faults.iter().map(|fault| fault.number).collect();
-    let meanings =
-        numbers.into_iter().map(|number| Value::List(vec![Value::size(number), Value::text(meaning(number))]));
+    let numbers = counts(subject).into_keys();
+    let meanings = numbers.map(|number| Value::List(vec![Value::size(number), Value::text(meaning(number))]));
     Value::Members(vec![
         ("files", Value::texts(NAMES)),
         ("meanings", Value::List(meanings.collect())),
         ("word", Value::text(subject.word())),
-        ("total", Value::size(subject.faults.len())),
+        ("total", Value::size(subject.count())),
         ("block", Value::size(BLOCK)),
         ("blocks", Value::size(blocks)),
     ])
@@ -117,7 +121,7 @@ fn line_of(record: i32) -> usize {
 fn row(subject: &Subject, headers: &Headers, trips: &Trips, fault: &Fault) -> Value {
     let about = subject.about(fault);
     let lines = headers.lines(fault, &about);
-    let trip = trips.place(subject, headers, fault).map_or(-1, |place| place as i64);
+    let trip = trips.place(subject, headers, fault).map_or(-1, i64::from);
     let mut row = vec![Value::text(about.words), Value::List(lines.iter().map(shown).collect()), Value::Number(trip)];
     row.extend(subject.column(fault).map(Value::text));
     Value::List(row)
@@ -128,6 +132,7 @@ fn shown(line: &Shown) -> Value {
         Piece::Plain(text) => Value::text(text),
         Piece::Marked(text, name) => Value::texts([text, name]),
         Piece::Gap(bytes) => Value::size(*bytes),
+        Piece::Comma => Value::text(","),
     });
     Value::List(vec![Value::size(line.file), Value::size(line.line), Value::List(pieces.collect())])
 }
@@ -158,10 +163,10 @@ fn id<'a>(subject: &Subject<'a>, headers: &Headers, file: usize, line: usize, co
     headers.field(file, line, column).map_or(Cow::Borrowed(&[]), |field| value(&text[field]))
 }
 
-/// The trips that have a finding about time: their lines of stop_times.txt.
+/// The trips that have a finding about time, each with its place in the page, and all their lines of stop_times.txt: by trip, stop_sequence and line.
 struct Trips<'a> {
-    places: HashMap<Cow<'a, [u8]>, usize>,
-    lines: Vec<Vec<usize>>,
+    places: HashMap<Cow<'a, [u8]>, u32>,
+    order: Vec<(u32, u32)>,
 }
 
 /// Rules about the times and the order of a trip's lines.
@@ -171,41 +176,45 @@ fn is_about_time(fault: &Fault) -> bool {
 
 impl<'a> Trips<'a> {
     fn of(subject: &Subject<'a>, headers: &Headers) -> Self {
-        let mut trips = Trips { places: HashMap::new(), lines: Vec::new() };
-        for fault in subject.faults.iter().filter(|fault| is_about_time(fault)) {
-            let next = trips.places.len();
-            trips.places.entry(id(subject, headers, fault.file, fault.line, "trip_id")).or_insert(next);
+        let mut places = HashMap::new();
+        for fault in subject.faults().filter(is_about_time) {
+            let next = places.len() as u32;
+            places.entry(id(subject, headers, fault.file, fault.line, "trip_id")).or_insert(next);
         }
-        if trips.places.is_empty() {
-            return trips;
-        }
-        trips.lines = vec![Vec::new(); trips.places.len()];
-        for line in 2..=subject.feed.line_count(5) {
-            if let Some(&place) = trips.places.get(&id(subject, headers, 5, line, "trip_id")) {
-                trips.lines[place].push(line);
-            }
-        }
-        trips
+        let lines = if places.is_empty() { 0 } else { subject.feed.line_count(5) };
+        let with_place = |line| Some((*places.get(&id(subject, headers, 5, line, "trip_id"))?, line as u32));
+        let mut order = memory::list((2..=lines).filter_map(with_place), lines);
+        order.sort_unstable_by_key(|&(place, line)| (place, number(subject, 5, line as usize, 2), line));
+        Trips { places, order }
     }
 
-    fn place(&self, subject: &Subject, headers: &Headers, fault: &Fault) -> Option<usize> {
+    /// The lines of the trip at a place.
+    fn lines(&self, place: usize) -> impl Iterator<Item = usize> + '_ {
+        let start = self.order.partition_point(|&(of, _)| (of as usize) < place);
+        self.order[start..].iter().take_while(move |&&(of, _)| of as usize == place).map(|&(_, line)| line as usize)
+    }
+
+    fn place(&self, subject: &Subject, headers: &Headers, fault: &Fault) -> Option<u32> {
         let trip = is_about_time(fault).then(|| id(subject, headers, fault.file, fault.line, "trip_id"))?;
         self.places.get(&trip).copied()
     }
 }
 
 /// A trip's id, and for each of its lines in the order of stop_sequence: line, sequence, arrival, departure, stop's line.
-fn trip_row(subject: &Subject, headers: &Headers, lines: &[usize]) -> Value {
-    let mut lines = lines.to_vec();
-    lines.sort_by_key(|&line| (number(subject, 5, line, 2), line));
-    let of_line = |&line: &usize| {
-        let [sequence, arrival, departure] =
-            [2, 3, 4].map(|place| Value::Number(number(subject, 5, line, place).into()));
-        let stop = line_of(number(subject, 5, line, 1));
-        Value::List(vec![Value::size(line), sequence, arrival, departure, Value::size(stop)])
-    };
-    let id = lines.first().map_or(String::new(), |&line| name(subject, headers, 5, line, "trip_id"));
-    Value::List(vec![Value::text(id), Value::List(lines.iter().map(of_line).collect())])
+fn write_trip(
+    out: &mut dyn Write,
+    subject: &Subject,
+    headers: &Headers,
+    lines: impl Iterator<Item = usize>,
+) -> io::Result<()> {
+    let mut lines = lines.peekable();
+    let id = lines.peek().map_or(String::new(), |&line| name(subject, headers, 5, line, "trip_id"));
+    write!(out, "[{}, ", Value::text(id))?;
+    list(out, lines, |out, line| {
+        let [sequence, arrival, departure] = [2, 3, 4].map(|place| number(subject, 5, line, place));
+        write!(out, "[{line}, {sequence}, {arrival}, {departure}, {}]", line_of(number(subject, 5, line, 1)))
+    })?;
+    out.write_all(b"]")
 }
 
 #[cfg(test)]

@@ -1,12 +1,14 @@
 //! Lines of a feed in pieces, with the fields marked that a finding or a refusal is about.
 
 use super::Fault;
-use crate::facts::{breaking, names, About};
-use crate::feed::{Feed, FILES};
+use crate::carets::goes_left;
+use crate::facts::{breaking, About};
+use crate::feed::Feed;
 use crate::fields::{self, split};
+use crate::names::Names;
 use crate::safe;
 use crate::value::Value;
-use std::cell::{OnceCell, RefCell};
+use std::cell::RefCell;
 use std::collections::HashMap;
 use std::ops::Range;
 
@@ -32,6 +34,8 @@ pub enum Piece {
     Marked(String, String),
     /// So many bytes are left out.
     Gap(usize),
+    /// What stands between two fields. The page shows what lies between two of these, or beside a gap, in a direction of its own.
+    Comma,
 }
 
 /// A line longer than this is split once, however many findings name it: one of 16 MB may be named by 65,535.
@@ -43,7 +47,7 @@ type Fields = Vec<Range<usize>>;
 /// The headers of a feed, and its long lines by file and line, split once.
 pub struct Headers<'a> {
     feed: &'a Feed,
-    names: [OnceCell<Vec<Vec<u8>>>; FILES],
+    names: Names<'a>,
     long: RefCell<HashMap<(usize, usize), Fields>>,
 }
 
@@ -52,13 +56,12 @@ type Mark = (Range<usize>, String);
 
 impl<'a> Headers<'a> {
     pub fn new(feed: &'a Feed) -> Self {
-        Headers { feed, names: Default::default(), long: RefCell::default() }
+        Headers { feed, names: Names::new(feed), long: RefCell::default() }
     }
 
     /// Where the value of a column stands in a line, if it does.
     pub fn field(&self, file: usize, line: usize, column: &str) -> Option<Range<usize>> {
-        let header = self.names[file - 1].get_or_init(|| names(self.feed, file));
-        let place = header.iter().position(|name| name == column.as_bytes())?;
+        let place = self.names.place(file, column)?;
         let text = self.feed.line(file, line)?;
         if text.len() <= LONG {
             return split(text).ok()?.into_iter().nth(place);
@@ -104,7 +107,7 @@ impl<'a> Headers<'a> {
 
     fn shown(&self, file: usize, line: usize, marks: Vec<Mark>) -> Option<Shown> {
         let text = self.feed.line(file, line)?;
-        Some(Shown { file, line, pieces: pieces(text, marks) })
+        Some(Shown { file, line, pieces: apart(pieces(text, marks)) })
     }
 }
 
@@ -227,6 +230,45 @@ fn plain(pieces: &mut Vec<Piece>, text: &[u8], whole: bool) {
     ]);
 }
 
+/// The same with the fields of a line apart, if letters in it go from right to left: such a letter would turn all around it, commas, digits and
+/// other fields. In marks a comma is no end of a field.
+fn apart(pieces: Vec<Piece>) -> Vec<Piece> {
+    let goes_left =
+        |piece: &Piece| matches!(piece, Piece::Plain(text) | Piece::Marked(text, _) if text.contains(goes_left));
+    if !pieces.iter().any(goes_left) {
+        return pieces;
+    }
+    let (mut all, mut quoted) = (Vec::new(), false);
+    for piece in pieces {
+        match piece {
+            Piece::Plain(text) => cut(&text, &mut quoted, &mut all),
+            piece => {
+                quoted = match &piece {
+                    Piece::Marked(text, _) => quoted ^ has_odd_marks(text),
+                    _ => false,
+                };
+                all.push(piece);
+            }
+        }
+    }
+    all
+}
+
+fn has_odd_marks(text: &str) -> bool {
+    text.matches('"').count() % 2 == 1
+}
+
+/// Cuts a text at each comma that isn't in marks.
+fn cut(text: &str, quoted: &mut bool, all: &mut Vec<Piece>) {
+    let mut parts = text.split(|char| {
+        *quoted ^= char == '"';
+        char == ',' && !*quoted
+    });
+    let plain = |part: &str| (!part.is_empty()).then(|| Piece::Plain(part.to_string()));
+    all.extend(parts.next().and_then(plain));
+    parts.for_each(|part| all.extend([Some(Piece::Comma), plain(part)].into_iter().flatten()));
+}
+
 #[cfg(test)]
 mod tests {
     use super::*;
@@ -262,5 +304,20 @@ mod tests {
             plain(",z"),
         ];
         assert_eq!(pieces(&text, vec![mark(1001..2001)]), wanted);
+    }
+
+    /// Fields stand apart where letters go from right to left, a field in marks with all that is in it; else the line is as it was.
+    #[test]
+    fn fields_of_a_line_that_goes_left() {
+        let hebrew = "א,\"ב, ג\"\"\",,d".as_bytes();
+        let wanted = [plain("א"), Piece::Comma, plain("\"ב, ג\"\"\""), Piece::Comma, Piece::Comma, plain("d")];
+        assert_eq!(apart(pieces(hebrew, vec![])), wanted);
+        // The comma in marks stands behind a byte that is marked, and the first one between two marks.
+        let pieces = vec![marked("א"), plain(",\"b"), marked("\\x09"), plain(",c\",d"), Piece::Gap(7), plain(",e\"")];
+        let field = [plain("\"b"), marked("\\x09"), plain(",c\"")];
+        let rest = [Piece::Comma, plain("d"), Piece::Gap(7), Piece::Comma, plain("e\"")];
+        let wanted: Vec<Piece> = [marked("א"), Piece::Comma].into_iter().chain(field).chain(rest).collect();
+        assert_eq!(apart(pieces), wanted);
+        assert_eq!(apart(vec![plain("a,b"), marked("c")]), [plain("a,b"), marked("c")]);
     }
 }

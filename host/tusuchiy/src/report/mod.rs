@@ -6,16 +6,19 @@ mod marks;
 mod parts;
 
 use crate::facts::{About, Facts};
-use crate::feed::Feed;
+use crate::feed::{Feed, NAMES};
+use crate::folder::{self, Folder};
 use crate::many;
-use crate::memory;
 use crate::paging::{self, Finding, Outcome, Refusal, Report};
 use crate::progress;
 use crate::refusals::Reasons;
 use crate::style::{self, When};
-use crate::{hidden, safe, source, text};
-use std::fs::File;
+use crate::{hidden, safe, source, text, whole};
+use std::ffi::OsStr;
+use std::fs::{self, File, Metadata};
 use std::io::{self, BufWriter, IsTerminal, Write};
+use std::ops::Range;
+use std::os::fd::AsFd;
 use std::os::unix::ffi::OsStrExt;
 use std::path::{Path, PathBuf};
 use tusuchiy::Profile;
@@ -40,27 +43,65 @@ pub fn run(asked: &Asked) -> Result<u8, String> {
         return Err("report writes a page, and a terminal shows none: give --output FILE".to_string());
     }
     let feed = source::read(&asked.feed, asked.follow_links)?;
+    let cannot =
+        |path: &Path, error: io::Error| format!("can't write {}: {error}", safe::name(path.as_os_str().as_bytes()));
+    // Asked first, so that nobody waits for a check in vain.
+    let place =
+        asked.output.as_ref().map(|path| place(path, &feed).map_err(|error| cannot(path, error))).transpose()?;
     let progress = progress::start(&feed);
     let report = paging::check(&feed, None, asked.profile, &progress)?;
     drop(progress);
-    match &asked.output {
-        None => many::write(|out| write(out, &feed, &report))?,
-        Some(path) => {
-            to_file(path, &feed, &report)?;
+    match (&asked.output, place) {
+        (Some(path), Some((folder, name))) => {
+            to_file(&folder, name, &feed, &report).map_err(|error| cannot(path, error))?;
             let verdict = text::verdict(&report, style::of_output(When::Auto, true));
             many::write(|out| writeln!(out, "{verdict}"))?;
         }
+        _ => many::write(|out| write(out, &feed, &report))?,
     }
     Ok(many::status(&report))
 }
 
-fn to_file(path: &Path, feed: &Feed, report: &Report) -> Result<(), String> {
-    let written = File::create(path).and_then(|file| {
+fn to_file(folder: &Folder, name: &OsStr, feed: &Feed, report: &Report) -> io::Result<()> {
+    whole::put(folder, name, |file| {
         let mut out = BufWriter::new(file);
         write(&mut out, feed, report)?;
         out.flush()
-    });
-    written.map_err(|error| format!("can't write {}: {error}", safe::text(path.as_os_str().as_bytes())))
+    })
+}
+
+/// The folder of the page and its name there, if a page may take the place of what stands there: nothing, or a file that isn't the feed's.
+fn place<'p>(path: &'p Path, feed: &Feed) -> io::Result<(Folder, &'p OsStr)> {
+    let wrong = |why: &str| Err(io::Error::other(why));
+    let name = path.file_name().filter(|_| !path.as_os_str().as_bytes().ends_with(b"/"));
+    let Some(name) = name else { return wrong("it is no name of a file") };
+    let parent = path.parent().filter(|parent| !parent.as_os_str().is_empty());
+    let folder = Folder::open(parent.unwrap_or(Path::new(".")))?;
+    let about = folder.about(name, true)?;
+    if about.as_ref().is_some_and(|about| !about.is_file()) {
+        return wrong("it isn't a regular file; without --output the page goes to standard output");
+    }
+    let own = File::from(io::stdout().as_fd().try_clone_to_owned()?).metadata()?;
+    if about.as_ref().is_some_and(|about| folder::same(about, &own)) {
+        return wrong("standard output goes there; without --output the page does");
+    }
+    if is_of(feed, &folder, name, about.as_ref()) {
+        return wrong("it is of the feed");
+    }
+    Ok((folder, name))
+}
+
+/// Is this the zip file, one of the six files, under whatever name, or the place where one would stand?
+fn is_of(feed: &Feed, folder: &Folder, name: &OsStr, about: Option<&Metadata>) -> bool {
+    let is =
+        |input: Option<Metadata>| matches!((about, input), (Some(about), Some(input)) if folder::same(about, &input));
+    let is_input = |opened: &Folder, known: &OsStr| {
+        opened.is(folder) && name == known || is(opened.about(known, true).ok().flatten())
+    };
+    match &feed.opened {
+        Some(opened) => NAMES.iter().any(|known| is_input(opened, OsStr::new(known))),
+        None => feed.place.is_zip && is(fs::metadata(&feed.place.path).ok()),
+    }
 }
 
 /// A finding or a refusal, which may have a column.
@@ -72,13 +113,12 @@ struct Fault {
     number: usize,
 }
 
-/// What the page is about: the feed, what the check answered, and all faults in their order.
+/// What the page is about: the feed, and what the check answered.
 struct Subject<'a> {
     feed: &'a Feed,
     report: &'a Report,
     facts: Facts<'a>,
     reasons: Reasons<'a>,
-    faults: Vec<Fault>,
 }
 
 impl From<&Refusal> for Fault {
@@ -97,12 +137,32 @@ impl From<&Finding> for Fault {
 
 impl<'a> Subject<'a> {
     fn new(feed: &'a Feed, report: &'a Report) -> Self {
-        let faults = match &report.outcome {
-            Outcome::Accepted => Vec::new(),
-            Outcome::Refused { faults, .. } => memory::list(faults.iter().map(Fault::from), faults.len()),
-            Outcome::Findings { list, .. } => memory::list(list.iter().map(Fault::from), list.len()),
-        };
-        Subject { feed, report, facts: Facts::new(feed, &report.tables), reasons: Reasons::new(feed), faults }
+        Subject { feed, report, facts: Facts::new(feed, &report.tables), reasons: Reasons::new(feed) }
+    }
+
+    /// All findings, or all faults of a refused feed.
+    fn lists(&self) -> (&'a [Finding], &'a [Refusal]) {
+        match &self.report.outcome {
+            Outcome::Accepted => (&[], &[]),
+            Outcome::Findings { list, .. } => (list, &[]),
+            Outcome::Refused { faults, .. } => (&[], faults),
+        }
+    }
+
+    /// How many there are.
+    fn count(&self) -> usize {
+        let (findings, faults) = self.lists();
+        findings.len() + faults.len()
+    }
+
+    /// All of them in their order, or those at these places.
+    fn faults(&self) -> impl Iterator<Item = Fault> + 'a {
+        self.faults_at(0..self.count())
+    }
+
+    fn faults_at(&self, places: Range<usize>) -> impl Iterator<Item = Fault> + 'a {
+        let (findings, faults) = self.lists();
+        places.map(|place| findings.get(place).map_or_else(|| Fault::from(&faults[place]), Fault::from))
     }
 
     /// What the verdict names, if the feed is refused.
@@ -180,7 +240,7 @@ fn part(out: &mut dyn Write, name: &str, subject: &Subject) -> io::Result<()> {
         "plain" => parts::plain(subject),
         "rules" => parts::rules(subject),
         // Where there is no fault, nothing is said about faults.
-        "none" => if subject.faults.is_empty() { " hidden" } else { "" }.to_string(),
+        "none" => if subject.count() == 0 { " hidden" } else { "" }.to_string(),
         "heading" => if subject.refused() { "What is refused" } else { "Findings" }.to_string(),
         "word" => subject.word().to_string(),
         "version" => env!("CARGO_PKG_VERSION").to_string(),

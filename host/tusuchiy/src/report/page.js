@@ -155,11 +155,19 @@ function meaningOf(number) {
 function oneLine([file, line, pieces], ownFile, ownLine) {
   const own = file === ownFile && line === ownLine;
   const place = file === ownFile ? `${line}` : `${data.files[file - 1]} ${line}`;
-  const text = pieces.map((piece) =>
-    typeof piece === "string" ? piece
-      : typeof piece === "number" ? el("span", { class: "gap" }, ` … ${grouped(piece)} bytes … `)
-        : el("mark", { class: piece[0] ? false : "empty", title: piece[1] }, piece[0]));
-  return el("div", { class: own ? "one-line own-line" : "one-line other" }, el("span", { class: "place" }, place), el("span", { class: "line-text" }, ...text));
+  return el("div", { class: own ? "one-line own-line" : "one-line other" }, el("span", { class: "place" }, place), el("span", { class: "line-text" }, ...lineText(pieces)));
+}
+
+// A line's pieces as elements. What lies between commas that stand alone is a field, or a line without letters that go from right to left: its
+// direction is its own, so that fields stand in the line's order.
+function lineText(pieces) {
+  const parts = [el("bdi")];
+  for (const piece of pieces) {
+    if (piece === ",") parts.push(",", el("bdi"));
+    else if (typeof piece === "number") parts.push(el("span", { class: "gap" }, ` … ${grouped(piece)} bytes … `), el("bdi"));
+    else parts[parts.length - 1].append(typeof piece === "string" ? piece : el("mark", { class: piece[0] ? false : "empty", title: piece[1] }, piece[0]));
+  }
+  return parts.filter((part) => part === "," || part.hasChildNodes());
 }
 
 // The time diagram of a trip: time goes right, the trip's lines go down in the order of stop_sequence.
@@ -180,10 +188,19 @@ function rowsAround(lines, line) {
 
 const timed = (one) => one[2] >= 0 && one[3] >= 0;
 
-// The timed line before in the order of sequence that departs last, if that is after this one arrives.
-function fallsFrom(lines, one) {
-  const before = lines.filter((other) => timed(other) && other[1] < one[1] && other[3] > one[2]);
-  return before.reduce((latest, other) => (!latest || other[3] > latest[3] ? other : latest), null);
+// For each line that falls the timed line with a smaller sequence that departs last, if that is after it arrives. The lines are in the order of
+// sequence and are walked along once: a trip may have 65,535.
+function fallsOf(lines) {
+  const falls = new Map();
+  // The one that departs last of all lines so far, and of those with a smaller sequence than the line that is looked at.
+  let latest = null, before = null, sequence = null;
+  for (const one of lines) {
+    if (one[1] !== sequence) { before = latest; sequence = one[1]; }
+    if (!timed(one)) continue;
+    if (before && before[3] > one[2]) falls.set(one, before);
+    if (!latest || one[3] > latest[3]) latest = one;
+  }
+  return falls;
 }
 
 function ticks(from, until, most) {
@@ -202,21 +219,21 @@ function drawTrip(details) {
 }
 
 function diagram(id, all, line, width) {
-  const lines = rowsAround(all, line), height = 26, top = 30, bottom = top + lines.length * height;
+  const lines = rowsAround(all, line), falls = fallsOf(all), height = 26, top = 30, bottom = top + lines.length * height;
   const left = Math.min(260, width * .42), right = width - 34;
   const times = lines.flatMap((one) => [one[2], one[3]]).filter((time) => time >= 0);
   const from = Math.min(...times), until = Math.max(...times, from + 1);
   const x = (time) => left + 14 + (time - from) / (until - from) * (right - left - 14);
   const y = (place) => top + place * height + height / 2;
   const at = { x, y, left, width, height, most: Math.floor(left / 7) - 4 };
-  const picture = draw("svg", { role: "img", viewBox: `0 0 ${width} ${bottom + 8}`, height: bottom + 8, "aria-label": spoken(id, all, line) });
+  const picture = draw("svg", { role: "img", viewBox: `0 0 ${width} ${bottom + 8}`, height: bottom + 8, "aria-label": spoken(id, all, falls, line) });
   for (const time of times.length ? ticks(from, until, Math.max(2, Math.floor((right - left) / 80))) : []) {
     picture.append(draw("path", { class: "grid", d: `M${x(time)} ${top - 6}V${bottom}` }),
       draw("text", { x: x(time), y: top - 12, "text-anchor": "middle" }, clock(time)));
   }
   lines.forEach((one, place) => picture.append(...drawRow(one, place, { ...at, here: one[0] === line })));
   picture.append(...drawRuns(lines, at));
-  lines.forEach((one, place) => picture.append(...drawFall(all, lines, one, place, at)));
+  lines.forEach((one, place) => picture.append(...drawFall(falls.get(one), lines, one, place, at)));
   lines.forEach((one, place) => {
     if (timed(one)) picture.append(draw("path", { class: one[3] < one[2] ? "back" : "wait", d: `M${x(one[2])} ${y(place)}H${x(one[3]) + .01}` }));
   });
@@ -249,8 +266,7 @@ function drawRow(one, place, { x, y, left, width, height, most, here }) {
 }
 
 // The step that falls: from a departure to an arrival before it.
-function drawFall(all, lines, one, place, { x, y }) {
-  const before = timed(one) ? fallsFrom(all, one) : null;
+function drawFall(before, lines, one, place, { x, y }) {
   if (!before) return [];
   // A row that isn't shown lies above the first one.
   const from = [x(before[3]), y(lines.indexOf(before))], to = [x(one[2]), y(place)];
@@ -262,12 +278,10 @@ function drawFall(all, lines, one, place, { x, y }) {
     draw("path", { class: "head", d: `M${to[0]} ${to[1]}L${corner(1)}L${corner(-1)}z` })];
 }
 
-function spoken(id, all, line) {
-  const falls = all.filter((one) => timed(one) && fallsFrom(all, one)).slice(0, 3).map((one) => {
-    const before = fallsFrom(all, one);
-    return `line ${one[0]} arrives at ${clock(one[2], true)}, before line ${before[0]} departs at ${clock(before[3], true)}`;
-  });
-  return `Time diagram of the trip ${id} with ${all.length} lines${line ? `, line ${line} marked` : ""}${falls.length ? ": " + falls.join("; ") : ""}`;
+function spoken(id, all, falls, line) {
+  const first = [...falls].slice(0, 3).map(([one, before]) =>
+    `line ${one[0]} arrives at ${clock(one[2], true)}, before line ${before[0]} departs at ${clock(before[3], true)}`);
+  return `Time diagram of the trip ${id} with ${all.length} lines${line ? `, line ${line} marked` : ""}${first.length ? ": " + first.join("; ") : ""}`;
 }
 
 // The map.

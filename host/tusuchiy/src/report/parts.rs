@@ -102,8 +102,8 @@ fn profile(subject: &Subject) -> String {
 
 /// What findings say of a feed: those that only the profile has say less.
 fn unfit(subject: &Subject) -> &'static str {
-    let plain = |fault: &Fault| Rule::new(fault.number).is_some_and(|rule| rule.profile() == Profile::Plain);
-    if subject.faults.iter().any(plain) {
+    let plain = |fault: Fault| Rule::new(fault.number).is_some_and(|rule| rule.profile() == Profile::Plain);
+    if subject.faults().any(plain) {
         "All files can be read, but something in them doesn't fit together. Not accepted until each finding is mended."
     } else {
         "All files can be read and fit together, but a departure board can't show all of it. Not accepted for boards until each finding is mended."
@@ -113,7 +113,7 @@ fn unfit(subject: &Subject) -> &'static str {
 /// Of a refused feed: how many faults there are and what to do, what the verdict names, and what wasn't judged.
 fn refusal(subject: &Subject) -> String {
     let Some(first) = subject.first() else { return String::new() };
-    let total = subject.faults.len();
+    let total = subject.count();
     let these = if total == 1 { "it" } else { "all of these" };
     let lead = |kind: &str, words: &str| format!("\n<p class=\"lead {kind}\">{}</p>", escaped(words));
     let advice = format!("{}: mend {these}, then check again for findings.", several(total, "fault"));
@@ -198,15 +198,15 @@ fn unread(subject: &Subject) -> String {
 }
 
 /// How many faults there are of each number.
-fn counts(faults: &[Fault]) -> BTreeMap<usize, usize> {
+pub fn counts(subject: &Subject) -> BTreeMap<usize, usize> {
     let mut counts = BTreeMap::new();
-    faults.iter().for_each(|fault| *counts.entry(fault.number).or_insert(0) += 1);
+    subject.faults().for_each(|fault| *counts.entry(fault.number).or_insert(0) += 1);
     counts
 }
 
 /// The totals by rule; the script makes each number a filter.
 pub fn totals(subject: &Subject) -> String {
-    let counts = counts(&subject.faults);
+    let counts = counts(subject);
     let most = counts.values().copied().max().unwrap_or(1);
     let row = |(&number, &count): (&usize, &usize)| {
         // A bar is seen however short it is.
@@ -235,36 +235,38 @@ fn capital(word: &str) -> String {
     first.to_uppercase() + rest
 }
 
-/// A line in pieces, what is marked in it marked.
+/// A line in pieces, what is marked in it marked, and each field in a direction of its own where they stand apart.
 fn pieces(pieces: &[Piece]) -> String {
     let markup = |piece: &Piece| match piece {
         Piece::Plain(text) => escaped(text),
         Piece::Marked(text, _) => {
             format!("<mark{}>{}</mark>", if text.is_empty() { " class=\"empty\"" } else { "" }, escaped(text))
         }
-        Piece::Gap(bytes) => format!(" … {} bytes … ", grouped(*bytes)),
+        Piece::Gap(bytes) => format!("</bdi> … {} bytes … <bdi>", grouped(*bytes)),
+        Piece::Comma => "</bdi>,<bdi>".to_string(),
     };
-    pieces.iter().map(markup).collect()
+    let line: String = pieces.iter().map(markup).collect();
+    format!("<bdi>{line}</bdi>").replace("<bdi></bdi>", "")
 }
 
 /// The first faults as a plain list.
 pub fn plain(subject: &Subject) -> String {
     let headers = Headers::new(subject.feed);
-    let item = |fault: &Fault| {
-        let about = subject.about(fault);
-        let lines = headers.lines(fault, &about);
+    let item = |fault: Fault| {
+        let about = subject.about(&fault);
+        let lines = headers.lines(&fault, &about);
         let own = lines.iter().find(|shown| (shown.file, shown.line) == (fault.file, fault.line));
         format!(
             "<li><b>{}</b>, {} {}: {}{}</li>\n",
-            escaped(&place(subject, fault)),
+            escaped(&place(subject, &fault)),
             word(fault.number),
             fault.number,
             escaped(&about.words),
             own.map_or(String::new(), |own| format!("<br><code>{}</code>", pieces(&own.pieces)))
         )
     };
-    let items: String = subject.faults.iter().take(PLAIN).map(item).collect();
-    let more = subject.faults.len().saturating_sub(PLAIN);
+    let items: String = subject.faults().take(PLAIN).map(item).collect();
+    let more = subject.count().saturating_sub(PLAIN);
     let more = if more == 0 { String::new() } else { format!("<p>And {} more.</p>", grouped(more)) };
     format!("<ol>\n{items}</ol>{more}")
 }
@@ -281,7 +283,7 @@ pub fn rules(subject: &Subject) -> String {
             marked_up(body)
         )
     };
-    counts(&subject.faults).keys().map(|&number| article(number)).collect()
+    counts(subject).keys().map(|&number| article(number)).collect()
 }
 
 /// The little Markdown that docs/RULES.md has: paragraphs, lines, bold words, code.

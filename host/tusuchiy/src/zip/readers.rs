@@ -4,14 +4,16 @@ use super::*;
 use cases::zips::change;
 use std::collections::BTreeMap;
 use std::fs;
+use std::ops::Range;
 use std::os::unix::ffi::OsStrExt;
 use std::path::PathBuf;
 use std::process::{Command, Output, Stdio};
 use std::sync::atomic::{AtomicUsize, Ordering};
 use std::thread;
 
-/// How many zip files are made, unless TUSUCHIY_ZIPS says so, and to how many of those that are read each program is run that takes one at a time.
-const MADE: u64 = 3000;
+/// The seeds of the zip files that are made, and on how many of those that are read each program is run that takes one at a time. With others,
+/// as TUSUCHIY_ZIPS=3000..5000, it is run on all.
+const SEEDS: Range<u64> = 0..3000;
 const ONE_BY_ONE: usize = 240;
 
 /// Programs that take one zip file, as bash commands in which $1 is its path.
@@ -107,21 +109,21 @@ fn difference(feed: &Feed, unpacked: &Unpacked) -> Option<String> {
     };
     let folder = &feed.place.folder;
     let of_name = |name: &str| files.get(&[folder, name.as_bytes()].concat()).map(|bytes| &bytes[..]);
-    let differs = |number: &usize| of_name(NAMES[*number]) != feed.files[*number].as_deref();
+    let differs = |number: &usize| of_name(NAMES[*number]) != feed.supplied()[*number];
     if let Some(number) = (0..NAMES.len()).find(differs) {
         return Some(format!("{} differs", NAMES[number]));
     }
-    let wanted = feed.files.iter().flatten().count() + feed.unread.count;
+    let wanted = feed.supplied().iter().flatten().count() + feed.unread.count;
     let there = files.keys().filter(|name| name.starts_with(folder)).count();
     (there != wanted).then(|| format!("{there} files, and not {wanted}"))
 }
 
 /// Makes zip files and keeps those that are read. All that are as a writer makes them are among them, and some of the others.
-fn kept(folder: &Path, made: u64) -> BTreeMap<u64, Feed> {
+fn kept(folder: &Path, seeds: Range<u64>) -> BTreeMap<u64, Feed> {
     let path = folder.join("made");
     let mut feeds = BTreeMap::new();
-    let mut changed = 0;
-    for seed in 0..made {
+    let (mut changed, made) = (0, seeds.end - seeds.start);
+    for seed in seeds {
         let (bytes, is_sound) = change::zip(seed);
         fs::write(&path, bytes).expect("a file");
         match read(&path) {
@@ -161,11 +163,15 @@ fn told(folder: &Path, seeds: &[u64], step: usize) -> Vec<(&'static str, BTreeMa
 
 #[test]
 fn what_is_read_is_unpacked_alike_by_all() {
-    let made = std::env::var("TUSUCHIY_ZIPS").map_or(MADE, |count| count.parse().expect("a number"));
+    let others = std::env::var("TUSUCHIY_ZIPS").ok().map(|text| {
+        let (first, end) = text.split_once("..").expect("two seeds");
+        first.parse().expect("a seed")..end.parse().expect("a seed")
+    });
+    let is_all = others.is_some();
     let folder = Temporary::new("readers");
-    let feeds = kept(&folder.0, made);
+    let feeds = kept(&folder.0, others.unwrap_or(SEEDS));
     let (seeds, count) = (feeds.keys().copied().collect::<Vec<_>>(), feeds.len());
-    let step = if made == MADE { count.div_ceil(ONE_BY_ONE) } else { 1 };
+    let step = if is_all { 1 } else { count.div_ceil(ONE_BY_ONE) };
     let mut wrong = Vec::new();
     for (name, unpacked) in told(&folder.0, &seeds, step) {
         println!("{name}: {} zip files", unpacked.len());

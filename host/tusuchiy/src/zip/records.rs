@@ -56,7 +56,8 @@ const DOS_KINDS: u64 = 0x458;
 /// owners, permissions, Java's mark and padding.
 const LARGE_FIELD: u64 = 1;
 const NAME_FIELD: u64 = 0x7075;
-const OTHER_FIELDS: [u64; 9] = [0x5455, 0x000A, 0x5855, 0x7855, 0x7875, 0x4453, 0xCAFE, 0xA11E, 0xD935];
+const TIMES_FIELD: u64 = 0x5455;
+const OTHER_FIELDS: [u64; 9] = [TIMES_FIELD, 0x000A, 0x5855, 0x7855, 0x7875, 0x4453, 0xCAFE, 0xA11E, 0xD935];
 
 /// A member as both of its records tell of it.
 pub struct Member {
@@ -303,6 +304,8 @@ fn check_extra(extra: &[u8]) -> io::Result<()> {
         let field = take(&mut rest, number(head, 2, 2) as usize).ok_or_else(damaged)?;
         match number(head, 0, 2) {
             LARGE_FIELD => return Err(bad(LARGE)),
+            // On one without any times bsdtar fails.
+            TIMES_FIELD if field.is_empty() => return Err(damaged()),
             NAME_FIELD => {
                 // A version and a checksum stand before it.
                 let other = safe::name(field.get(5..).unwrap_or_default());

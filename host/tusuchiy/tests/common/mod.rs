@@ -2,6 +2,7 @@
 #![allow(dead_code)]
 
 pub mod json;
+pub mod memory;
 pub mod zip;
 
 use json::Json;
@@ -51,9 +52,15 @@ pub fn said(output: &Output) -> &str {
     std::str::from_utf8(&output.stderr).expect("UTF-8 on standard error")
 }
 
+/// The exit status. A fault that the last resort made a status of is one all the same.
 pub fn status(output: &Output) -> i32 {
+    let said = String::from_utf8_lossy(&output.stderr);
+    assert!(!said.contains(FAULT), "{said}");
     output.status.code().expect("an exit status")
 }
+
+/// What the last resort says of an abort and the like.
+pub const FAULT: &str = "a fault of the command itself";
 
 pub fn example(name: &str) -> String {
     format!("{}/../../examples/{name}", env!("CARGO_MANIFEST_DIR"))
