@@ -5,16 +5,16 @@ use mathlib.Core.Path.{_≡_, refl, subst}
 use mathlib.Core.Bool.{Bool, true, false, cond}
 use mathlib.Core.List.{List, [], _∷_, map, List·Memᴰ}
 use lib.Dec.{T, leb, ltb, eqb}
-use lib.ListN.{length, getD, take, drop, length-take, length-drop}
+use lib.ListN.{length, getD, drop, length-take, length-drop}
 use borrow.Author.Tests.{leb-true, ltb-true, ltb-false, eqb-true}
 use Rattle.meaning.specs.declared.Bounds.{Bounds}
 use Rattle.meaning.specs.declared.Refusal.{Refusal}
 use Rattle.meaning.specs.declared.Verdict.{Verdict}
 use Rattle.meaning.specs.declared.Verdict.the-variants.{Readable, Unreadable}
-use Rattle.meaning.specs.Bytes.{Line, bounds, part, start, next, cuts, endOf, lineOf, linesFrom, linesOf, startOf, fields, values, countLf}
+use Rattle.meaning.specs.Bytes.{Line, bounds, part, start, next, cuts, endOf, lineOf, linesFrom, linesOf, startOf, fields, countLf}
 use Rattle.meaning.specs.Columns.{places, headerOf}
 use Rattle.meaning.specs.Refusals.{Test, Claim, maxBytes, maxLines, rule1, rule2, rule11, rule12, rule13, textTests, headTests, valueTests, lineTests, inFile, refusal}
-use Rattle.meaning.specs.Promises.{fieldCount, testsOn, noLine, testOf, noClaim, FirstBroken}
+use Rattle.meaning.specs.Promises.{fieldCount, testsOn, noLine, testOf, noClaim}
 use Rattle.meaning.proofs.Computed.{all, mem-all, and-left, and-right, is-true}
 use Rattle.meaning.proofs.Laws.{getD-mem}
 use Rattle.meaning.proofs.ListLaws.{and-both}

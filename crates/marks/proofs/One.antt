@@ -1,5 +1,5 @@
 -- Two lists that mark alike are equal.
-use Prim.Native.Nat.{ℕ, zero, suc, _+_, _*_, _/_, _%_, _^_, _≤_, _<_}
+use Prim.Native.Nat.{ℕ, zero, suc, _+_, _*_, _/_, _%_, _^_, _<_}
 use mathlib.Core.Path.{_≡_, refl, sym, ap, _∙_}
 use mathlib.Core.List.{List}
 use mathlib.Core.Bool.{Bool, true, false}
@@ -9,7 +9,7 @@ use borrow.Author.Tests.{eqb-true, eqb-false, leb-true, leb-false}
 use lib.Dec.{eqb, leb}
 use lib.ListN.{length, getD}
 use lib.Seq.{ext-getD}
-use Rattle.marks.specs.Marks.{marked, Blank, OneMore, MarkedIf}
+use Rattle.marks.specs.Marks.{marked}
 use Rattle.marks.specs.One.{Narrow, OneBlank, OneMarked, OneMarkedIf}
 use Rattle.marks.proofs.Bits.{unmarked-past}
 use Rattle.marks.proofs.Tests.{marked-yes}

@@ -4,8 +4,7 @@ use Rattle.text.specs.Fields.{fieldsFrom}
 use Rattle.text.proofs.Fields.{field-found, field-none}
 use Rattle.meaning.specs.declared.Bounds.{Bounds}
 use Rattle.meaning.specs.Bytes.{fields}
-use Rattle.meaning.specs.Columns.{fieldAt}
-use mathlib.Core.Path.{_≡_, refl, sym, ap, _∙_}
+use mathlib.Core.Path.{_≡_, sym, ap, _∙_}
 use Prim.Native.Nat.{_≤_, _<_, _-_, _+_}
 use native.Mathlib.Omega.{arith}
 use lib.ListN.{length, drop}

@@ -5,7 +5,7 @@ use Rattle.meaning.specs.Bytes.{part, values}
 use mathlib.Core.Path.{_∙_}
 use Prim.Native.Nat.{_≤_, _-_, _+_}
 use native.Mathlib.Omega.{arith}
-use lib.ListN.{length, drop}
+use lib.ListN.{drop}
 use borrow.Author.Needs.{needs}
 use Rattle.columns.proofs.near_names.Statement.{statement}
 use Rattle.columns.proofs.near_names.Tie as tie
