@@ -26,6 +26,7 @@ use Rattle.reading.proofs.Heads.{good-under}
 use Rattle.reading.proofs.First.{positive}
 use Rattle.reading.proofs.Values.{line-same}
 use Rattle.reading.proofs.Speaks.{line-stop, line-on}
+use Rattle.reading.proofs.Files.{head-positive}
 use Rattle.meaning.specs.declared.Place.{Place}
 use Rattle.listing.specs.Handing.{State, adding}
 use Rattle.listing.proofs.Laws.{adding-append}
@@ -120,10 +121,6 @@ whole-three f p w t1 t2 t3 s0 s1 s2 s3 e1 e2 e3 h1 h2 h3 =
     ∙ sym (adding-append quad p one (two ++ four) s0 ∙ adding-append quad p two four (adding quad p one s0))
 
 -- ---- a header
-
-head-positive : (f : ℕ) (h : List ℕ) → T (all positive (headTests f h))
-unfolding headTests textTests
-head-positive f h = tt
 
 module _ (f : ℕ) (h : List ℕ) (t : Fault) (e : t ≡ first (headTests f h)) where
   pub head-fault : faultOf f 1 t ≡ faultAt f 1 (headTests f h)

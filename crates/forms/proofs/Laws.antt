@@ -25,6 +25,9 @@ use Rattle.meaning.specs.declared.Date.the-variants.{Day, NoDate}
 use Rattle.meaning.specs.Lists.{same}
 use Rattle.meaning.specs.Bytes.{content, value}
 use Rattle.meaning.specs.Forms.{digits, withNumber, sequenceText, clockOf, clock, timeText, isDay, dateText, noMark, formed, toPoint, pointed, wholeDigits, tailDigits, signed, scaled, sizeText, degreesText, digitText, routeTypeText}
+use Rattle.meaning.proofs.Times.{not-seconds, not-day}
+use Rattle.meaning.proofs.Forms.{not-picked}
+use Rattle.meaning.proofs.Coordinates.{not-degrees, point-within}
 use Rattle.digits.specs.declared.Decimal.{Decimal}
 use Rattle.digits.specs.declared.Decimal.the-variants.{Kept, NoDecimal}
 use Rattle.digits.specs.Decimals.{decimalsOf}
@@ -141,29 +144,6 @@ sized-is limit below a b h g = rw (← sequence-is a h g, digits-join 0 a b) (wh
     whole (Value w) = rw (digits-from w b) (tail w (digits 0 b) refl)
     whole NoNumber = refl
 
--- the digits' counts
-pub point-within : (v : List ℕ) → toPoint v ≤ length v
-unfolding toPoint
-point-within [] = omega arith
-point-within (b ∷ r) = go (eqb b 46) (point-within r)
-  where
-    go : (t : Bool) → toPoint r ≤ length r → cond t 0 (toPoint r + 1) ≤ suc (length r)
-    go true h = omega arith
-    go false h = omega arith
-
--- an answer that says nothing is none that says something
-no-time : {A : Type 0} (n : ℕ) → NoTime ≡ Seconds n → A
-no-time n z = let w : _≡_ {A = ℕ} 0 1 = cc in absurd (omega arith)
-
-no-degrees : {A : Type 0} (k : ℤ) → NoDegrees ≡ TenMillionths k → A
-no-degrees k z = let w : _≡_ {A = ℕ} 0 1 = cc in absurd (omega arith)
-
-pub no-choice : {A : Type 0} (n : ℕ) → NoChoice ≡ Picked n → A
-no-choice n z = let w : _≡_ {A = ℕ} 0 1 = cc in absurd (omega arith)
-
-no-date : {A : Type 0} (n : ℕ) → NoDate ≡ Day n → A
-no-date n z = let w : _≡_ {A = ℕ} 0 1 = cc in absurd (omega arith)
-
 pub no-test : {A : Type 0} → false ≡ true → A
 no-test z = let w : _≡_ {A = ℕ} 0 1 = cc in absurd (omega arith)
 
@@ -262,12 +242,12 @@ clock-fits true (Value a) (Value b) (Value e) p n q = go (ltb b 60) (ltb e 60) r
     go true true f g z =
         let k : a * 3600 + b * 60 + e ≡ n = cc in
         omega (arith, p a refl, ltb-true b 60 f, ltb-true e 60 g)
-    go true false f g z = no-time n z
-    go false y f g z = no-time n z
-clock-fits true (Value a) (Value b) NoNumber p n q = no-time n q
-clock-fits true (Value a) NoNumber x p n q = no-time n q
-clock-fits true NoNumber m x p n q = no-time n q
-clock-fits false h m x p n q = no-time n q
+    go true false f g z = not-seconds n z
+    go false y f g z = not-seconds n z
+clock-fits true (Value a) (Value b) NoNumber p n q = not-seconds n q
+clock-fits true (Value a) NoNumber x p n q = not-seconds n q
+clock-fits true NoNumber m x p n q = not-seconds n q
+clock-fits false h m x p n q = not-seconds n q
 
 pub time-fits : (v : List ℕ) → TimeFits (timeText v)
 unfolding timeText clock
@@ -277,7 +257,7 @@ time-fits v = go (eqb (length v) 0) (eqb (length v) 7) (eqb (length v) 8)
     go true y z n e = let w : _≡_ {A = ℕ} 0 1 = cc in absurd (omega arith)
     go false true z n e = clock-fits _ _ _ _ (hours-below v 1 (omega arith)) n e
     go false false true n e = clock-fits _ _ _ _ (hours-below v 2 (omega arith)) n e
-    go false false false n e = no-time n e
+    go false false false n e = not-seconds n e
 
 pub date-fits : (v : List ℕ) → DateFits (dateText v)
 unfolding dateText
@@ -285,14 +265,14 @@ date-fits v n e = go (eqb (length v) 8) (sequenceText v) refl refl e
   where
     last : (m : ℕ) (y : Bool) → m < 100000000 → cond y (Day m) NoDate ≡ Day n → n < 100000000
     last m true h z = let k : m ≡ n = cc in omega arith
-    last m false h z = no-date n z
+    last m false h z = not-day n z
 
     go : (x : Bool) (k : Number) → eqb (length v) 8 ≡ x → sequenceText v ≡ k
         → cond x (withNumber NoDate k (λ m. cond (isDay m) (Day m) NoDate)) NoDate ≡ Day n → n < 100000000
     go true (Value m) p q z =
         last m (isDay m) (lt-of-lt-of-le (sequence-below m v q) (ten-up (length v) 8 (omega (arith, eqb-true (length v) 8 p)))) z
-    go true NoNumber p q z = no-date n z
-    go false k p q z = no-date n z
+    go true NoNumber p q z = not-day n z
+    go false k p q z = not-day n z
 
 pub number-fits : (v : List ℕ) → NumberFits (sequenceText v)
 number-fits v n e = sequence-fits n v e
@@ -305,9 +285,9 @@ choice-fits a m v n e = go (eqb (length v) 1) (leb (48 + a) (getD v 0 0)) (leb (
     go true true true p q =
         let k : getD v 0 0 - 48 ≡ n = cc in
         omega (arith, leb-true (getD v 0 0) (48 + m) p)
-    go true true false p q = no-choice n q
-    go true false z p q = no-choice n q
-    go false y z p q = no-choice n q
+    go true true false p q = not-picked n q
+    go true false z p q = not-picked n q
+    go false y z p q = not-picked n q
 
 pub route-fits : (v : List ℕ) → ChoiceFits 12 (routeTypeText v)
 unfolding routeTypeText
@@ -335,7 +315,7 @@ scaled-fits limit below n d z e = go (leb n (limit * 10 ^ d)) refl e
         let h : n * 10000000 ≤ 10 ^ d * (limit * 10000000) =
         rw (mul-left-comm (10 ^ d) limit 10000000, ← mul-assoc limit (10 ^ d) 10000000) (mul-le-mul-right 10000000 (leb-true _ _ p)) in
         rw (← k, signed-size below) (div-le-of-le-mul (10 ^ d) h)
-    go false p q = no-degrees z q
+    go false p q = not-degrees z q
 
 size-fits : (limit : ℕ) (below : Bool) (v : List ℕ) → DegreesFits limit (sizeText limit below v)
 unfolding sizeText
@@ -344,8 +324,8 @@ size-fits limit below v = go (pointed v) (digits 0 (wholeDigits v ++ tailDigits 
     go : (x : Bool) (k : Number)
         → DegreesFits limit (cond x (withNumber NoDegrees k (λ n. scaled limit below n (length (tailDigits v)))) NoDegrees)
     go true (Value n) z q = scaled-fits limit below n (length (tailDigits v)) z q
-    go true NoNumber z q = no-degrees z q
-    go false k z q = no-degrees z q
+    go true NoNumber z q = not-degrees z q
+    go false k z q = not-degrees z q
 
 pub degrees-fits : (limit : ℕ) (v : List ℕ) → DegreesFits limit (degreesText limit v)
 unfolding degreesText

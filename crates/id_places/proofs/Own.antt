@@ -1,12 +1,12 @@
 -- Where the ids of a readable file begin: the fields there have the ids' values, and rise with the records.
 use mathlib.Core.Path.{_≡_, refl, sym, ap, _∙_}
-use mathlib.Core.Bool.{Bool, true, false, cond, not}
+use mathlib.Core.Bool.{Bool, true, false, not}
 use mathlib.Core.List.{List, [], _∷_, List·Memᴰ·head, List·Memᴰ·tail}
 use Prim.Native.Nat.{ℕ, zero, suc, _+_, _-_, _≤_, _<_}
 use native.Mathlib.Omega.{arith}
 use lib.Dec.{ltb, eqb}
 use lib.ListN.{length, getD, length-map, length-drop}
-use borrow.Author.Tests.{ltb-true, ltb-false, eqb-true, eq-eqb, ne-eqb, not-false}
+use borrow.Author.Tests.{ltb-true, ltb-false, eqb-true, ne-eqb, not-false}
 use Rattle.meaning.specs.Lists.{empty}
 use Rattle.meaning.specs.Bytes.{Line, linesOf, startOf, countLf}
 use Rattle.meaning.specs.Columns as C
@@ -18,7 +18,7 @@ use Rattle.meaning.proofs.ListLaws.{and-both}
 use Rattle.meaning.proofs.Laws.{getD-map-in}
 use Rattle.meaning.proofs.FirstBroken.{spoken-first, silent-none, said-readable}
 use Rattle.meaning.proofs.Columns.{row-at}
-use Rattle.meaning.proofs.Records.{rows-count}
+use Rattle.meaning.proofs.Records.{rows-count, count-some}
 use Rattle.text.proofs.Lines.{lines-all}
 use Rattle.meaning.proofs.Readable.{always-there, row-is, no-stray, line-kept}
 use Rattle.ordering.specs.Ids.{valueOn}
@@ -47,24 +47,13 @@ needed (suc (suc (suc zero))) h = record { known = omega arith; need = refl }
 needed (suc (suc (suc (suc zero)))) h = record { known = omega arith; need = refl }
 needed (suc (suc (suc (suc (suc f))))) h = let z = ltb-true (suc (suc (suc (suc (suc f))))) 5 (and-both (ltb 0 (suc (suc (suc (suc (suc f)))))) _ h .1) in absurd (omega (arith, z))
 
--- an LF byte is counted
-lf-counted : (s : List ℕ) (i : ℕ) → i < length s → getD s i 0 ≡ 10 → 1 ≤ countLf s
-unfolding countLf
-lf-counted [] i h e = absurd (omega arith)
-lf-counted (b ∷ r) zero h e = rw (eq-eqb b 10 e) (omega arith)
-lf-counted (b ∷ r) (suc i) h e = go (eqb b 10) (lf-counted r i (omega arith) e)
-  where
-    go : (t : Bool) → 1 ≤ countLf r → 1 ≤ cond t (countLf r + 1) (countLf r)
-    go true k = omega arith
-    go false k = k
-
 -- a file that isn't empty and keeps rule 4 has a line
 ended-some : (f : ℕ) (s : List ℕ) → (s ≡ [] → ⊥) → rule4 [] f s 0 ≡ false → 1 ≤ countLf s
 unfolding rule4 empty ended
 ended-some f [] h e = absurd (h refl)
 ended-some f (b ∷ r) h e =
     let z : not (eqb (getD (b ∷ r) (suc (length r) - 1) 0) 10) ≡ false = rw (ne-eqb (suc (length r)) 0 (λ q. omega arith)) at e in
-    lf-counted (b ∷ r) (suc (length r) - 1) (omega arith) (eqb-true _ _ (not-false _ z))
+    count-some (b ∷ r) (suc (length r) - 1) (omega arith) (eqb-true _ _ (not-false _ z))
 
 -- how long a readable file is, and how many lines it has
 pub record Sized (s : List ℕ) : Type 0 where

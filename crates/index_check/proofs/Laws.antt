@@ -24,8 +24,9 @@ use Rattle.indexes.specs.declared.IndexAnswer.the-variants.{Whole, Unread, Barr
 use Rattle.indexes.specs.Order.{idsOf, idOf}
 use Rattle.indexes.specs.Index.{numberAt, version1, mark, indexLength, entry, rule40, rule41, rule42, strays, rule43, rule44, indexTests, spoken, indexed, loneVerdict, barredOr, checked}
 use Rattle.meaning.proofs.FirstBroken.{said-readable}
+use Rattle.meaning.proofs.Tests.{or-neither}
 use Rattle.indexes.specs.Promises.{Reads}
-use Rattle.indexes.proofs.Accepted.{or-none, known-entry}
+use Rattle.indexes.proofs.Accepted.{known-entry}
 use Rattle.indexes.proofs.Beside.{asked-read, asked-refused, asked-outside, asked-range, asked-not}
 use Rattle.id_places.specs.Places.{Ids}
 use Rattle.id_places.proofs.Own.{sized, ids-count, value-of}
@@ -44,7 +45,7 @@ module _ (b : List ℕ) where
 
   pub head-long : rule40 b ≡ false → 8 ≤ length b
   unfolding rule40
-  head-long e = ltb-false (length b) 8 (or-none _ _ e .0)
+  head-long e = ltb-false (length b) 8 (or-neither _ _ e .0)
 
   module _ (f n : ℕ) where
     pub other-file : (getD b 5 0 ≡ f → ⊥) → true ≡ rule42 version1 f n b
@@ -63,8 +64,8 @@ module _ (b : List ℕ) where
     pub size-is : rule42 version1 f n b ≡ false → length b ≡ 8 + 2 * n
     unfolding rule42 indexLength
     size-is e =
-        let k = or-none (not (eqb (getD b 5 0) f)) _ e .1 in
-        let z : length b ≡ 8 + n * 2 = eqb-true _ _ (not-false _ (or-none (not (eqb (numberAt 2 b 6) n)) _ k .1)) in
+        let k = or-neither (not (eqb (getD b 5 0) f)) _ e .1 in
+        let z : length b ≡ 8 + n * 2 = eqb-true _ _ (not-false _ (or-neither (not (eqb (numberAt 2 b 6) n)) _ k .1)) in
         omega arith
 
 -- ---- the records that are listed

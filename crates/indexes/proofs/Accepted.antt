@@ -3,7 +3,7 @@ use Prim.Native.Nat.{ℕ, _+_, _-_, _^_, _≤_, _<_}
 use native.Mathlib.Omega.{arith}
 use mathlib.Core.Path.{_≡_, refl, sym, ap, _∙_}
 use mathlib.Core.Logic.{_↔_}
-use mathlib.Core.Bool.{Bool, true, false, cond, _||_}
+use mathlib.Core.Bool.{Bool, true, false, cond}
 use mathlib.Core.List.{List, [], _∷_, _++_, map, append-assoc}
 use lib.ListN.{length, getD, take, drop, length-append, take-append-drop}
 use lib.Seq.{drop-cons}
@@ -12,7 +12,7 @@ use borrow.Author.Tests.{ltb-false, eqb-true, eqb-false, not-false, le-ltb, eq-e
 use Rattle.meaning.specs.Lists.{some, flat}
 use Rattle.meaning.proofs.ListLaws.{both, same-equal, same-self}
 use Rattle.meaning.proofs.Laws.{getD-mem}
-use Rattle.meaning.proofs.Tests.{untrue, some-found, some-none}
+use Rattle.meaning.proofs.Tests.{or-neither, untrue, some-found, some-none}
 use Rattle.ranking.specs.Ranks.{before}
 use Rattle.indexes.specs.Order.{idOf, Rising, ranked}
 use Rattle.indexes.specs.Index.{lowFirst, numberAt, Version, version1, mark, indexOf, headLength, indexLength, entry, rule40, rule41, rule42, strays, rule43, rule44, indexTests, spoken}
@@ -21,10 +21,6 @@ use Rattle.indexes.proofs.Numbers.{low-length, written-number, numbersA
 use Rattle.indexes.proofs.Order.{rising-length, rising-ranked, all-listed}
 
 -- ---- what no broken test says
-
-pub or-none : (a b : Bool) → (a || b) ≡ false → (a ≡ false) × (b ≡ false)
-or-none true b e = both true refl e
-or-none false b e = (refl, e)
 
 none-some : (P : ℕ → Bool) (n : ℕ) → ((i : ℕ) → i < n → P i ≡ false) → some P 0 n ≡ false
 none-some P n h = untrue (some P 0 n) (λ e. let f = some-found P 0 n e in both (P (f .place)) (f .is) (h (f .place) (omega (arith, f .high))))
@@ -38,7 +34,7 @@ quiet n false k h e = (refl, e)
 pub known-entry : (v : Version) (n : ℕ) (b : List ℕ) → rule43 v n b ≡ false → (i : ℕ) → i < n → (1 ≤ entry v b i) × (entry v b i ≤ n)
 unfolding rule43 strays
 known-entry v n b e i h =
-    let k : (eqb (entry v b i) 0 ≡ false) × (ltb n (entry v b i) ≡ false) = or-none _ _ (some-none _ 0 n e i (omega arith) (omega arith)) in
+    let k : (eqb (entry v b i) 0 ≡ false) × (ltb n (entry v b i) ≡ false) = or-neither _ _ (some-none _ 0 n e i (omega arith) (omega arith)) in
     (omega (arith, eqb-false (entry v b i) 0 (k .0)), ltb-false n (entry v b i) (k .1))
 
 -- what 40 to 44 ask, in their order
@@ -61,9 +57,9 @@ module _ (v : Version) (f : ℕ) (ids : List (List ℕ)) (b : List ℕ) where
       let r = quiet 42 (rule42 v f (length ids) b) _ (λ z. omega arith) (q .1) in
       let s = quiet 43 (rule43 v (length ids) b) _ (λ z. omega arith) (r .1) in
       let t = quiet 44 (rule44 v ids b) _ (λ z. omega arith) (s .1) in
-      let forty = or-none _ _ (p .0) in
-      let forty-two = or-none _ _ (r .0) in
-      let its = or-none _ _ (forty-two .1) in
+      let forty = or-neither _ _ (p .0) in
+      let forty-two = or-neither _ _ (r .0) in
+      let its = or-neither _ _ (forty-two .1) in
       record {
         long = ltb-false _ _ (forty .0);
         marked = same-equal _ _ (not-false _ (forty .1));

@@ -26,7 +26,7 @@ use Rattle.meaning.proofs.Forms.{no-mark-cons, no-mark-join, digits-unm
 
 -- ---- the point
 
-point-within : (l : List ℕ) → toPoint l ≤ length l
+pub point-within : (l : List ℕ) → toPoint l ≤ length l
 unfolding toPoint
 point-within [] = omega arith
 point-within (b ∷ l) = go (eqb b 46) (point-within l)
@@ -123,7 +123,7 @@ parts v whole decimals (S.pointed e d t) =
 
 -- ---- a size, and its sign
 
-not-degrees : {A : Type 0} (z : ℤ) → NoDegrees ≡ TenMillionths z → A
+pub not-degrees : {A : Type 0} (z : ℤ) → NoDegrees ≡ TenMillionths z → A
 not-degrees z e = let w : _≡_ {A = ℕ} 0 1 = cc in absurd (omega arith)
 
 -- a size with its sign

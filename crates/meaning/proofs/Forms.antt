@@ -66,7 +66,7 @@ single [] e = absurd (omega arith)
 single (b ∷ []) e = refl
 single (b ∷ c ∷ r) e = absurd (omega arith)
 
-not-picked : {A : Type 0} (n : ℕ) → NoChoice ≡ Picked n → A
+pub not-picked : {A : Type 0} (n : ℕ) → NoChoice ≡ Picked n → A
 not-picked n e = let z : _≡_ {A = ℕ} 0 1 = cc in absurd (omega arith)
 
 -- one digit from a to m

@@ -54,7 +54,7 @@ laid-length xs lent h = simp (length-append, length-drop) (omega arith)
 -- ---- lines
 
 -- each LF ends a line
-cuts-count : (st at : ℕ) (s : List ℕ) → length (cuts st at s) ≡ countLf s
+pub cuts-count : (st at : ℕ) (s : List ℕ) → length (cuts st at s) ≡ countLf s
 unfolding cuts countLf
 cuts-count st at [] = refl
 cuts-count st at (b ∷ r) = go (eqb b 10) (cuts-count (at + 1) (at + 1) r) (cuts-count st (at + 1) r)

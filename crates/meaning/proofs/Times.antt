@@ -27,7 +27,7 @@ use Rattle.meaning.proofs.Forms.{no-mark-cons, no-mark-join, digits-unm
 -- ---- times
 
 -- NoTime and Untimed are no seconds
-not-seconds : {A : Type 0} (n : ℕ) → NoTime ≡ Seconds n → A
+pub not-seconds : {A : Type 0} (n : ℕ) → NoTime ≡ Seconds n → A
 not-seconds n e = let z : _≡_ {A = ℕ} 0 1 = cc in absurd (omega arith)
 
 -- what a clock between colons reads
@@ -187,7 +187,7 @@ most-seconds v n e =
 
 -- ---- dates
 
-not-day : {A : Type 0} (n : ℕ) → NoDate ≡ Day n → A
+pub not-day : {A : Type 0} (n : ℕ) → NoDate ≡ Day n → A
 not-day n e = let z : _≡_ {A = ℕ} 0 1 = cc in absurd (omega arith)
 
 -- year, month and day of a true date

@@ -29,7 +29,7 @@ use Rattle.meaning.specs.Promises.{saysAccepted}
 use Rattle.meaning.specs.TripOrder.{Timed, timeAt, LineOf, SequenceAgain, Outrun, FirstLine, LastLine, tripAt, OpenEnded, OnLine, JustOne, TripOrder}
 use Rattle.meaning.proofs.ListLaws.{both, and-both, and-second, same-equal, same-self}
 use Rattle.meaning.proofs.Laws.{getD-map-in, place-of}
-use Rattle.meaning.proofs.Tests.{either, or-left, or-right, not-none, untrue, some-found, some-none, found-some}
+use Rattle.meaning.proofs.Tests.{either, or-left, or-right, or-neither, not-none, untrue, some-found, some-none, found-some}
 use Rattle.meaning.proofs.References.{any-yes, any-no}
 use Rattle.meaning.proofs.TheList.{listed-exactly}
 use Rattle.meaning.proofs.Pages.{accepted-exactly}
@@ -240,10 +240,6 @@ module _ (C : ℕ → Bool) (le : ℕ → ℕ → Bool)
       go (inl b) = b
       go (inr none) = both (C i) c (none i h)
 
-neither : (a b : Bool) → (a || b) ≡ false → (a ≡ false) × (b ≡ false)
-neither true b e = (e, both true refl e)
-neither false b e = (refl, e)
-
 module _ (w : Feed) (v : List ℕ) where
   abbrev count : ℕ
   count = length (w .stopTimes)
@@ -310,7 +306,7 @@ module _ (w : Feed) (v : List ℕ) where
       there : some P 0 count ≡ false → (j : ℕ) → LineOf w v j → (further j ≡ false) × (seq j ≡ seq i → i ≤ j)
       there e j l =
           let none = and-second _ _ (some-none P 0 count e j (omega arith) (omega (arith, l .inside))) (is-of j l) in
-          let g = neither (further j) _ none in
+          let g = or-neither (further j) _ none in
           (g .0, λ z. ltb-false j i (and-second (eqb (seq j) (seq i)) _ (g .1) (eq-eqb _ _ z)))
 
       back : ((j : ℕ) → LineOf w v j → (further j ≡ false) × (seq j ≡ seq i → i ≤ j)) → some P 0 count ≡ false

@@ -28,7 +28,7 @@ use Rattle.reading.proofs.Speaks.{refused, speaks-then, then-stop, then
 use Rattle.reading.proofs.Wholes.{all-claims}
 
 -- no test has number 0
-head-positive : (f : ℕ) (h : List ℕ) → T (all positive (headTests f h))
+pub head-positive : (f : ℕ) (h : List ℕ) → T (all positive (headTests f h))
 unfolding headTests textTests
 head-positive f h = tt
 

@@ -14,6 +14,7 @@ use Rattle.meaning.specs.Lists.{same, any}
 use Rattle.meaning.specs.Bytes.{bounds, leadingMark, startOf, countLf, cuts, endOf, lineOf, linesFrom, linesOf}
 use Rattle.meaning.specs.Refusals.{ended}
 use Rattle.meaning.proofs.ListLaws.{same-equal, both}
+use Rattle.meaning.proofs.Records.{cuts-count}
 use Rattle.text.specs.declared.LineStep.the-variants.{Line, Done}
 use Rattle.text.specs.Lines.{toFirst, isLf, toLf, lineTo, lineAt, LineStands}
 use Rattle.text.proofs.Laws.{drop-next, drop-over, same-no}
@@ -294,16 +295,6 @@ unfolding lineAt
 line-none s at p = to-end s at (at + toLf (drop at s)) refl p
 
 -- as many lines as LF bytes
-cuts-count : (st at : ℕ) (r : List ℕ) → length (cuts st at r) ≡ countLf r
-unfolding cuts countLf
-cuts-count st at [] = refl
-cuts-count st at (b ∷ r) = go (eqb b 10) (cuts-count (at + 1) (at + 1) r) (cuts-count st (at + 1) r)
-  where
-    go : (t : Bool) → length (cuts (at + 1) (at + 1) r) ≡ countLf r → length (cuts st (at + 1) r) ≡ countLf r
-        → length (cond t (bounds st at ∷ cuts (at + 1) (at + 1) r) (cuts st (at + 1) r)) ≡ cond t (countLf r + 1) (countLf r)
-    go true x y = omega arith
-    go false x y = y
-
 pub lines-count : (s : List ℕ) (at : ℕ) → length (linesFrom s at) ≡ countLf (drop at s)
 unfolding linesFrom
 lines-count s at = length-map (cuts at at (drop at s)) (lineOf s) ∙ cuts-count at at (drop at s)

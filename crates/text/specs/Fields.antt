@@ -61,7 +61,7 @@ upTo33 n = cond (ltb n 33) n 33
 unfoldable pub endsLine : ℕ → Bool
 endsLine b = eqb b 10 || eqb b 13
 
--- the same in a file, whose lines end where an ending begins
+-- how many bytes stand before the end of a field in a file, whose lines end where an ending begins
 unfoldable pub fieldRun : ℕ → List ℕ → ℕ
 fieldRun q [] = 0
 fieldRun q (b ∷ r) = let k = fieldRun (next q b) r + 1 in cond (endsLine b) 0 (cond (eqb (next q b) start) 0 k)

@@ -12,7 +12,8 @@ use Rattle.meaning.specs.Lists.{empty}
 use Rattle.meaning.specs.Forms.{noMark, formed, digitText, choiceOf}
 use Rattle.meaning.specs.Tables.{picked, choiceOr, orZero}
 use Rattle.forms.specs.Bounds.{ChoiceFits}
-use Rattle.forms.proofs.Laws.{choice-fits, no-choice}
+use Rattle.meaning.proofs.Forms.{not-picked}
+use Rattle.forms.proofs.Laws.{choice-fits}
 
 pub data Stored (none : ℤ) (m : ℕ) : ℤ → Type 0 where
   nothing : Stored none m none
@@ -24,7 +25,7 @@ fits m v n e = go (noMark v) e
   where
     go : (b : Bool) → cond b (digitText 0 m v) NoChoice ≡ Picked n → n ≤ m
     go true q = choice-fits 0 m v n q
-    go false q = no-choice n q
+    go false q = not-picked n q
 
 pub choice-stored : (none : ℤ) (m : ℕ) (v : List ℕ) → Stored none m (choiceOr none m v)
 unfolding choiceOr
