@@ -1,4 +1,7 @@
-// Writes what the index's writer and reader answer, and what the writer leaves in its buffer; the file `stdout` has what document 02's E4 says.
+// Writes what the index's writer and reader answer, and what the writer leaves in its buffer; the file `stdout` has what document 02's E4 and E9 say.
+ghost use mathlib.Core.Path.{_≡_};
+ghost use Prim.Native.Nat.{_<_, _≤_};
+ghost use lib.ListN.{length};
 use indexes::IndexAnswer;
 use libc::STDOUT_FILENO;
 
@@ -237,6 +240,119 @@ fn entries() {
     );
 }
 
+// The reader takes versions 1 and 2, and version 2 of no three records.
+fn versions() {
+    judge(
+        b"version 0",
+        b"TTX\x00\x00\x02\x03\x00\x02\x00\x03\x00\x01\x00",
+    );
+    judge(
+        b"version 3",
+        b"TTX\x03\x00\x02\x03\x00\x02\x00\x03\x00\x01\x00",
+    );
+    judge(
+        b"version 2, whole",
+        b"TTX\x02\x00\x02\x03\x00\x00\x00\x02\x00\x00\x00\x03\x00\x00\x00\x01\x00\x00\x00",
+    );
+    judge(b"version 2, 8 bytes", b"TTX\x02\x00\x02\x03\x00");
+    judge(b"version 2, 9 bytes", b"TTX\x02\x00\x02\x03\x00\x00");
+    read(
+        b"version 2, no records",
+        2,
+        b"route_id,route_type\n",
+        b"TTX\x02\x00\x02\x00\x00\x00\x00",
+    );
+}
+
+// As many routes as have an index of version 2 at the least.
+const MANY: usize = 65536;
+
+// What stands before them.
+const HEADER: [u8; 20] = *b"route_id,route_type\n";
+
+// One of the letters a to p.
+fn letter(n: usize) -> u8 {
+    (97 + n % 16) as u8
+}
+
+// The header, at the start of a file.
+fn put_header(s: &mut [u8])
+    requires { ⌜ 20 ≤ length (now s) ⌝ }
+{
+    let mut i: usize = 0;
+    while i < 20 {
+        s[i] = HEADER[i];
+        i += 1;
+    }
+}
+
+// A route whose id is number k in four letters.
+fn put_route(l: &mut [u8], k: usize)
+    requires { ⌜ length (now l) ≡ 7 ⌝ }
+{
+    l[0] = letter(k / 4096);
+    l[1] = letter(k / 256);
+    l[2] = letter(k / 16);
+    l[3] = letter(k);
+    l[4] = b',';
+    l[5] = b'3';
+    l[6] = b'\n';
+}
+
+// A file of as many bytes as the routes have.
+fn long_file() -> [u8; 458772] {
+    [0; 458772]
+}
+
+// 65,536 routes, whose ids fall.
+fn many_routes() -> [u8; 458772] {
+    let mut s = long_file();
+    put_header(&mut s);
+    let mut i: usize = 0;
+    while i < MANY {
+        put_route(&mut s[20 + 7 * i..27 + 7 * i], MANY - 1 - i);
+        i += 1;
+    }
+    s
+}
+
+// A buffer for 10 plus four times as many bytes.
+fn long_room() -> [u8; 262154] {
+    [LENT; 262154]
+}
+
+// The writer: its answer, and how the buffer that it leaves begins and ends.
+fn write_long(name: &[u8], s: &[u8], b: &mut [u8])
+    requires { ⌜ 18 ≤ length (now b) ⌝ }
+{
+    say(name);
+    tell_answer(index_write::write_index(2, s, b));
+    say(b":");
+    tell_bytes(&b[..18]);
+    say(b" ..");
+    tell_bytes(&b[b.len() - 8..]);
+    say(b"\n");
+}
+
+// Version 1 up to 65,535 records, and version 2 above.
+fn many() {
+    let s = many_routes();
+    let mut b = long_room();
+    write_long(b"65,535 routes", &s[..458765], &mut b[..131078]);
+    read(b"  read back", 2, &s[..458765], &b[..131078]);
+    let mut c = long_room();
+    write_long(b"65,536 routes, a byte short", &s, &mut c[..262153]);
+    write_long(b"65,536 routes", &s, &mut c);
+    read(b"  read back", 2, &s, &c);
+    read(b"  of 65,535", 2, &s[..458765], &c);
+    c[8] = 0;
+    read(b"  a count of 16 bits", 2, &s, &c);
+    c[8] = 1;
+    c[3] = 1;
+    read(b"  as version 1", 2, &s, &c);
+    read(b"  version 1 of 65,535", 2, &s, &b[..131078]);
+}
+
 // The reader answers of the file first.
 fn files() {
     read(b"of file 0", 0, &ROUTES, b"");
@@ -257,5 +373,7 @@ fn main() {
     refusals();
     heads();
     entries();
+    versions();
+    many();
     files();
 }

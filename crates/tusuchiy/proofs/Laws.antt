@@ -6,25 +6,28 @@ use mathlib.Core.Bool.{false, cond}
 use native.Mathlib.Omega.{arith}
 use lib.IntN.{ℤ}
 use lib.ListN.{length, getD, length-map}
-use lib.Dec.{eqb}
+use lib.Dec.{eqb, ltb}
+use borrow.Author.Tests.{ltb-false}
 use Rattle.meaning.specs.declared.Refusal.{Refusal}
 use Rattle.meaning.specs.declared.Verdict.the-variants.{Readable, Unreadable}
 use Rattle.meaning.specs.declared.Place.{Place}
 use Rattle.meaning.specs.declared.Profile.{Profile}
 use Rattle.meaning.specs.declared.Answer.{Answer}
 use Rattle.meaning.specs.declared.Answer.the-variants.{Accepted, Findings, Refused}
+use Rattle.meaning.specs.Lists.{some}
 use Rattle.meaning.specs.Bytes.{countLf}
 use Rattle.meaning.specs.Columns.{rowsOf, schemas, schema, knownAt, columnOf, countOf, tripsColumns, stopTimesColumns}
 use Rattle.meaning.specs.Tables.{fileOf, feedOf, rowsIn}
-use Rattle.meaning.specs.Refusals.{verdictOf, mayLack, maxLines}
+use Rattle.meaning.specs.Refusals.{verdictOf, mayLack, maxLines, fewLines}
 use Rattle.meaning.specs.Findings.{findingsOf, answerOf, handed, page, roomOf}
 use Rattle.meaning.specs.Outcome.{Outcome, readOutcome, filledFrom, outcome}
 use Rattle.meaning.specs.Promises.{WholeKept}
 use Rattle.meaning.proofs.Laws.{getD-map-in}
+use Rattle.meaning.proofs.Tests.{some-none}
 use Rattle.meaning.proofs.Readable.{always-there, whole-kept, values-kept}
 use Rattle.meaning.proofs.Held.{filled-at}
 use Rattle.marks.specs.Noted.{Noted, TripsNoted}
-use Rattle.tables.specs.Fill.{Room, Fits}
+use Rattle.tables.specs.Fill.{Room, Fits, CoversAll}
 use Rattle.tables.proofs.Feeds.{room-kept, fits-kept}
 use Rattle.listing.specs.Handing.{State, state, handedOut}
 use Rattle.listing.specs.declared.Sink.{Sink}
@@ -44,6 +47,14 @@ rows-read files (suc (suc (suc (suc zero)))) low high = refl
 rows-read files (suc (suc (suc (suc (suc zero))))) low high = refl
 rows-read files (suc (suc (suc (suc (suc (suc zero)))))) low high = refl
 rows-read files (suc (suc (suc (suc (suc (suc (suc f))))))) low high = absurd (omega arith)
+
+-- marks with an entry for each line of each file, from the counts of lines
+pub covered : (m : List ℕ) (files : List (List ℕ)) (counts : List ℕ) → counts ≡ map countLf files → ((i : ℕ) → i < 6 → getD counts i 0 ≤ length m) → CoversAll m files
+unfolding fileOf
+covered m files counts q h f low high = rw (q, count-at files (f - 1)) at (h (f - 1) (omega arith))
+
+pub few-each : (counts : List ℕ) → some (λ i. ltb fewLines (getD counts i 0)) 0 6 ≡ false → (i : ℕ) → i < 6 → getD counts i 0 ≤ fewLines
+few-each counts e i h = ltb-false fewLines (getD counts i 0) (some-none (λ i. ltb fewLines (getD counts i 0)) 0 6 e i (omega arith) (omega arith))
 
 module _ (files : List (List ℕ)) (tables : List (List ℤ)) (six : length files ≡ 6) (lent : length tables ≡ 6) (read : verdictOf files (map length tables) ≡ Readable) where
   kept : (f : ℕ) → 1 ≤ f → f ≤ 6 → WholeKept files f (fileOf files f) (length (tableOf tables f))

@@ -1,62 +1,20 @@
 -- `tusuchiy::checked` meets its contract.
-use mathlib.Core.Path.{_≡_, refl, _∙_}
-use mathlib.Core.List.{[], _∷_, map}
-use lib.ListN.{length, length-map}
-use denote.Ref.{now}
-use Rattle.meaning.specs.Refusals.{mayLack}
-use Rattle.rules.specs.Tabled.{tableOf}
-use native.Mathlib.Omega.{arith}
-use Rattle.tusuchiy.proofs.Bounds.{small-findings}
-use Rattle.tusuchiy.proofs.Laws.{fits, roomy, few-lines, tabled, outcome-read}
+use Rattle.tusuchiy.proofs.Laws.{few-each}
+use mathlib.Core.Path.{sym, _∙_}
 use borrow.Author.Needs.{needs}
 use Rattle.tusuchiy.proofs.checked.Statement.{statement}
 use Rattle.tusuchiy.proofs.checked.Tie as tie
 
-blank-requires : tie.Need-blank-requires
-blank-requires c κs = search needs
+has-many-requires : tie.Need-has-many-requires
+has-many-requires c κs = search needs
 
-slice-aggregate-fill-all : tie.Need-slice-aggregate-fill-all
-slice-aggregate-fill-all c = search needs
+checked-many-requires : tie.Need-checked-many-requires
+checked-many-requires c κs = c .before .before .before .before .before .before .before .before .before .pre
 
-fill-all-requires : tie.Need-fill-all-requires
-unfolding tableOf mayLack
-fill-all-requires c κs =
-    let z = c .before .before .before .before .before .before .before .before in
-    let files = map now (z .args .files) in
-    let tables = z .args .stops-table .now ∷ z .args .routes-table .now ∷ z .args .calendar-table .now ∷ z .args .trips-table .now ∷ z .args .stop-times-table .now ∷ z .args .calendar-dates-table .now ∷ [] in
-    let six : length files ≡ 6 = length-map (z .args .files) now ∙ z .good .0 .1 .0 .1 in (
-      roomy files tables six refl (z .pre .0) 1 (omega arith) (omega arith) refl,
-      (
-        roomy files tables six refl (z .pre .0) 2 (omega arith) (omega arith) refl,
-        (
-          fits files tables six refl (z .pre .0) 3 (omega arith) (omega arith),
-          (
-            roomy files tables six refl (z .pre .0) 4 (omega arith) (omega arith) refl,
-            (
-              roomy files tables six refl (z .pre .0) 5 (omega arith) (omega arith) refl,
-              (
-                fits files tables six refl (z .pre .0) 6 (omega arith) (omega arith),
-                (c .before .before .before .before .before .before .before .blank .ensures, search needs),
-              ),
-            ),
-          ),
-        ),
-      ),
-    )
-
-slice-aggregate-list-findings : tie.Need-slice-aggregate-list-findings
-slice-aggregate-list-findings c = search needs
-
-list-findings-requires : tie.Need-list-findings-requires
-list-findings-requires c κs =
-    let z = c .before .before .before .before .before .before .before .before .before .before .before .before .before .before .before .before .before .before .before .before .before .before .before .before in
-    let files = map now (z .args .files) in
-    let tables = z .args .stops-table .now ∷ z .args .routes-table .now ∷ z .args .calendar-table .now ∷ z .args .trips-table .now ∷ z .args .stop-times-table .now ∷ z .args .calendar-dates-table .now ∷ [] in
-    let six : length files ≡ 6 = length-map (z .args .files) now ∙ z .good .0 .1 .0 .1 in
-    few-lines files tables six refl (z .pre .0) _ (z .pre .1)
-
-answer-of-requires : tie.Need-answer-of-requires
-answer-of-requires c κs = search needs
+checked-few-requires : tie.Need-checked-few-requires
+checked-few-requires c κs =
+    let z = c .before .before .before .before .before .before .before .before .before in
+    (z .pre .0, (z .pre .1, few-each (z .args .counts) (sym (c .before .before .before .before .before .before .before .before .has-many .ensures) ∙ c .before .before .before .before .before .before .before .if1 .left)))
 
 same-length : tie.Need-same-length
 same-length c = search needs
@@ -79,29 +37,39 @@ same-length-6 c = search needs
 same-length-7 : tie.Need-same-length-7
 same-length-7 c = search needs
 
+same-length-8 : tie.Need-same-length-8
+same-length-8 c = search needs
+
+same-length-9 : tie.Need-same-length-9
+same-length-9 c = search needs
+
+same-length-10 : tie.Need-same-length-10
+same-length-10 c = search needs
+
+same-length-11 : tie.Need-same-length-11
+same-length-11 c = search needs
+
+same-length-12 : tie.Need-same-length-12
+same-length-12 c = search needs
+
+same-length-13 : tie.Need-same-length-13
+same-length-13 c = search needs
+
+same-length-14 : tie.Need-same-length-14
+same-length-14 c = search needs
+
 returns : tie.Need-returns
-returns c =
-    let z = c .before .before .before .before .before .before .before .before .before .before .before .before .before .before .before .before .before .before .before .before .before .before .before .before .before .before .before in
-    let files = map now (z .args .files) in
-    let tables = z .args .stops-table .now ∷ z .args .routes-table .now ∷ z .args .calendar-table .now ∷ z .args .trips-table .now ∷ z .args .stop-times-table .now ∷ z .args .calendar-dates-table .now ∷ [] in
-    let six : length files ≡ 6 = length-map (z .args .files) now ∙ z .good .0 .1 .0 .1 in
-    let f = c .before .before .before .before .before .before .before .before .before .before .before .before .before .before .before .before .before .before .fill-all .ensures in
-    let k = c .before .before .list-findings .ensures in
-    let h = k .0 _ (tabled files tables six refl (z .pre .0) _ (f .0) _ (z .pre .1) _ (f .1 .0) (f .1 .1)) in (
-      outcome-read files tables six refl (z .pre .0) _ (f .0) (z .args .findings .now) _ (z .args .from) (z .args .asked) (c .before .before .list-findings .result) _ h (c .answer-of .ensures),
-      small-findings (z .args .from) _ (z .args .findings .now) _ (c .before .before .list-findings .result) _ h (k .1) (c .answer-of .ensures),
-    )
+returns c = c .before .before .before .before .before .before .before .checked-many .ensures
+
+returns-2 : tie.Need-returns-2
+returns-2 c = c .before .before .before .before .before .before .before .checked-few .ensures
 
 pub checked-spec : {M : Type 1} → statement M
 checked-spec =
     tie.close
     (tie.spec
-    blank-requires
-    slice-aggregate-fill-all
-    fill-all-requires
-    slice-aggregate-list-findings
-    list-findings-requires
-    answer-of-requires
+    has-many-requires
+    checked-many-requires
     same-length
     same-length-2
     same-length-3
@@ -109,4 +77,13 @@ checked-spec =
     same-length-5
     same-length-6
     same-length-7
-    returns)
+    returns
+    checked-few-requires
+    same-length-8
+    same-length-9
+    same-length-10
+    same-length-11
+    same-length-12
+    same-length-13
+    same-length-14
+    returns-2)
