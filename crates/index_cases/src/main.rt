@@ -1,7 +1,4 @@
 // Writes what the index's writer and reader answer, and what the writer leaves in its buffer; the file `stdout` has what document 02's E4 and E9 say.
-ghost use mathlib.Core.Path.{_≡_};
-ghost use Prim.Native.Nat.{_<_, _≤_};
-ghost use lib.ListN.{length};
 use indexes::IndexAnswer;
 use libc::STDOUT_FILENO;
 
@@ -275,82 +272,119 @@ fn letter(n: usize) -> u8 {
     (97 + n % 16) as u8
 }
 
-// The header, at the start of a file.
-fn put_header(s: &mut [u8])
-    requires { ⌜ 20 ≤ length (now s) ⌝ }
-{
-    let mut i: usize = 0;
-    while i < 20 {
-        s[i] = HEADER[i];
-        i += 1;
+// Byte p of the route whose id is number k in four letters.
+fn route_byte(k: usize, p: usize) -> u8 {
+    if p == 0 {
+        return letter(k / 4096);
     }
+    if p == 1 {
+        return letter(k / 256);
+    }
+    if p == 2 {
+        return letter(k / 16);
+    }
+    if p == 3 {
+        return letter(k);
+    }
+    if p == 4 {
+        return b',';
+    }
+    if p == 5 {
+        return b'3';
+    }
+    b'\n'
 }
 
-// A route whose id is number k in four letters.
-fn put_route(l: &mut [u8], k: usize)
-    requires { ⌜ length (now l) ≡ 7 ⌝ }
-{
-    l[0] = letter(k / 4096);
-    l[1] = letter(k / 256);
-    l[2] = letter(k / 16);
-    l[3] = letter(k);
-    l[4] = b',';
-    l[5] = b'3';
-    l[6] = b'\n';
+// Byte i of the file: the ids fall.
+fn file_byte(i: usize) -> u8 {
+    if i < 20 {
+        return HEADER[i];
+    }
+    route_byte(MANY - 1 - (i - 20) / 7 % MANY, (i - 20) % 7)
 }
 
-// A file of as many bytes as the routes have.
-fn long_file() -> [u8; 458772] {
-    [0; 458772]
+// The files' bytes and the buffers for their indexes, as lent.
+fn blank_few() -> [u8; 458765] {
+    [LENT; 458765]
 }
 
-// 65,536 routes, whose ids fall.
-fn many_routes() -> [u8; 458772] {
-    let mut s = long_file();
-    put_header(&mut s);
+fn blank_many() -> [u8; 458772] {
+    [LENT; 458772]
+}
+
+fn room_of_few() -> [u8; 131078] {
+    [LENT; 131078]
+}
+
+fn room_of_many() -> [u8; 262154] {
+    [LENT; 262154]
+}
+
+fn short_room() -> [u8; 262153] {
+    [LENT; 262153]
+}
+
+// 65,535 routes.
+fn few_routes() -> [u8; 458765] {
+    let mut s = blank_few();
     let mut i: usize = 0;
-    while i < MANY {
-        put_route(&mut s[20 + 7 * i..27 + 7 * i], MANY - 1 - i);
+    while i < 458765 {
+        s[i] = file_byte(i);
         i += 1;
     }
     s
 }
 
-// A buffer for 10 plus four times as many bytes.
-fn long_room() -> [u8; 262154] {
-    [LENT; 262154]
+// 65,536 routes.
+fn many_routes() -> [u8; 458772] {
+    let mut s = blank_many();
+    let mut i: usize = 0;
+    while i < 458772 {
+        s[i] = file_byte(i);
+        i += 1;
+    }
+    s
 }
 
-// The writer: its answer, and how the buffer that it leaves begins and ends.
-fn write_long(name: &[u8], s: &[u8], b: &mut [u8])
-    requires { ⌜ 18 ≤ length (now b) ⌝ }
-{
-    say(name);
-    tell_answer(index_write::write_index(2, s, b));
-    say(b":");
+// Writes how bytes begin, and how they end.
+fn tell_ends(b: &[u8]) {
+    if b.len() < 18 {
+        return;
+    }
     tell_bytes(&b[..18]);
     say(b" ..");
     tell_bytes(&b[b.len() - 8..]);
+}
+
+// The writer: its answer, and how the buffer that it leaves begins and ends.
+fn write_long(name: &[u8], s: &[u8], b: &mut [u8]) {
+    say(name);
+    tell_answer(index_write::write_index(2, s, b));
+    say(b":");
+    tell_ends(b);
     say(b"\n");
 }
 
-// Version 1 up to 65,535 records, and version 2 above.
-fn many() {
+// Version 1 up to 65,535 records.
+fn first() {
+    let s = few_routes();
+    let mut b = room_of_few();
+    write_long(b"65,535 routes", &s, &mut b);
+    read(b"  read back", 2, &s, &b);
+    read(b"  beside 65,536", 2, &many_routes(), &b);
+}
+
+// Version 2 above.
+fn second() {
     let s = many_routes();
-    let mut b = long_room();
-    write_long(b"65,535 routes", &s[..458765], &mut b[..131078]);
-    read(b"  read back", 2, &s[..458765], &b[..131078]);
-    let mut c = long_room();
-    write_long(b"65,536 routes, a byte short", &s, &mut c[..262153]);
-    write_long(b"65,536 routes", &s, &mut c);
-    read(b"  read back", 2, &s, &c);
-    read(b"  of 65,535", 2, &s[..458765], &c);
-    c[8] = 0;
-    read(b"  a count of 16 bits", 2, &s, &c);
-    c[8] = 1;
-    c[3] = 1;
-    read(b"  as version 1", 2, &s, &c);
-    read(b"  version 1 of 65,535", 2, &s, &b[..131078]);
+    let mut short = short_room();
+    write_long(b"65,536 routes, a byte short", &s, &mut short);
+    let mut b = room_of_many();
+    write_long(b"65,536 routes", &s, &mut b);
+    read(b"  read back", 2, &s, &b);
+    read(b"  beside 65,535", 2, &few_routes(), &b);
+    b[8] = 0;
+    read(b"  its count in 16 bits", 2, &s, &b);
 }
 
 // The reader answers of the file first.
@@ -374,6 +408,7 @@ fn main() {
     heads();
     entries();
     versions();
-    many();
+    first();
+    second();
     files();
 }
