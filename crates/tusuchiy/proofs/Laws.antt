@@ -6,24 +6,22 @@ use mathlib.Core.Bool.{false, cond}
 use native.Mathlib.Omega.{arith}
 use lib.IntN.{ℤ}
 use lib.ListN.{length, getD, length-map}
-use lib.Dec.{eqb, ltb}
-use borrow.Author.Tests.{ltb-false}
+use lib.Dec.{eqb}
 use Rattle.meaning.specs.declared.Refusal.{Refusal}
 use Rattle.meaning.specs.declared.Verdict.the-variants.{Readable, Unreadable}
 use Rattle.meaning.specs.declared.Place.{Place}
 use Rattle.meaning.specs.declared.Profile.{Profile}
 use Rattle.meaning.specs.declared.Answer.{Answer}
 use Rattle.meaning.specs.declared.Answer.the-variants.{Accepted, Findings, Refused}
-use Rattle.meaning.specs.Lists.{some}
 use Rattle.meaning.specs.Bytes.{countLf}
 use Rattle.meaning.specs.Columns.{rowsOf, schemas, schema, knownAt, columnOf, countOf, tripsColumns, stopTimesColumns}
 use Rattle.meaning.specs.Tables.{fileOf, feedOf, rowsIn}
-use Rattle.meaning.specs.Refusals.{verdictOf, mayLack, maxLines, fewLines}
+use Rattle.meaning.specs.Refusals.{verdictOf, mayLack, maxLines}
 use Rattle.meaning.specs.Findings.{findingsOf, answerOf, handed, page, roomOf}
 use Rattle.meaning.specs.Outcome.{Outcome, readOutcome, filledFrom, outcome}
 use Rattle.meaning.specs.Promises.{WholeKept}
 use Rattle.meaning.proofs.Laws.{getD-map-in}
-use Rattle.meaning.proofs.Tests.{some-none}
+use Rattle.meaning.proofs.Tests.{Standing, below, level, over, standing}
 use Rattle.meaning.proofs.Readable.{always-there, whole-kept, values-kept}
 use Rattle.meaning.proofs.Held.{filled-at}
 use Rattle.marks.specs.Noted.{Noted, TripsNoted}
@@ -53,8 +51,14 @@ pub covered : (m : List ℕ) (files : List (List ℕ)) (counts : List ℕ) → c
 unfolding fileOf
 covered m files counts q h f low high = rw (q, count-at files (f - 1)) at (h (f - 1) (omega arith))
 
-pub few-each : (counts : List ℕ) → some (λ i. ltb fewLines (getD counts i 0)) 0 6 ≡ false → (i : ℕ) → i < 6 → getD counts i 0 ≤ fewLines
-few-each counts e i h = ltb-false fewLines (getD counts i 0) (some-none (λ i. ltb fewLines (getD counts i 0)) 0 6 e i (omega arith) (omega arith))
+-- one count more that is few
+pub few-next : (counts : List ℕ) (k n : ℕ) → ((i : ℕ) → i < k → getD counts i 0 ≤ n) → getD counts k 0 ≤ n → (i : ℕ) → i < k + 1 → getD counts i 0 ≤ n
+few-next counts k n h e i l = go (standing i k)
+  where
+    go : Standing i k → getD counts i 0 ≤ n
+    go (below q) = h i q
+    go (level q) = rw q e
+    go (over q) = absurd (omega arith)
 
 module _ (files : List (List ℕ)) (tables : List (List ℤ)) (six : length files ≡ 6) (lent : length tables ≡ 6) (read : verdictOf files (map length tables) ≡ Readable) where
   kept : (f : ℕ) → 1 ≤ f → f ≤ 6 → WholeKept files f (fileOf files f) (length (tableOf tables f))

@@ -2,10 +2,9 @@
 ghost use mathlib.Core.Path.{_≡_};
 ghost use mathlib.Core.List.{_∷_, [], map};
 ghost use mathlib.Core.Bool.{cond};
-ghost use lib.Dec.{eqb, ltb};
+ghost use lib.Dec.{eqb};
 ghost use lib.ListN.{length, getD};
 ghost use Rattle.meaning.specs.Bytes.{countLf};
-ghost use Rattle.meaning.specs.Lists.{some};
 ghost use Rattle.meaning.specs.Refusals.{maxBytes, fewLines, verdictOf};
 ghost use Rattle.meaning.specs.Outcome.{readOutcome, outcome};
 ghost use Prim.Native.Nat.{ℕ, _+_, _*_, _<_, _≤_};
@@ -44,20 +43,6 @@ fn count_all(files: [&[u8]; 6]) -> [usize; 6]
         i += 1;
     }
     counts
-}
-
-// Has some file more than few lines?
-fn has_many(counts: [usize; 6]) -> bool
-    ensures { λ r. ⌜ r ≡ some (λ i. ltb fewLines (getD counts i 0)) 0 6 ⌝ }
-{
-    let mut i: usize = 0;
-    while i < 6 {
-        if FEW_LINES < counts[i] {
-            return true;
-        }
-        i += 1;
-    }
-    false
 }
 
 // A readable feed, whose files have so many LF bytes each, and marks with an entry for each line: its tables are filled and its findings handed out.
@@ -192,8 +177,10 @@ fn checked_many(
     )
 }
 
-// The same, with marks by the number of lines.
-fn checked(
+// The same, with marks by the number of lines: files before i have few. It calls itself and makes no loop, in which the compiler would put both arrays into
+// the caller's frame: a small feed would touch every page of the large one.
+fn checked_from(
+    i: usize,
     files: [&[u8]; 6],
     counts: [usize; 6],
     stops_table: &mut [i32],
@@ -209,13 +196,29 @@ fn checked(
     requires { ⌜ verdictOf (map now files)
         (length (now «stops_table») ∷ length (now «routes_table») ∷ length (now «calendar_table») ∷ length (now «trips_table») ∷ length (now «stop_times_table») ∷ length (now «calendar_dates_table») ∷ []) ≡ Verdict.Readable ⌝ }
     requires { ⌜ counts ≡ map countLf (map now files) ⌝ }
+    requires { ⌜ (i ≤ 6) × ((k : ℕ) → k < i → getD counts k 0 ≤ fewLines) ⌝ }
     ensures { λ r. ⌜ readOutcome (map now (files .entry))
         (now («stops_table» .entry) ∷ now («routes_table» .entry) ∷ now («calendar_table» .entry) ∷ now («trips_table» .entry) ∷ now («stop_times_table» .entry) ∷ now («calendar_dates_table» .entry) ∷ [])
         (now (findings .entry)) from asked
         ≡ record { answer = r; tables = now («stops_table» .exit) ∷ now («routes_table» .exit) ∷ now («calendar_table» .exit) ∷ now («trips_table» .exit) ∷ now («stop_times_table» .exit) ∷ now («calendar_dates_table» .exit) ∷ []; list = now (findings .exit) } ⌝ }
     ensures { λ r. ⌜ Small r ⌝ }
 {
-    if has_many(counts) {
+    if i == 6 {
+        return checked_few(
+            files,
+            counts,
+            stops_table,
+            routes_table,
+            calendar_table,
+            trips_table,
+            stop_times_table,
+            calendar_dates_table,
+            findings,
+            from,
+            asked,
+        );
+    }
+    if FEW_LINES < counts[i] {
         return checked_many(
             files,
             counts,
@@ -230,7 +233,8 @@ fn checked(
             asked,
         );
     }
-    checked_few(
+    checked_from(
+        i + 1,
         files,
         counts,
         stops_table,
@@ -274,7 +278,8 @@ pub fn check(
         calendar_dates_table.len(),
     ];
     match reading::verdict(files, rooms, counts) {
-        Verdict::Readable => checked(
+        Verdict::Readable => checked_from(
+            0,
             files,
             counts,
             stops_table,
