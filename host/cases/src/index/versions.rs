@@ -53,14 +53,14 @@ struct Many {
     records: Vec<usize>,
 }
 
-/// An id of its own for each record that rule 2 allows.
-pub fn scattered(record: usize) -> String {
-    format!("{:x}", record * 40_503 % MOST_LINES)
+/// A number of its own below as many as there may be lines for each record, in no order.
+pub(super) fn scattered(record: usize) -> usize {
+    record * 40_503 % MOST_LINES
 }
 
 impl Many {
     fn new(number: usize, count: usize) -> Self {
-        let ids: Vec<Vec<u8>> = (1..=count).map(|record| scattered(record).into_bytes()).collect();
+        let ids: Vec<Vec<u8>> = (1..=count).map(|record| format!("{:x}", scattered(record)).into_bytes()).collect();
         let mut records: Vec<usize> = (1..=count).collect();
         records.sort_by_key(|record| &ids[record - 1]);
         Many { number, file: file(number, &PLAIN, &ids), ids, records }
@@ -198,7 +198,7 @@ pub fn beside_many(place: usize) -> (Case, Outcome) {
     let everywhere = COUNTS.into_iter().flat_map(|count| AT_EVERY_COUNT.map(|lent| (count, lent)));
     let narrow = NARROW.map(|index| (MOST_OF_VERSION_1, Lent::Index(index)));
     let wide = WIDE_HEADS.iter().chain(&WIDE_RECORDS).map(|&index| (WIDE, Lent::Index(index)));
-    let (count, lent) = everywhere.chain(narrow).chain(wide).nth(place).expect("a place below the number of calls");
+    let (count, lent) = wide.chain(narrow).chain(everywhere).nth(place).expect("a place below the number of calls");
     let many = Many::new(1 + count % 4, count);
     let case = match lent {
         Lent::Buffer(more) => write(many.number as i32, &many.file, many.right().len().saturating_add_signed(more)),
