@@ -1,6 +1,8 @@
 //! The hash-map check against the customer's cases and the model: the answer, all tables and the list, whole.
 
-use cases::large::{self, families::FAMILIES};
+use cases::large;
+use cases::large::families::FAMILIES;
+use cases::large::limits::{self, FEEDS};
 use cases::limits::MOST_LINES;
 use cases::{agree, Case, Outcome};
 use model::fields::line_ends;
@@ -52,7 +54,13 @@ fn the_benchmarks_large_feeds_can_be_read() {
     }
 }
 
+/// Rules 1 and 2, at their limits and over them: the answer alone, since tables of smaller feeds are compared.
 #[test]
-fn on_feeds_at_the_limits() {
-    agree::on_feeds_at_the_limits(by_quick).on_threads();
+fn at_the_limits() {
+    for number in 0..FEEDS {
+        let (files, refusal) = limits::at_the_limits(number);
+        let refused = |[number, file]: [usize; 2]| Answer::Refused { number, file, line: 0, column: 0 };
+        let answer = quick::check(&files, &mut large::tables(&files, 0), &mut [], [0, 0, 0], Profile::Plain);
+        assert_eq!(answer, refusal.map_or(Answer::Accepted, refused), "feed {number}");
+    }
 }

@@ -59,8 +59,12 @@ pub(super) fn scattered(record: usize) -> usize {
 }
 
 impl Many {
-    fn new(number: usize, count: usize) -> Self {
-        let ids: Vec<Vec<u8>> = (1..=count).map(|record| format!("{:x}", scattered(record)).into_bytes()).collect();
+    /// With the first record's id for the last one's too, if that is asked for.
+    fn new(number: usize, count: usize, repeated: bool) -> Self {
+        let mut ids: Vec<Vec<u8>> = (1..=count).map(|record| format!("{:x}", scattered(record)).into_bytes()).collect();
+        if repeated {
+            ids[count - 1] = ids[0].clone();
+        }
         let mut records: Vec<usize> = (1..=count).collect();
         records.sort_by_key(|record| &ids[record - 1]);
         Many { number, file: file(number, &PLAIN, &ids), ids, records }
@@ -101,10 +105,11 @@ impl Many {
     }
 }
 
-/// What is lent beside many records: a buffer of so many bytes more than the need or less, or an index.
+/// What is lent beside many records: a buffer of so many bytes more than the need or less, or, where an id repeats, of the need; or an index.
 #[derive(Clone, Copy)]
 enum Lent {
     Buffer(isize),
+    BufferInVain,
     Index(Index),
 }
 
@@ -116,10 +121,11 @@ fn swap_last(records: &mut [usize]) {
     records.swap(last - 1, last);
 }
 
-/// What every count is tried with: buffers that are short by a byte and long, the right index, the other version's, and half of version 2.
-const AT_EVERY_COUNT: [Lent; 5] = [
+/// What every count is tried with: buffers that are short by a byte, long and in vain, the right index, the other version's, and half of version 2.
+const AT_EVERY_COUNT: [Lent; 6] = [
     Lent::Buffer(-1),
     Lent::Buffer(3),
+    Lent::BufferInVain,
     Lent::Index(Many::right),
     Lent::Index(Many::other),
     Lent::Index(|many| half_wide(many.number, &many.records)[many.records.len() % 2].clone()),
@@ -199,9 +205,11 @@ pub fn beside_many(place: usize) -> (Case, Outcome) {
     let narrow = NARROW.map(|index| (MOST_OF_VERSION_1, Lent::Index(index)));
     let wide = WIDE_HEADS.iter().chain(&WIDE_RECORDS).map(|&index| (WIDE, Lent::Index(index)));
     let (count, lent) = wide.chain(narrow).chain(everywhere).nth(place).expect("a place below the number of calls");
-    let many = Many::new(1 + count % 4, count);
+    let many = Many::new(1 + count % 4, count, matches!(lent, Lent::BufferInVain));
+    let need = Version::of(count).length(count);
     let case = match lent {
-        Lent::Buffer(more) => write(many.number as i32, &many.file, many.right().len().saturating_add_signed(more)),
+        Lent::Buffer(more) => write(many.number as i32, &many.file, need.saturating_add_signed(more)),
+        Lent::BufferInVain => write(many.number as i32, &many.file, need),
         Lent::Index(index) => check(many.number as i32, &many.file, index(&many)),
     };
     let case = Case { name: format!("call {place} about {count} records"), ..case };
@@ -218,7 +226,7 @@ mod tests {
     #[test]
     fn the_ids_of_many_records_are_those_of_their_file() {
         for number in 1..=4 {
-            let many = Many::new(number, WIDE);
+            let many = Many::new(number, WIDE, false);
             assert!(ids(number as i32, &many.file).as_ref() == Ok(&many.ids), "file {number}");
         }
     }
