@@ -47,13 +47,14 @@ fn good(case: Case, index: &[u8]) -> (Case, Outcome) {
 
 /// One of the calls, and what it must give. It is made when it is asked for: all of them take much memory.
 pub fn at_the_limits(number: usize) -> (Case, Outcome) {
-    match number {
+    let (case, outcome) = match number {
         0..=4 => of_most_lines(number),
         5 => good(write(2, &long(MOST_BYTES), 11), &bytes(2, &[1])),
         6 => good(check(2, &long(MOST_BYTES), bytes(2, &[1])), &bytes(2, &[1])),
         7 => refused(write(2, &long(MOST_BYTES + 1), 11), 1),
         _ => refused(check(2, &long(MOST_BYTES + 1), bytes(2, &[1])), 1),
-    }
+    };
+    (Case { name: format!("call {number} at a limit"), ..case }, outcome)
 }
 
 /// The last two records of a version 2 index change places.
