@@ -4,7 +4,7 @@
 use crate::index::versions;
 use crate::large;
 use crate::large::families::FAMILIES;
-use crate::large::limits::{at_the_limits, FEEDS};
+use crate::large::limits::{around_16_bits, at_the_limits, AROUND, FEEDS};
 use crate::listing::mend::{mendable, only_what_was_hidden, rounds};
 use crate::{by_model, difference, edges, generate, index, listing, vectors, Case, Outcome};
 use model::faults::{faults, Fault};
@@ -118,6 +118,19 @@ pub fn on_feeds_at_the_limits(check: Checks) -> Comparison<'static> {
         };
         assert_eq!(wanted.answer == Answer::Accepted, refusal.is_none(), "{}", case.name);
         with_outcome(check, &case, &wanted);
+    })
+}
+
+/// Feeds of as many lines and records as 16 bits count, and more; one list has room for all findings, the others for a few.
+pub fn on_feeds_around_16_bits(check: Checks) -> Comparison<'static> {
+    Comparison::new(AROUND, move |number| {
+        let files = around_16_bits(number);
+        let list = vec![3; if number == 1 { 1 << 18 } else { 10 }];
+        let tables = large::tables(&files, 5);
+        with_model(
+            check,
+            &Case { name: format!("feed {number} around 16 bits"), files, tables, list, ..Case::default() },
+        );
     })
 }
 

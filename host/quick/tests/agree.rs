@@ -54,6 +54,11 @@ fn the_benchmarks_large_feeds_can_be_read() {
     }
 }
 
+#[test]
+fn on_feeds_around_16_bits() {
+    agree::on_feeds_around_16_bits(by_quick).on_threads();
+}
+
 /// Rules 1 and 2, at their limits and over them: the answer alone, since tables of smaller feeds are compared.
 #[test]
 fn at_the_limits() {

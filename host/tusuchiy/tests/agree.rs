@@ -16,6 +16,7 @@ fn main() -> ExitCode {
         ("on_generated_feeds", || agree::on_generated_feeds(by_archive, SEEDS)),
         ("on_the_benchmarks_feeds", || agree::on_the_benchmarks_feeds(by_archive, &[(64, 12_000), (1024, 12_000)])),
         ("pages_join", pages_join),
+        ("on_feeds_around_16_bits", || agree::on_feeds_around_16_bits(by_archive)),
         ("on_feeds_at_the_limits", || agree::on_feeds_at_the_limits(by_archive)),
         ("the_limits_speak_in_their_order", || Comparison::once(the_limits_speak_in_their_order)),
         ("as_many_findings_as_there_can_be", as_many_findings_as_there_can_be),

@@ -1,7 +1,7 @@
 //! Both versions of an index: beside few records, and on both sides of as many as version 1 counts.
 
 use super::edges::{check, file, write, PLAIN, THREE};
-use super::{by_model_of, sorted, Case, Outcome};
+use super::{by_model, by_model_of, sorted, Case, Outcome};
 use crate::limits::{MOST_LINES, MOST_OF_VERSION_1};
 use model::index::{bytes, Version, VERSION_1, VERSION_2};
 
@@ -105,12 +105,14 @@ impl Many {
     }
 }
 
-/// What is lent beside many records: a buffer of so many bytes more than the need or less, or, where an id repeats, of the need; or an index.
+/// What is lent beside many records: a buffer of so many bytes more than the need or less, or, where an id repeats, of the need; or an index,
+/// or the right one where the last line is broken.
 #[derive(Clone, Copy)]
 enum Lent {
     Buffer(isize),
     BufferInVain,
     Index(Index),
+    IndexInVain,
 }
 
 type Index = fn(&Many) -> Vec<u8>;
@@ -121,14 +123,16 @@ fn swap_last(records: &mut [usize]) {
     records.swap(last - 1, last);
 }
 
-/// What every count is tried with: buffers that are short by a byte, long and in vain, the right index, the other version's, and half of version 2.
-const AT_EVERY_COUNT: [Lent; 6] = [
+/// What every count is tried with: buffers that are short by a byte, long and in vain; the right index, the other version's, one of which half is
+/// version 2's, and one in vain.
+const AT_EVERY_COUNT: [Lent; 7] = [
     Lent::Buffer(-1),
     Lent::Buffer(3),
     Lent::BufferInVain,
     Lent::Index(Many::right),
     Lent::Index(Many::other),
     Lent::Index(|many| half_wide(many.number, &many.records)[many.records.len() % 2].clone()),
+    Lent::IndexInVain,
 ];
 
 const COUNTS: [usize; 4] = [MOST_OF_VERSION_1 - 1, MOST_OF_VERSION_1, MOST_OF_VERSION_1 + 1, WIDE];
@@ -211,9 +215,15 @@ pub fn beside_many(place: usize) -> (Case, Outcome) {
         Lent::Buffer(more) => write(many.number as i32, &many.file, need.saturating_add_signed(more)),
         Lent::BufferInVain => write(many.number as i32, &many.file, need),
         Lent::Index(index) => check(many.number as i32, &many.file, index(&many)),
+        Lent::IndexInVain => {
+            check(many.number as i32, &[&many.file[..many.file.len() - 1], b"\t\n"].concat(), many.right())
+        }
     };
     let case = Case { name: format!("call {place} about {count} records"), ..case };
-    let outcome = by_model_of(&case, &many.ids);
+    let outcome = match lent {
+        Lent::IndexInVain => by_model(&case),
+        _ => by_model_of(&case, &many.ids),
+    };
     (case, outcome)
 }
 
