@@ -36,14 +36,15 @@ fn long(file: usize, bytes: usize) -> Files {
 }
 
 /// How many feeds are around as many lines and records as 16 bits count.
-pub const AROUND: usize = 7;
+pub const AROUND: usize = 6;
 
 /// One of these feeds: with so many records in every file, or with a tab on the last line of stop_times, in the end on the last line that there
 /// may be.
 pub fn around_16_bits(number: usize) -> Files {
     match number {
-        0..=2 => mirrored(MOST_OF_VERSION_1 + number),
-        3..=5 => with_last_tab(MOST_OF_VERSION_1 + number - 3),
+        0 => mirrored(MOST_OF_VERSION_1),
+        1 => mirrored(MOST_OF_VERSION_1 + 2),
+        2..=4 => with_last_tab(MOST_OF_VERSION_1 + number - 2),
         _ => with_last_tab(MOST_LINES - 1),
     }
 }
