@@ -17,7 +17,7 @@ use std::ffi::OsStr;
 use std::io::Write;
 use std::os::unix::ffi::OsStrExt;
 use std::path::{Path, PathBuf};
-use tusuchiy::index::{self, Refused, ENTRY, FILES, HEAD};
+use tusuchiy::index::{self, Refused, Version, FILES};
 use tusuchiy::File;
 
 /// What `index` is asked for.
@@ -87,11 +87,6 @@ fn print(done: &Done, style: Style) -> Result<u8, String> {
 /// The name of the index of a file that has one.
 fn name(file: File) -> &'static str {
     file.index_name().unwrap_or_default()
-}
-
-/// How many records an index of this length has.
-fn records(length: usize) -> usize {
-    length.saturating_sub(HEAD) / ENTRY
 }
 
 /// Judges all indexes. One that isn't there has no bytes, unless its file isn't supplied either.
@@ -198,6 +193,12 @@ impl Done<'_> {
             Outcome::Refused(refusal, about) => Some((refusal, about)),
             _ => None,
         })
+    }
+
+    /// How many records the index of a file lists if it is good, and its version.
+    fn records(&self, file: File) -> (usize, Version) {
+        let records = about::records(&self.feed, file);
+        (records, Version::of(records))
     }
 
     /// The path of an index, safe to print.
