@@ -69,9 +69,9 @@ type Bytes = (&'static str, fn(usize) -> Vec<u8>);
 
 const BYTES: [Bytes; 2] = [("feed-like", feed_like), ("all LF", |size| vec![b'\n'; size])];
 
-/// Lines of stop_times.txt as the plain feed has them, the first family, over and over.
+/// Lines of stop_times.txt as a plain feed has them, the first family, over and over.
 fn feed_like(size: usize) -> Vec<u8> {
-    let [_, _, _, _, lines, _] = (FAMILIES[0].feed)(MOST_LINES);
+    let [_, _, _, _, lines, _] = (FAMILIES[0].feed)(65_536);
     let mut bytes = lines.repeat(size / lines.len() + 1);
     bytes.truncate(size);
     bytes
