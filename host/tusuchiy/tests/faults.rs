@@ -371,7 +371,7 @@ fn lists_as_long_as_they_can_be_are_quick() {
 fn as_many_faults_as_there_can_be() {
     let file = "x\n".repeat(MOST_LINES - 1) + "\t\n\t";
     let folder = with(&NAMES.map(|name| (name, file.as_bytes())));
-    // Of each file 4, 9 in the header, which leaves the lines below it unjudged but for the tabs, and these.
+    // Of each file 4, 9 of the header, under which values aren't judged, and the tabs on its last two lines.
     let shown = text(&[folder.path()]);
     assert!(shown.contains("\nfaults: 24, this one among them\n"), "{shown}");
     let file = "\t\n".repeat(MOST_LINES) + "\t";

@@ -45,7 +45,8 @@ fn pages_of_any_room_join() {
 fn pages_join(mut check: Check, wanted: &[Finding]) {
     let total = wanted.len();
     assert_eq!(check.verdict().expect("an answer"), Verdict::Findings { written: 0, total });
-    for room in [0, 1, 2, 3, total - 1, total, total + 1, 1000] {
+    // No more is lent than the feed can use, however much room is asked for.
+    for room in [0, 1, 2, 3, total - 1, total, total + 1, 1000, usize::MAX] {
         let told: Result<Vec<Finding>, _> = check.findings_by(room).collect();
         assert_eq!(told.expect("findings"), wanted, "room {room}");
     }

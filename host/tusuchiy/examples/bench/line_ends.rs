@@ -4,8 +4,9 @@ use crate::clock;
 use crate::report::{processor, seconds};
 use crate::table::Table;
 use cases::large::families::FAMILIES;
+use cases::limits::{MOST_BYTES, MOST_LINES};
 use std::hint::black_box;
-use tusuchiy::{check_here, Profile, FILES, MOST_BYTES, MOST_LINES};
+use tusuchiy::{check_here, Profile, FILES};
 
 /// What `--only` calls it.
 pub const NAME: &str = "line-ends";

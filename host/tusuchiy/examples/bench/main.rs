@@ -11,13 +11,11 @@ mod report;
 mod table;
 
 use cases::large::families::{Family, FAMILIES};
+use cases::limits::MOST_LINES;
 use measure::{fastest, parts, Checker};
 use model::Answer;
 use report::{Parts, Row};
 use tusuchiy::Profile;
-
-/// The lines of the longest file, the header counted: the most that rule 2 allows.
-const MOST_LINES: usize = 1_048_576;
 
 /// A size is skipped where a check would take longer than so many seconds, if its time grew with the square.
 const PATIENCE: f64 = 60.0;
