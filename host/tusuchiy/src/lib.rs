@@ -87,8 +87,8 @@ pub const WIDTHS: [usize; FILES] = {
 };
 
 /// The most bytes that rule 1 allows a file, and the most lines that rule 2 does.
-pub const MOST_BYTES: usize = 16_777_216;
-pub const MOST_LINES: usize = 65_536;
+pub const MOST_BYTES: usize = 134_217_728;
+pub const MOST_LINES: usize = 1_048_576;
 
 /// The answer as the archive gives it; include/tusuchiy.h says what each number means.
 #[repr(C)]
