@@ -12,7 +12,7 @@ use crate::memory;
 use crate::paging::Refusal;
 use crate::refusals::Reasons;
 use crate::style::{self, Style, When};
-use crate::{many, safe, source, whole, zip, REFUSED};
+use crate::{many, progress, safe, source, whole, zip, REFUSED};
 use std::ffi::OsStr;
 use std::io::Write;
 use std::os::unix::ffi::OsStrExt;
@@ -109,6 +109,7 @@ fn judge(feed: &Feed, file: File, index: Option<&[u8]>) -> Result<Outcome, Strin
     if feed.left_out(file) && index.is_none() {
         return Ok(Outcome::NotSupplied);
     }
+    progress::step(|| format!("judging {}", name(file)));
     let judged = memory::told(|| index::judge(file, feed.bytes(file), index.unwrap_or(&[])));
     Ok(match judged.map_err(|error| error.to_string())? {
         Ok(()) => Outcome::Good(index.map_or(0, <[u8]>::len)),
@@ -134,6 +135,7 @@ fn write(feed: &Feed, file: File, folder: &Folder) -> Result<Outcome, String> {
         let path = folder.path_of(name);
         format!("can't write {}: {why}", safe::name(path.as_os_str().as_bytes()))
     };
+    progress::step(|| format!("indexing {file}"));
     match memory::told(|| index::of(file, feed.bytes(file))).map_err(|error| cannot(error.to_string()))? {
         Ok(index) => {
             let put = whole::put(folder, name, |out| out.write_all(&index));
