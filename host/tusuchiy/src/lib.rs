@@ -67,7 +67,9 @@ pub use faults::{try_faults, Faults, FaultsAnswer};
 pub use index::IndexAnswer;
 pub use kinds::{Fault, File, Finding, IndexRefusal, Profile, Refusal, Rule, FILES};
 
+use std::cell::Cell;
 use std::io;
+use std::panic;
 use std::thread;
 
 /// How much stack a call of one of the archive's functions uses at most, in bytes; include/tusuchiy.h has the same figure.
@@ -179,7 +181,7 @@ pub fn try_check(
     after: [i32; 3],
     profile: Profile,
 ) -> io::Result<Answer> {
-    on_stack(THREAD_STACK, move || archive::check(files, tables, list, after, profile))
+    on_large_stack(move || archive::check(files, tables, list, after, profile))
 }
 
 /// The same on the stack that the caller has, in no other thread. [`STACK`] bytes of it must be left: where there are fewer the system may end
@@ -194,12 +196,39 @@ pub fn check_here(
     archive::check(files, tables, list, after, profile)
 }
 
-/// Makes a call in a thread with so much stack.
-fn on_stack<Told: Send>(size: usize, call: impl FnOnce() -> Told + Send) -> io::Result<Told> {
+/// Does some work in a thread with so much stack.
+fn on_stack<Done: Send>(size: usize, work: impl FnOnce() -> Done + Send) -> io::Result<Done> {
     thread::scope(|scope| {
-        let thread = thread::Builder::new().stack_size(size).spawn_scoped(scope, call)?;
-        thread.join().map_err(|_| io::Error::other("the check's thread died"))
+        let thread = thread::Builder::new().stack_size(size).spawn_scoped(scope, work)?;
+        Ok(thread.join().unwrap_or_else(|fault| panic::resume_unwind(fault)))
     })
+}
+
+thread_local! {
+    /// Was this thread made with a stack that is large enough for every call?
+    static IS_LARGE: Cell<bool> = const { Cell::new(false) };
+}
+
+/// Does work that makes several calls in one thread, whose stack is large enough for each: none of them makes a thread of its own, as calls elsewhere do.
+/// Besides a call's stack the work has [`STACK`] bytes.
+///
+/// # Errors
+///
+/// Where the system gives no thread.
+pub fn in_one_thread<Done: Send>(work: impl FnOnce() -> Done + Send) -> io::Result<Done> {
+    on_stack(THREAD_STACK, || {
+        IS_LARGE.set(true);
+        work()
+    })
+}
+
+/// Makes a call where the stack is large enough.
+fn on_large_stack<Told: Send>(call: impl FnOnce() -> Told + Send) -> io::Result<Told> {
+    if IS_LARGE.get() {
+        Ok(call())
+    } else {
+        in_one_thread(call)
+    }
 }
 
 /// The same for those who can't go on without a thread.

@@ -3,7 +3,7 @@
 use crate::feed::{Feed, FILES, MOST_LINES};
 use crate::memory;
 use crate::progress;
-use tusuchiy::{faults, Check, Fault, Place, Profile, Verdict};
+use tusuchiy::{faults, Check, Error, Fault, Place, Profile, Verdict};
 
 /// The most findings that one call hands out: 40 MiB while it lasts. Each further call is a whole check.
 const MOST_ROOM: usize = 1 << 21;
@@ -129,7 +129,8 @@ pub struct Report {
 pub fn check(feed: &Feed, page: Option<Page>, profile: Profile) -> Result<Report, String> {
     // Most feeds have less than a finding a line, so that one call is enough.
     let room = (1..=FILES).map(|file| feed.line_count(file)).sum::<usize>().clamp(1, MOST_ROOM);
-    memory::told(|| check_by(feed, page, profile, [room, MOST_ROOM]))
+    let check = || memory::told(|| check_by(feed, page, profile, [room, MOST_ROOM]));
+    tusuchiy::in_one_thread(check).map_err(|error| Error::Thread(error).to_string())?
 }
 
 /// The same with this room for the first page and for each further one, where no other is asked for.
