@@ -250,6 +250,7 @@ pub fn check(
 mod tests {
     use super::*;
     use cases::large;
+    use std::hint::black_box;
 
     /// One call on no more stack than the header asks for; the verdict.
     fn verdict_on_stack(files: [&[u8]; FILES]) -> Option<Verdict> {
@@ -277,6 +278,35 @@ mod tests {
             assert_eq!(lines, Some(MOST_LINES));
             assert_eq!(verdict_on_stack(files.each_ref().map(|file| &file[..])), Some(Verdict::Accepted));
         }
+    }
+
+    /// A call makes a thread of its own, but none in a thread that was made for several calls.
+    #[test]
+    fn one_thread_for_several_calls() {
+        let here = || thread::current().id();
+        let of_call = || on_large_stack(here).expect("a thread");
+        assert_ne!(of_call(), here());
+        let [work, first, second] = in_one_thread(|| [here(), of_call(), of_call()]).expect("a thread");
+        assert_eq!([work, work], [first, second]);
+        assert!(work != here() && of_call() != here(), "the thread that waits is none of these");
+    }
+
+    /// Calls work under as much stack of the work's own as it may have.
+    fn under_a_large_frame<Done>(work: impl FnOnce() -> Done) -> Done {
+        let frame = black_box([1_u8; STACK - (64 << 10)]);
+        let done = work();
+        black_box(&frame);
+        done
+    }
+
+    /// More records than version 1 lists: the index's calls then use the most stack of all.
+    #[test]
+    fn the_work_has_stack_besides() {
+        let lines: String = (0..70_000).map(|number| format!("{number:05},3\n")).collect();
+        let routes = format!("route_id,route_type\n{lines}").into_bytes();
+        let work =
+            || under_a_large_frame(|| index::of(File::Routes, &routes).expect("an answer").map(|index| index.len()));
+        assert_eq!(in_one_thread(work).expect("a thread"), Ok(280_010));
     }
 
     /// The header has the version of this package.
