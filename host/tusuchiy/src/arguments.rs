@@ -294,7 +294,7 @@ mod tests {
             assert_eq!(parsed(line), checks(Form::Text, Some(page)), "{line}");
         }
         let page = Page { after: [0, 0, 0], room: Some(MOST_FINDINGS) };
-        assert_eq!(parsed("check --room 1179648 -- f"), checks(Form::Text, Some(page)));
+        assert_eq!(parsed("check --room 18874368 -- f"), checks(Form::Text, Some(page)));
         let page = Page { after: [5, 3, 29], room: None };
         assert_eq!(parsed("check --after 5,3,29 f"), checks(Form::Text, Some(page)));
         assert!(parsed("check f g --all --room 3 --json").is_ok());
@@ -396,7 +396,7 @@ mod tests {
             "check f --room",
             "check f --room -1",
             "check f --room x",
-            "check f --room 1179649",
+            "check f --room 18874369",
             "check f --room=",
             "check f --jobs 0",
             "check f --color blue",

@@ -10,7 +10,6 @@ use crate::safe;
 use crate::value::{Members, Value};
 use std::borrow::Cow;
 use std::cell::OnceCell;
-use std::collections::HashMap;
 use tusuchiy::{File, WIDTHS};
 
 /// What a finding or a refusal is about: in words, and the same as members.
@@ -43,9 +42,9 @@ const DATE: Cell = (6, 2);
 /// The lines of stop_times.txt that a trip has: how many, the first and the last by stop_sequence.
 #[derive(Clone, Copy, Default)]
 struct Calls {
-    count: usize,
-    first: usize,
-    last: usize,
+    count: u32,
+    first: u32,
+    last: u32,
 }
 
 /// For a line of stop_times.txt the first line of its trip with the same stop_sequence, and of the timed lines with a
@@ -60,7 +59,7 @@ pub struct Facts<'a> {
     feed: &'a Feed,
     tables: &'a [Vec<i32>; FILES],
     names: Names<'a>,
-    firsts: [OnceCell<HashMap<Key<'a>, u32>>; FILES],
+    firsts: [OnceCell<Vec<u32>>; FILES],
     calls: OnceCell<Vec<Calls>>,
     beside: OnceCell<Vec<Beside>>,
 }
@@ -124,24 +123,25 @@ impl<'a> Facts<'a> {
         (id, (file == DATE.0).then(|| self.number(DATE, line)))
     }
 
-    /// The first line with a key.
-    fn first(&self, file: usize, key: &Key<'a>) -> usize {
-        let firsts = self.firsts[file - 1].get_or_init(|| {
-            let mut firsts = HashMap::new();
+    /// For each line of a file the first line with its key; lines are sorted, since a map of a million keys would take more than their file.
+    fn firsts(&self, file: usize) -> &[u32] {
+        let key = |line: &u32| self.key(file, *line as usize);
+        self.firsts[file - 1].get_or_init(|| {
             let lines = self.feed.line_count(file);
-            firsts.try_reserve(lines).unwrap_or_else(|_| memory::none());
-            for line in 2..=lines {
-                firsts.entry(self.key(file, line)).or_insert(line as u32);
+            let mut order = memory::list((2..=lines).map(|line| line as u32), lines);
+            order.sort_unstable_by(|one, other| key(one).cmp(&key(other)).then(one.cmp(other)));
+            let mut firsts = memory::list((0..=lines).map(|_| 0), lines + 1);
+            for same in order.chunk_by(|one, other| key(one) == key(other)) {
+                same.iter().for_each(|line| firsts[*line as usize] = same[0]);
             }
             firsts
-        });
-        firsts.get(key).map_or(0, |&line| line as usize)
+        })
     }
 
     fn repeated_id(&self, file: usize, line: usize) -> About {
         let column = IDS[file - 1];
         let key = self.key(file, line);
-        let earlier = self.first(file, &key);
+        let earlier = self.firsts(file)[line] as usize;
         repeated_id(column, &key.0, key.1.map(written_date), earlier)
     }
 
@@ -271,15 +271,38 @@ impl<'a> Facts<'a> {
     /// The lines of stop_times.txt by trip, stop_sequence and line, each after a number for its trip_id.
     fn in_trip_order(&self) -> Vec<(u32, u32)> {
         let lines = self.feed.line_count(5);
-        let mut numbers: HashMap<Cow<[u8]>, u32> = HashMap::new();
-        numbers.try_reserve(lines).unwrap_or_else(|_| memory::none());
-        let with_trip = |line: usize| {
-            let next = numbers.len() as u32;
-            (*numbers.entry(self.value(5, line, "trip_id")).or_insert(next), line as u32)
-        };
-        let mut order = memory::list((2..=lines).map(with_trip), lines);
+        let mut order = self.numbered_unknown();
+        let known = |line: &usize| self.named(TRIP, *line).map(|trip| (trip as u32, *line as u32));
+        order.extend((2..=lines).filter_map(|line| known(&line)));
         order.sort_unstable_by_key(|&(trip, line)| (trip, self.number(SEQUENCE, line as usize), line));
         order
+    }
+
+    /// The lines of stop_times.txt whose trip_id stands in no line of trips.txt, each after a number for it that no line there has; there is room for
+    /// all other lines.
+    fn numbered_unknown(&self) -> Vec<(u32, u32)> {
+        let lines = self.feed.line_count(5);
+        let place = self.names.place(5, "trip_id").unwrap_or(0);
+        let raw = |line: usize| {
+            let text = self.feed.line(5, line).unwrap_or(&[]);
+            let field = field(text, place + 1).unwrap_or(0..0);
+            (line as u32, field.start as u32, field.len() as u32)
+        };
+        let unknown = |line: &usize| self.number(TRIP, *line) == 0;
+        // Where each id stands is looked up once, and not for each comparison: a line may be long.
+        let mut ids = memory::list((2..=lines).filter(unknown).map(raw), lines);
+        let id = |&(line, start, length): &(u32, u32, u32)| {
+            let text = self.feed.line(5, line as usize).unwrap_or(&[]);
+            value(&text[start as usize..(start + length) as usize])
+        };
+        ids.sort_unstable_by(|one, other| id(one).cmp(&id(other)));
+        let mut numbered = memory::list([].into_iter(), lines);
+        let mut number = self.feed.line_count(4) as u32;
+        for same in ids.chunk_by(|one, other| id(one) == id(other)) {
+            number += 1;
+            numbered.extend(same.iter().map(|&(line, ..)| (number, line)));
+        }
+        numbered
     }
 
     /// The line of the same trip that has this line's stop_sequence already, and the one that departs too late.
@@ -347,7 +370,7 @@ impl<'a> Facts<'a> {
             let mut calls = memory::list((0..trips).map(|_| Calls::default()), trips);
             for line in 2..=self.feed.line_count(5) {
                 let trip = self.named(TRIP, line).map_or(0, |trip| trip - 1);
-                calls[trip] = self.with_line(calls[trip], line);
+                calls[trip] = self.with_line(calls[trip], line as u32);
             }
             calls
         });
@@ -355,9 +378,9 @@ impl<'a> Facts<'a> {
     }
 
     /// A trip with one more line, further down than the others: of equal sequences the earlier line stays.
-    fn with_line(&self, calls: Calls, line: usize) -> Calls {
+    fn with_line(&self, calls: Calls, line: u32) -> Calls {
         let Calls { count, first, last } = calls;
-        let sequence = |line: usize| self.number(SEQUENCE, line);
+        let sequence = |line: u32| self.number(SEQUENCE, line as usize);
         Calls {
             count: count + 1,
             first: if count == 0 || sequence(line) < sequence(first) { line } else { first },
@@ -370,7 +393,10 @@ impl<'a> Facts<'a> {
         let calls = self.calls(line);
         let (words, lines) = match calls.count {
             0 => ("has no line in stop_times.txt".to_string(), Vec::new()),
-            _ => (format!("has one line in stop_times.txt, line {}", calls.first), vec![Value::size(calls.first)]),
+            _ => {
+                let line = calls.first as usize;
+                (format!("has one line in stop_times.txt, line {line}"), vec![Value::size(line)])
+            }
         };
         About {
             words: format!("trip_id {} {words}", shown(&id)),
@@ -380,6 +406,7 @@ impl<'a> Facts<'a> {
 
     fn untimed_ends(&self, line: usize) -> About {
         let Calls { first, last, .. } = self.calls(line);
+        let [first, last] = [first, last].map(|line| line as usize);
         let words = |end: &str, line: usize| {
             let lacks = wanting(&self.times(line));
             format!("its {end} line by stop_sequence, line {line} of stop_times.txt, lacks {lacks}")

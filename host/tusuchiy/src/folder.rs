@@ -2,6 +2,7 @@
 
 use crate::feed::{Feed, Place, Unread, MOST_BYTES, NAMES};
 use crate::memory;
+use crate::progress;
 use crate::safe;
 use crate::system;
 use libc::{O_CREAT, O_DIRECTORY, O_EXCL, O_NOFOLLOW, O_NONBLOCK, O_PATH, O_RDONLY, O_WRONLY};
@@ -97,6 +98,7 @@ impl Folder {
     ) -> Result<Files<COUNT>, String> {
         let mut stamps = Vec::new();
         let files = all(names.map(|name| {
+            progress::step(|| format!("reading {name}"));
             let read = self.read_file(name, follow_links).map_err(|why| cannot(&self.path_of(name), &why))?;
             let (stamp, bytes) = read.unzip();
             stamps.push(stamp);

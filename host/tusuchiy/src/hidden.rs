@@ -10,13 +10,14 @@ const LONG: &str = "the file is too long, so its lines weren't judged and may br
 
 /// What may still come: of lines that have a fault, of files whose header is refused, and of files that are too long, a sentence
 /// each; from all faults of the feed.
-pub fn sentences(feed: &Feed, faults: &[Refusal]) -> Vec<String> {
+pub fn sentences(feed: &Feed, faults: impl Iterator<Item = Refusal> + Clone) -> Vec<String> {
     let of = |hides: &dyn Fn(&Refusal) -> bool| {
-        let has = |name: &&str| faults.iter().any(|fault| NAMES[fault.file - 1] == *name && hides(fault));
+        let has = |name: &&str| faults.clone().any(|fault| NAMES[fault.file - 1] == *name && hides(&fault));
         NAMES.into_iter().filter(has).collect::<Vec<_>>().join(", ")
     };
     // Of a single fault its line is shown, and there is nothing else to look at.
-    let lines = (faults.len() > 1 && faults.iter().any(|fault| fault.line > 0)).then(|| LINES.to_string());
+    let several = faults.clone().nth(1).is_some();
+    let lines = (several && faults.clone().any(|fault| fault.line > 0)).then(|| LINES.to_string());
     // A header that nothing stands below hides nothing.
     let headers = of(&|fault| fault.line == 1 && feed.line(fault.file, 2).is_some());
     let long = of(&|fault| fault.line == 0 && matches!(fault.number, 1 | 2));
@@ -35,7 +36,7 @@ mod tests {
         files[3] = Some(b"x\n".to_vec());
         let feed = Feed::new(Place::default(), files, Unread::default());
         let fault = |&(file, line, number): &_| Refusal { number, file, line, column: None };
-        sentences(&feed, &faults.iter().map(fault).collect::<Vec<_>>())
+        sentences(&feed, faults.iter().map(fault))
     }
 
     #[test]

@@ -3,7 +3,8 @@
 use crate::explain::meaning;
 use crate::facts::{About, Facts};
 use crate::feed::{Feed, NAMES};
-use crate::paging::{Finding, Outcome, Page, Refusal, Report};
+use crate::paging::{Faults, Finding, Findings, Outcome, Page, Refusal, Report};
+use crate::progress;
 use crate::refusals::Reasons;
 use crate::safe;
 use crate::text::totals;
@@ -16,18 +17,18 @@ const VERSION: usize = 3;
 
 /// Writes the document; every member stands in every document, in this order.
 pub fn write(out: &mut dyn Write, feed: &Feed, report: &Report) -> io::Result<()> {
-    let none: &[Finding] = &[];
+    let none = Findings::default();
     let (verdict, list, total) = match &report.outcome {
-        Outcome::Accepted => ("accepted", none, 0),
-        Outcome::Findings { list, total } => ("findings", &list[..], *total),
-        Outcome::Refused { .. } => ("refused", none, 0),
+        Outcome::Accepted => ("accepted", &none, 0),
+        Outcome::Findings { list, total } => ("findings", list, *total),
+        Outcome::Refused { .. } => ("refused", &none, 0),
     };
     write!(out, "{{\"version\": {VERSION}, \"verdict\": \"{verdict}\", \"profile\": \"{}\", ", report.profile)?;
     write_faults(out, feed, &report.outcome)?;
     write!(out, "\"total\": {total}, \"written\": {}, ", list.len())?;
     write!(out, "\"page\": {}, \"findings\": ", report.page.as_ref().map_or(Value::Null, page))?;
     let facts = Facts::new(feed, &report.tables);
-    write_list(out, list, |finding| found(feed, &facts, finding))?;
+    write_list(out, list.iter(), list.len(), |finding| found(feed, &facts, &finding))?;
     let counts = if report.page.is_some() { Value::Null } else { counts(list) };
     write!(out, ", \"totals\": {counts}, \"feed\": {}, ", Value::text(feed.place.path.as_os_str().as_bytes()))?;
     let folder = folder(feed);
@@ -35,9 +36,16 @@ pub fn write(out: &mut dyn Write, feed: &Feed, report: &Report) -> io::Result<()
 }
 
 /// A list, element by element: all of them at once would take memory for each.
-fn write_list<Element>(out: &mut dyn Write, list: &[Element], value: impl Fn(&Element) -> Value) -> io::Result<()> {
+fn write_list<Element>(
+    out: &mut dyn Write,
+    list: impl Iterator<Item = Element>,
+    length: usize,
+    value: impl Fn(Element) -> Value,
+) -> io::Result<()> {
+    progress::step(|| "writing the list".to_string());
     out.write_all(b"[")?;
-    for (place, element) in list.iter().enumerate() {
+    for (place, element) in list.enumerate() {
+        progress::far("writing the list", place, length);
         let comma = if place == 0 { "" } else { ", " };
         write!(out, "{comma}{}", value(element))?;
     }
@@ -47,15 +55,15 @@ fn write_list<Element>(out: &mut dyn Write, list: &[Element], value: impl Fn(&El
 /// What the verdict names, how many faults there are, and the list of them; null, 0 and none for a feed that can be read.
 fn write_faults(out: &mut dyn Write, feed: &Feed, outcome: &Outcome) -> io::Result<()> {
     let reasons = Reasons::new(feed);
-    let none: &[Refusal] = &[];
+    let none = Faults::default();
     let (refusal, list, total) = match outcome {
         Outcome::Refused { first, faults, total } => {
-            (refused(feed, &reasons, first, reasons.about(first)), &faults[..], *total)
+            (refused(feed, &reasons, first, reasons.about(first)), faults, *total)
         }
-        _ => (Value::Null, none, 0),
+        _ => (Value::Null, &none, 0),
     };
     write!(out, "\"refusal\": {refusal}, \"faults_total\": {total}, \"faults\": ")?;
-    write_list(out, list, |fault| refused(feed, &reasons, fault, reasons.listed(fault)))?;
+    write_list(out, list.iter(), list.len(), |fault| refused(feed, &reasons, &fault, reasons.listed(&fault)))?;
     out.write_all(b", ")
 }
 
@@ -103,7 +111,7 @@ fn page(page: &Page) -> Value {
     Value::Members(vec![("after", Value::List(after)), ("room", Value::maybe(page.room))])
 }
 
-fn counts(list: &[Finding]) -> Value {
+fn counts(list: &Findings) -> Value {
     let counted = |(rule, count): (usize, usize)| {
         let meaning = ("meaning", Value::text(meaning(rule)));
         Value::Members(vec![("rule", Value::size(rule)), ("count", Value::size(count)), meaning])

@@ -67,14 +67,16 @@ pub use faults::{try_faults, Faults, FaultsAnswer};
 pub use index::IndexAnswer;
 pub use kinds::{Fault, File, Finding, IndexRefusal, Profile, Refusal, Rule, FILES};
 
+use std::cell::Cell;
 use std::io;
+use std::panic;
 use std::thread;
 
 /// How much stack a call of one of the archive's functions uses at most, in bytes; include/tusuchiy.h has the same figure.
-pub const STACK: usize = 4 << 20;
+pub const STACK: usize = 5 << 20;
 
-/// How much the thread has that makes the call: four times as much, of which only what is used takes memory.
-const THREAD_STACK: usize = 4 * STACK;
+/// How much the thread has that makes the call: twice as much, of which only what is used takes memory.
+const THREAD_STACK: usize = 2 * STACK;
 
 /// How many numbers a record of each file has, stops first: a table needs its width times its file's LF count.
 pub const WIDTHS: [usize; FILES] = {
@@ -87,8 +89,8 @@ pub const WIDTHS: [usize; FILES] = {
 };
 
 /// The most bytes that rule 1 allows a file, and the most lines that rule 2 does.
-pub const MOST_BYTES: usize = 16_777_216;
-pub const MOST_LINES: usize = 65_536;
+pub const MOST_BYTES: usize = 134_217_728;
+pub const MOST_LINES: usize = 1_048_576;
 
 /// The answer as the archive gives it; include/tusuchiy.h says what each number means.
 #[repr(C)]
@@ -179,7 +181,7 @@ pub fn try_check(
     after: [i32; 3],
     profile: Profile,
 ) -> io::Result<Answer> {
-    on_stack(THREAD_STACK, move || archive::check(files, tables, list, after, profile))
+    on_large_stack(move || archive::check(files, tables, list, after, profile))
 }
 
 /// The same on the stack that the caller has, in no other thread. [`STACK`] bytes of it must be left: where there are fewer the system may end
@@ -194,12 +196,39 @@ pub fn check_here(
     archive::check(files, tables, list, after, profile)
 }
 
-/// Makes a call in a thread with so much stack.
-fn on_stack<Told: Send>(size: usize, call: impl FnOnce() -> Told + Send) -> io::Result<Told> {
+/// Does some work in a thread with so much stack.
+fn on_stack<Done: Send>(size: usize, work: impl FnOnce() -> Done + Send) -> io::Result<Done> {
     thread::scope(|scope| {
-        let thread = thread::Builder::new().stack_size(size).spawn_scoped(scope, call)?;
-        thread.join().map_err(|_| io::Error::other("the check's thread died"))
+        let thread = thread::Builder::new().stack_size(size).spawn_scoped(scope, work)?;
+        Ok(thread.join().unwrap_or_else(|fault| panic::resume_unwind(fault)))
     })
+}
+
+thread_local! {
+    /// Was this thread made with a stack that is large enough for every call?
+    static IS_LARGE: Cell<bool> = const { Cell::new(false) };
+}
+
+/// Does work that makes several calls in one thread, whose stack is large enough for each: none of them makes a thread of its own, as calls elsewhere do.
+/// Besides a call's stack the work has [`STACK`] bytes.
+///
+/// # Errors
+///
+/// Where the system gives no thread.
+pub fn in_one_thread<Done: Send>(work: impl FnOnce() -> Done + Send) -> io::Result<Done> {
+    on_stack(THREAD_STACK, || {
+        IS_LARGE.set(true);
+        work()
+    })
+}
+
+/// Makes a call where the stack is large enough.
+fn on_large_stack<Told: Send>(call: impl FnOnce() -> Told + Send) -> io::Result<Told> {
+    if IS_LARGE.get() {
+        Ok(call())
+    } else {
+        in_one_thread(call)
+    }
 }
 
 /// The same for those who can't go on without a thread.
@@ -220,8 +249,18 @@ pub fn check(
 #[cfg(test)]
 mod tests {
     use super::*;
+    use cases::large;
+    use std::hint::black_box;
 
-    /// The feed of document 01 on no more stack than the header asks for.
+    /// One call on no more stack than the header asks for; the verdict.
+    fn verdict_on_stack(files: [&[u8]; FILES]) -> Option<Verdict> {
+        let mut tables = table_sizes(files).map(|size| vec![0; size]);
+        let tables = tables.each_mut().map(|table| &mut table[..]);
+        let answer = on_stack(STACK, move || archive::check(files, tables, &mut [0; 30], [0, 0, 0], Profile::Boards));
+        answer.expect("a thread").verdict()
+    }
+
+    /// The feed of document 01, and feeds whose longest file has as many lines as rule 2 allows.
     #[test]
     fn the_stack_that_is_promised_is_enough() {
         let files: [&[u8]; FILES] = [
@@ -232,11 +271,42 @@ mod tests {
             include_bytes!("../../../examples/findings/stop_times.txt"),
             b"",
         ];
-        let mut tables = WIDTHS.map(|width| vec![0; width * 10]);
-        let tables = tables.each_mut().map(|table| &mut table[..]);
-        let answer = on_stack(STACK, move || archive::check(files, tables, &mut [0; 30], [0, 0, 0], Profile::Boards));
         // Five of document 01, and the line without times.
-        assert_eq!(answer.expect("a thread").verdict(), Some(Verdict::Findings { written: 6, total: 6 }));
+        assert_eq!(verdict_on_stack(files), Some(Verdict::Findings { written: 6, total: 6 }));
+        for files in [large::feed(MOST_LINES - 1), large::dates(MOST_LINES)] {
+            let lines = files.iter().map(|file| check::lines(file)).max();
+            assert_eq!(lines, Some(MOST_LINES));
+            assert_eq!(verdict_on_stack(files.each_ref().map(|file| &file[..])), Some(Verdict::Accepted));
+        }
+    }
+
+    /// A call makes a thread of its own, but none in a thread that was made for several calls.
+    #[test]
+    fn one_thread_for_several_calls() {
+        let here = || thread::current().id();
+        let of_call = || on_large_stack(here).expect("a thread");
+        assert_ne!(of_call(), here());
+        let [work, first, second] = in_one_thread(|| [here(), of_call(), of_call()]).expect("a thread");
+        assert_eq!([work, work], [first, second]);
+        assert!(work != here() && of_call() != here(), "the thread that waits is none of these");
+    }
+
+    /// Calls work under as much stack of the work's own as it may have.
+    fn under_a_large_frame<Done>(work: impl FnOnce() -> Done) -> Done {
+        let frame = black_box([1_u8; STACK - (64 << 10)]);
+        let done = work();
+        black_box(&frame);
+        done
+    }
+
+    /// More records than version 1 lists: the index's calls then use the most stack of all.
+    #[test]
+    fn the_work_has_stack_besides() {
+        let lines: String = (0..70_000).map(|number| format!("{number:05},3\n")).collect();
+        let routes = format!("route_id,route_type\n{lines}").into_bytes();
+        let work =
+            || under_a_large_frame(|| index::of(File::Routes, &routes).expect("an answer").map(|index| index.len()));
+        assert_eq!(in_one_thread(work).expect("a thread"), Ok(280_010));
     }
 
     /// The header has the version of this package.
@@ -244,6 +314,21 @@ mod tests {
     fn the_version_is_the_same() {
         let line = format!("#define TUSUCHIY_VERSION \"{}\"\n", env!("CARGO_PKG_VERSION"));
         assert!(include_str!("../../../include/tusuchiy.h").contains(&line), "{line}");
+    }
+
+    /// A figure of the header.
+    pub fn in_header(name: &str) -> usize {
+        let figure = |line: &'static str| line.trim().strip_prefix(name)?.strip_prefix(" = ");
+        let text = include_str!("../../../include/tusuchiy.h").lines().find_map(figure).expect("a figure");
+        text.split(|byte: char| !byte.is_ascii_digit()).next().and_then(|digits| digits.parse().ok()).expect("a number")
+    }
+
+    /// The limits are those of document 02, and the header has them.
+    #[test]
+    fn the_limits_are_the_same() {
+        let limits = [cases::limits::MOST_BYTES, cases::limits::MOST_LINES];
+        assert_eq!([MOST_BYTES, MOST_LINES], limits);
+        assert_eq!(["TUSUCHIY_MOST_BYTES", "TUSUCHIY_MOST_LINES"].map(in_header), limits);
     }
 
     /// The README and the header have the same figure.

@@ -31,7 +31,7 @@ mod value;
 mod whole;
 mod zip;
 
-use arguments::Command;
+use arguments::{Command, Form};
 use many::Patient;
 use std::io::{self, Write};
 use std::thread;
@@ -64,6 +64,7 @@ fn obey() -> u8 {
 /// Says why the command couldn't run, in one line or in a line for each file, and gives its status.
 fn complain(message: &str) -> u8 {
     let lines: String = message.lines().map(|line| format!("tusuchiy: {line}\n")).collect();
+    let _hidden = progress::hidden();
     // Nothing can be done where standard error is gone too.
     let _ = Patient(io::stderr()).write_all(lines.as_bytes());
     COULD_NOT_RUN
@@ -71,6 +72,14 @@ fn complain(message: &str) -> u8 {
 
 /// Does what the command line asks for, and gives the exit status.
 fn run(command: Command) -> Result<u8, String> {
+    let quiet = match &command {
+        Command::Check(check) => check.form == Form::Quiet,
+        Command::Index(asked) => asked.form == Form::Quiet,
+        Command::Report(_) => false,
+        // What is printed at once has no progress.
+        _ => true,
+    };
+    let _watch = progress::watch(quiet);
     let page = match command {
         Command::Check(check) => return Ok(many::run(&check)),
         Command::Index(asked) => return Ok(indexes::run(&asked)),

@@ -64,7 +64,7 @@ pub const VERBS: &[Verb] = &[
             QUIET,
             PROFILE,
             valued("after", "FILE,LINE,RULE", "the findings or faults after this place only (0,0,0 is the beginning)"),
-            valued("room", "N", "one page: at most N findings or faults, 0 to 1179648"),
+            valued("room", "N", "one page: at most N findings or faults, 0 to 18874368"),
             FOLLOW_LINKS,
             JOBS,
             COLOR,

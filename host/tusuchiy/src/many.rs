@@ -6,7 +6,7 @@ use crate::paging::{self, Outcome, Report};
 use crate::style::{self, Style};
 use crate::text::Layout;
 use crate::{json, progress, source, system, text, COULD_NOT_RUN, REFUSED};
-use std::io::{self, BufWriter, ErrorKind, Write};
+use std::io::{self, BufWriter, ErrorKind, IsTerminal, Write};
 use std::os::fd::AsRawFd;
 use std::panic::{self, AssertUnwindSafe};
 use std::path::{Path, PathBuf};
@@ -41,6 +41,9 @@ pub fn each<Done>(
 ) -> u8 {
     let desk =
         Desk { feeds, next: AtomicUsize::new(0), worst: AtomicU8::new(0), turn: Mutex::new(0), moved: Condvar::new() };
+    if feeds.len() > 1 {
+        progress::feeds(0, feeds.len());
+    }
     in_threads(at_a_time(jobs, feeds.len()), || desk.work(&work, &print));
     desk.worst.into_inner()
 }
@@ -73,6 +76,9 @@ impl Desk<'_> {
             let status = guarded(|| done.and_then(print));
             self.worst.fetch_max(status.unwrap_or_else(|message| crate::complain(&message)), Ordering::Relaxed);
             *turn += 1;
+            if self.feeds.len() > 1 {
+                progress::feeds(*turn, self.feeds.len());
+            }
             self.moved.notify_all();
         }
     }
@@ -88,11 +94,9 @@ impl Desk<'_> {
 fn checked(check: &Check, path: &Path) -> Result<(Feed, Report, Instant), String> {
     let since = Instant::now();
     let feed = source::read(path, check.follow_links)?;
-    let alone = check.feeds.len() == 1 && check.form != Form::Quiet;
-    let progress = if alone { progress::start(&feed) } else { progress::silent() };
     let verdict_only = check.form == Form::Quiet || check.feeds.len() > 1 && check.form == Form::Text;
     let page = if verdict_only { Some(paging::VERDICT_ONLY) } else { check.page };
-    let report = paging::check(&feed, page, check.profile, &progress)?;
+    let report = paging::check(&feed, page, check.profile)?;
     Ok((feed, report, since))
 }
 
@@ -125,9 +129,13 @@ pub fn guarded<Done>(work: impl FnOnce() -> Result<Done, String>) -> Result<Done
     panic::catch_unwind(AssertUnwindSafe(work)).unwrap_or_else(fault)
 }
 
+/// How much is written at a time: a list may have gigabytes.
+const BUFFER: usize = 1 << 16;
+
 /// Writes to standard output, to its end. A reader who went away has read enough; any other failure is one.
 pub fn write(write: impl FnOnce(&mut dyn Write) -> io::Result<()>) -> Result<(), String> {
-    let mut out = BufWriter::new(Patient(io::stdout().lock()));
+    let _hidden = io::stdout().is_terminal().then(progress::hidden);
+    let mut out = BufWriter::with_capacity(BUFFER, Patient(io::stdout().lock()));
     match write(&mut out).and_then(|()| out.flush()) {
         Err(error) if error.kind() == ErrorKind::BrokenPipe => {
             // What is left is dropped, not written once more.

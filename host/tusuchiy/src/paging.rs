@@ -2,11 +2,11 @@
 
 use crate::feed::{Feed, FILES, MOST_LINES};
 use crate::memory;
-use crate::progress::Progress;
-use tusuchiy::{Check, Fault, Place, Profile, Verdict};
+use crate::progress;
+use tusuchiy::{faults, Check, Error, Fault, Place, Profile, Verdict};
 
-/// How many findings the first call may hand out when all are wanted; a second one has room for the rest.
-const PAGE_ROOM: usize = 65_536;
+/// The most findings that one call hands out: 40 MiB while it lasts. Each further call is a whole check.
+const MOST_ROOM: usize = 1 << 21;
 
 /// More findings than any feed can have: on a line of files 1 to 6 at most 3, 2, 2, 3, 7 and 1 rules are broken, two of the seven by a profile.
 pub const MOST_FINDINGS: usize = (3 + 2 + 2 + 3 + 7 + 1) * MOST_LINES;
@@ -45,23 +45,79 @@ impl From<Fault> for Refusal {
     }
 }
 
+/// Findings in their order, in four bytes each: there may be millions.
+#[derive(Clone, Debug, Default, PartialEq, Eq)]
+pub struct Findings(Vec<u32>);
+
+/// How many bits a rule's number and a line take; what is left is the file's.
+const RULE_BITS: u32 = 6;
+const LINE_BITS: u32 = 21;
+const _: () = assert!(MOST_LINES < 1 << LINE_BITS && FILES < 1 << (u32::BITS - LINE_BITS - RULE_BITS));
+
+impl Findings {
+    /// Adds what a call handed out.
+    fn add(&mut self, found: &[tusuchiy::Finding]) {
+        let packed = |found: &tusuchiy::Finding| {
+            (found.file.number() as u32) << (LINE_BITS + RULE_BITS)
+                | found.line << RULE_BITS
+                | found.rule.number() as u32
+        };
+        self.0.extend(found.iter().map(packed));
+    }
+
+    pub fn len(&self) -> usize {
+        self.0.len()
+    }
+
+    /// The one at a place, counted from 0.
+    pub fn get(&self, place: usize) -> Option<Finding> {
+        let packed = *self.0.get(place)?;
+        let low = |bits: u32, number: u32| (number & ((1 << bits) - 1)) as usize;
+        let (rule, line) = (low(RULE_BITS, packed), low(LINE_BITS, packed >> RULE_BITS));
+        Some(Finding { file: (packed >> (LINE_BITS + RULE_BITS)) as usize, line, rule })
+    }
+
+    pub fn iter(&self) -> impl Iterator<Item = Finding> + '_ {
+        (0..self.len()).filter_map(|place| self.get(place))
+    }
+}
+
+/// Faults in their order, as the library hands them out.
+#[derive(Clone, Debug, Default, PartialEq, Eq)]
+pub struct Faults(Vec<Fault>);
+
+impl Faults {
+    pub fn len(&self) -> usize {
+        self.0.len()
+    }
+
+    /// The one at a place, counted from 0.
+    pub fn get(&self, place: usize) -> Option<Refusal> {
+        self.0.get(place).copied().map(Refusal::from)
+    }
+
+    pub fn iter(&self) -> impl Iterator<Item = Refusal> + Clone + '_ {
+        self.0.iter().copied().map(Refusal::from)
+    }
+}
+
 /// What the check answered.
 #[derive(Debug, PartialEq, Eq)]
 pub enum Outcome {
     Accepted,
     Findings {
-        list: Vec<Finding>,
+        list: Findings,
         total: usize,
     },
     /// What the verdict names, and the list of all faults, or a page of it.
     Refused {
         first: Refusal,
-        faults: Vec<Refusal>,
+        faults: Faults,
         total: usize,
     },
 }
 
-/// What is to be printed; `page` is there where one was asked for. A refusal leaves the tables all zero.
+/// What is to be printed; `page` is there where one was asked for. A feed that is refused has no tables.
 pub struct Report {
     pub outcome: Outcome,
     pub profile: Profile,
@@ -69,51 +125,62 @@ pub struct Report {
     pub tables: [Vec<i32>; FILES],
 }
 
-/// One call of the check, which adds to the list what it hands out; the verdict.
-fn call(check: &mut Check, after: [i32; 3], room: usize, list: &mut Vec<Finding>) -> Result<Verdict, String> {
-    let page = check.page(Place(after), room).map_err(|error| error.to_string())?;
-    list.try_reserve_exact(page.findings.len()).map_err(|error| error.to_string())?;
-    list.extend(page.findings.iter().map(|found| Finding {
-        file: found.file.number(),
-        line: found.line as usize,
-        rule: found.rule.number(),
-    }));
-    Ok(page.verdict)
-}
-
 /// Checks a feed by the rules that are asked for: one page as the check hands it out, or all findings; where it is refused, the same of its faults.
-pub fn check(feed: &Feed, page: Option<Page>, profile: Profile, progress: &Progress) -> Result<Report, String> {
-    memory::told(|| check_by(feed, page, profile, PAGE_ROOM, progress))
+pub fn check(feed: &Feed, page: Option<Page>, profile: Profile) -> Result<Report, String> {
+    // Most feeds have less than a finding a line, so that one call is enough.
+    let room = (1..=FILES).map(|file| feed.line_count(file)).sum::<usize>().clamp(1, MOST_ROOM);
+    let check = || memory::told(|| check_by(feed, page, profile, [room, MOST_ROOM]));
+    tusuchiy::in_one_thread(check).map_err(|error| Error::Thread(error).to_string())?
 }
 
-/// The same with pages of this room where no other is asked for.
-fn check_by(
-    feed: &Feed,
-    page: Option<Page>,
-    profile: Profile,
-    room: usize,
-    progress: &Progress,
-) -> Result<Report, String> {
-    let asked = page.and_then(|page| page.room);
+/// The same with this room for the first page and for each further one, where no other is asked for.
+fn check_by(feed: &Feed, page: Option<Page>, profile: Profile, rooms: [usize; 2]) -> Result<Report, String> {
+    progress::step(|| format!("checking {} bytes", feed.size()));
     let mut lent = Check::new(feed.slices()).map_err(|error| error.to_string())?.with_profile(profile);
-    let start = page.map_or([0, 0, 0], |page| page.after);
-    let mut list = Vec::new();
-    let mut verdict = call(&mut lent, start, asked.unwrap_or(room), &mut list)?;
-    let total = if let Verdict::Findings { total, .. } = verdict { total } else { 0 };
-    if let (None, Some(more)) = (asked, more(total, list.len(), room)) {
-        progress.findings(list.len());
-        let last = list.last().map_or(start, |last| [last.file, last.line, last.rule].map(|number| number as i32));
-        verdict = call(&mut lent, last, more, &mut list)?;
-    }
-    let outcome = match verdict {
-        Verdict::Accepted => Outcome::Accepted,
-        Verdict::Refused(fault) => refused(&lent, fault, page, most_faults(feed))?,
-        Verdict::Findings { total, .. } if page.is_none() && total != list.len() => {
-            return Err(format!("the check handed out {} findings and counts {total}", list.len()));
+    let start = Place(page.map_or([0, 0, 0], |page| page.after));
+    let asked = page.and_then(|page| page.room);
+    let room = asked.map_or(rooms[0], |asked| asked.min(rooms[1]));
+    let first = lent.page(start, room).map_err(|error| error.to_string())?;
+    let (outcome, tables) = match first.verdict {
+        Verdict::Accepted => (Outcome::Accepted, lent.into_tables()),
+        Verdict::Refused(fault) => {
+            // The list of faults may take as much memory as the tables did.
+            drop(lent);
+            (refused(feed, fault, page)?, Default::default())
         }
-        Verdict::Findings { total, .. } => Outcome::Findings { list, total },
+        Verdict::Findings { total, .. } => {
+            let most = asked.map_or(total, |asked| asked.min(total));
+            let list = gather(&mut lent, first.findings, most, [room, rooms[1]])?;
+            if page.is_none() && total != list.len() {
+                return Err(format!("the check handed out {} findings and counts {total}", list.len()));
+            }
+            (Outcome::Findings { list, total }, lent.into_tables())
+        }
     };
-    Ok(Report { outcome, profile, page, tables: lent.into_tables() })
+    Ok(Report { outcome, profile, page, tables })
+}
+
+/// The findings of a page that had the first room, and those behind it up to so many in all, by pages of the other.
+fn gather(
+    lent: &mut Check,
+    mut page: Vec<tusuchiy::Finding>,
+    most: usize,
+    [mut room, further]: [usize; 2],
+) -> Result<Findings, String> {
+    let mut list = Findings::default();
+    list.0.try_reserve_exact(most).map_err(|error| error.to_string())?;
+    list.add(&page);
+    // A page that isn't full is the last one.
+    while let Some(last) = page.last().filter(|_| page.len() >= room && list.len() < most) {
+        progress::step(|| format!("checking for more, {} of {most} findings", list.len()));
+        let after = Place::from(*last);
+        // Two pages at a time would take twice the room.
+        drop(page);
+        room = further.min(most - list.len());
+        page = lent.page(after, room).map_err(|error| error.to_string())?.findings;
+        list.add(&page);
+    }
+    Ok(list)
 }
 
 /// As many faults as the files of a feed have room for: one on each line, on one more without an ending, and one of the whole.
@@ -122,30 +189,24 @@ fn most_faults(feed: &Feed) -> usize {
     (1..=FILES).map(|file| feed.line_count(file).min(MOST_LINES) + 2).sum()
 }
 
-/// A refused feed with its faults: one page of them, or all, of which there are so many at most.
-fn refused(lent: &Check, fault: Fault, page: Option<Page>, most: usize) -> Result<Outcome, String> {
+/// A refused feed with its faults: one page of them, or all.
+fn refused(feed: &Feed, fault: Fault, page: Option<Page>) -> Result<Outcome, String> {
+    progress::step(|| "listing faults".to_string());
     let after = Place(page.map_or([0, 0, 0], |page| page.after));
-    let room = page.and_then(|page| page.room).unwrap_or(most);
-    let told = lent.faults_page(after, room).map_err(|error| error.to_string())?;
+    let room = page.and_then(|page| page.room).unwrap_or_else(|| most_faults(feed));
+    let told = faults::page(feed.slices(), after, room).map_err(|error| error.to_string())?;
     // The proved list has what the verdict names, and is as long as its total.
     if page.is_none() && (told.total != told.faults.len() || !told.faults.contains(&fault)) {
         return Err(format!("{fault} was refused, and of {} faults {} told", told.total, told.faults.len()));
     }
-    let faults = memory::list(told.faults.iter().copied().map(Refusal::from), told.faults.len());
-    Ok(Outcome::Refused { first: fault.into(), faults, total: told.total })
-}
-
-/// How many there may be behind a page with this room, if there may be any: a page that isn't full is the last one, and so is
-/// one that brings the list up to the total.
-fn more(total: usize, handed: usize, room: usize) -> Option<usize> {
-    (handed > 0 && handed >= room && total > handed).then(|| total - handed)
+    Ok(Outcome::Refused { first: fault.into(), faults: Faults(told.faults), total: told.total })
 }
 
 #[cfg(test)]
 mod tests {
     use super::*;
     use crate::feed::{Place, Unread};
-    use crate::progress;
+    use tusuchiy::{File, Rule};
 
     /// The feed of document 01.
     fn feed() -> Feed {
@@ -160,33 +221,44 @@ mod tests {
         Feed::new(Place::default(), files.map(|file| file.map(<[u8]>::to_vec)), Unread::default())
     }
 
-    fn all(page: Option<Page>, profile: Profile, room: usize) -> Result<Outcome, String> {
-        check_by(&feed(), page, profile, room, &progress::silent()).map(|report| report.outcome)
+    fn all(page: Option<Page>, profile: Profile, rooms: [usize; 2]) -> Result<(Vec<Finding>, usize), String> {
+        match check_by(&feed(), page, profile, rooms)?.outcome {
+            Outcome::Findings { list, total } => Ok((list.iter().collect(), total)),
+            other => Err(format!("{other:?}")),
+        }
     }
 
-    /// Both calls ask for the same rules: with the profile for boards the line without times is one finding more.
+    /// All calls ask for the same rules: with the profile for boards the line without times is one finding more.
     #[test]
     fn pages_of_any_room_give_the_whole_list() {
         let findings = [(4, 3, 21), (4, 3, 30), (5, 3, 29), (5, 4, 21), (5, 4, 28), (5, 4, 60)];
         let findings = findings.map(|(file, line, rule)| Finding { file, line, rule });
         for (profile, total) in [(Profile::Plain, 5), (Profile::Boards, 6)] {
             let list = &findings[..total];
-            for room in [1, 2, 4, 5, 6, 7, PAGE_ROOM] {
-                let whole = Outcome::Findings { list: list.to_vec(), total };
-                assert_eq!(all(None, profile, room), Ok(whole), "room {room}");
-                let rest = Outcome::Findings { list: list[2..].to_vec(), total };
-                let page = Page { after: [4, 3, 30], room: None };
-                assert_eq!(all(Some(page), profile, room), Ok(rest), "room {room}");
+            for rooms in [[1, 1], [1, 2], [2, 1], [2, 3], [4, 1], [5, 9], [6, 9], [7, 9], [MOST_ROOM; 2]] {
+                assert_eq!(all(None, profile, rooms), Ok((list.to_vec(), total)), "rooms {rooms:?}");
+                for room in [None, Some(0), Some(1), Some(3), Some(99)] {
+                    let page = Page { after: [4, 3, 30], room };
+                    let wanted = list[2..].iter().copied().take(room.unwrap_or(total)).collect();
+                    assert_eq!(all(Some(page), profile, rooms), Ok((wanted, total)), "rooms {rooms:?}, {room:?}");
+                }
             }
         }
     }
 
-    /// No call is made for findings that can't be there any more, and one for all that can.
+    /// What is kept of a finding is all of it, at each end of its numbers.
     #[test]
-    fn the_check_is_not_called_once_more() {
-        assert_eq!([6, 7, 8].map(|room| more(6, 6, room)), [None; 3]);
-        assert_eq!([6, 7].map(|room| more(9, 6, room)), [Some(3), None]);
-        assert_eq!([more(6, 0, 0), more(0, 0, 6)], [None; 2]);
+    fn findings_in_four_bytes() {
+        let mut list = Findings::default();
+        let numbers =
+            [1, 6].into_iter().flat_map(|file| [2, MOST_LINES].map(|line| [20, 62].map(|rule| (file, line, rule))));
+        let all: Vec<Finding> = numbers.flatten().map(|(file, line, rule)| Finding { file, line, rule }).collect();
+        for Finding { file, line, rule } in all.iter().copied() {
+            let (file, rule) = (File::new(file).expect("a file"), Rule::new(rule).expect("a rule"));
+            list.add(&[tusuchiy::Finding { file, line: line as u32, rule }]);
+        }
+        assert_eq!(list.iter().collect::<Vec<_>>(), all);
+        assert_eq!((list.len(), list.get(7), list.get(8)), (8, Some(all[7]), None));
     }
 
     /// The same feed with three faults: a stop without a name, a route that ends the file without a line ending and lacks its type.
@@ -201,8 +273,11 @@ mod tests {
     fn one_call_gives_all_faults() {
         let fault = |(file, line, number, column)| Refusal { number, file, line, column };
         let list = [(1, 2, 12, Some(2)), (2, 0, 4, None), (2, 2, 12, Some(2))].map(fault);
-        let told = |page| check(&faulty(), page, Profile::Plain, &progress::silent()).map(|report| report.outcome);
-        let refused = |faults: &[Refusal]| Ok(Outcome::Refused { first: list[1], faults: faults.to_vec(), total: 3 });
+        let told = |page| match check(&faulty(), page, Profile::Plain).expect("an answer").outcome {
+            Outcome::Refused { first, faults, total } => (first, faults.iter().collect::<Vec<_>>(), total),
+            other => panic!("{other:?}"),
+        };
+        let refused = |faults: &[Refusal]| (list[1], faults.to_vec(), 3);
         let page = |after, room| Some(Page { after, room });
         assert_eq!(told(None), refused(&list));
         assert_eq!(told(page([1, 2, 12], None)), refused(&list[1..]));
@@ -217,7 +292,7 @@ mod tests {
     fn there_is_room_for_all_faults() {
         for file in [&b""[..], b"\t", b"\t\n", b"\t\n\t", b"\n\n\n\t"] {
             let feed = Feed::new(Place::default(), std::array::from_fn(|_| Some(file.to_vec())), Unread::default());
-            let report = check(&feed, None, Profile::Boards, &progress::silent()).expect("an answer");
+            let report = check(&feed, None, Profile::Boards).expect("an answer");
             let Outcome::Refused { faults, total, .. } = report.outcome else { panic!("not refused") };
             assert_eq!(faults.len(), total);
             assert!(total <= most_faults(&feed), "{file:?}");
@@ -226,6 +301,6 @@ mod tests {
 
     #[test]
     fn a_list_shorter_than_the_total_is_an_error() {
-        assert!(all(None, Profile::Plain, 0).is_err());
+        assert!(all(None, Profile::Plain, [0, 1]).is_err());
     }
 }

@@ -3,7 +3,7 @@
 use crate::explain::meaning;
 use crate::feed::{Feed, NAMES};
 use crate::hidden;
-use crate::paging::{Page, Refusal};
+use crate::paging::{self, Page, Refusal};
 use crate::refusals::Reasons;
 use crate::style::Style;
 use crate::text::{self, Layout, FEW};
@@ -12,7 +12,7 @@ use std::io::{self, Write};
 
 /// The list of faults, or a page of it, and how many the feed has.
 pub struct Faults<'a> {
-    pub list: &'a [Refusal],
+    pub list: &'a paging::Faults,
     pub total: usize,
     pub page: Option<&'a Page>,
 }
@@ -29,7 +29,7 @@ pub fn write(out: &mut dyn Write, feed: &Feed, first: &Refusal, faults: &Faults,
         write_numbers(out, feed, &reasons, faults, layout)?;
     }
     writeln!(out, "{}, then check again for findings", advice(faults.list))?;
-    hidden::sentences(feed, faults.list).iter().try_for_each(|sentence| writeln!(out, "{sentence}"))?;
+    hidden::sentences(feed, faults.list.iter()).iter().try_for_each(|sentence| writeln!(out, "{sentence}"))?;
     text::write_hint(out, first.number)
 }
 
@@ -43,9 +43,9 @@ fn write_page(
     style: Style,
 ) -> io::Result<()> {
     writeln!(out)?;
-    for fault in faults.list {
-        let words = format!("refusal {}: {}", fault.number, reasons.listed(fault).words);
-        write_fault(out, feed, fault, &words, style)?;
+    for fault in faults.list.iter() {
+        let words = format!("refusal {}: {}", fault.number, reasons.listed(&fault).words);
+        write_fault(out, feed, &fault, &words, style)?;
     }
     let [file, line, number] = page.after;
     writeln!(out, "page after {file},{line},{number}: {} of {} faults", faults.list.len(), faults.total)
@@ -67,7 +67,7 @@ fn write_numbers(
         writeln!(out, "\n{}", layout.style.heading(&heading))?;
         let shown = if layout.all { count } else { count.min(FEW) };
         for fault in faults.list.iter().filter(|fault| fault.number == number).take(shown) {
-            write_fault(out, feed, fault, &reasons.listed(fault).words, layout.style)?;
+            write_fault(out, feed, &fault, &reasons.listed(&fault).words, layout.style)?;
         }
         text::write_left_out(out, count - shown)?;
     }
@@ -82,10 +82,10 @@ fn write_fault(out: &mut dyn Write, feed: &Feed, fault: &Refusal, words: &str, s
 }
 
 /// What to do now.
-fn advice(faults: &[Refusal]) -> &'static str {
-    match faults {
-        [fault] if fault.line == 0 => "nothing else is refused: mend this",
-        [_] => "nothing else is refused: mend the whole of this line",
+fn advice(faults: &paging::Faults) -> &'static str {
+    match faults.get(0) {
+        Some(fault) if faults.len() == 1 && fault.line == 0 => "nothing else is refused: mend this",
+        Some(_) if faults.len() == 1 => "nothing else is refused: mend the whole of this line",
         _ => "mend all of these",
     }
 }

@@ -1,7 +1,7 @@
 //! What is asked of the system by its own calls: how the command starts and ends, files in a folder that is open, a wait for a reader.
 #![allow(unsafe_code)]
 
-use crate::{whole, COULD_NOT_RUN};
+use crate::{progress, whole, COULD_NOT_RUN};
 use libc::c_int;
 use std::ffi::{CStr, CString, OsStr};
 use std::fs::File;
@@ -90,6 +90,7 @@ extern "C" fn last_resort(signal: c_int) {
 
 extern "C" fn end(signal: c_int) {
     whole::remove_all();
+    wipe();
     // SAFETY: the signal waits until this function is over, and then does what it does by itself.
     unsafe { libc::raise(signal) };
 }
@@ -97,11 +98,23 @@ extern "C" fn end(signal: c_int) {
 /// Ends the command at once: it couldn't run, and no file that isn't whole stays. Nothing here allocates, or waits for another thread.
 pub fn leave(words: &str) -> ! {
     whole::remove_all();
-    // SAFETY: the bytes are those of the text.
-    unsafe {
-        libc::write(2, words.as_ptr().cast(), words.len());
-        libc::_exit(c_int::from(COULD_NOT_RUN))
+    wipe();
+    write_words(words);
+    // SAFETY: it ends the process, and nothing else.
+    unsafe { libc::_exit(c_int::from(COULD_NOT_RUN)) }
+}
+
+/// Takes the line of progress away, if it is there.
+fn wipe() {
+    if progress::is_drawn() {
+        write_words(progress::WIPE);
     }
+}
+
+/// Words on standard error, while a signal is handled too.
+fn write_words(words: &str) {
+    // SAFETY: the bytes are those of the text.
+    unsafe { libc::write(2, words.as_ptr().cast(), words.len()) };
 }
 
 /// The name as the system takes it, if it can.

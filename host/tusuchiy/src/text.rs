@@ -4,7 +4,7 @@ use crate::carets;
 use crate::explain::meaning;
 use crate::facts::{About, Facts};
 use crate::feed::{Feed, NAMES};
-use crate::paging::{Finding, Outcome, Page, Refusal, Report};
+use crate::paging::{Finding, Findings, Outcome, Page, Refusal, Report};
 use crate::refusals::Reasons;
 use crate::refused::{self, Faults};
 use crate::safe;
@@ -170,7 +170,7 @@ fn write_page(
     out: &mut dyn Write,
     feed: &Feed,
     facts: &Facts,
-    list: &[Finding],
+    list: &Findings,
     total: usize,
     page: &Page,
     style: Style,
@@ -181,7 +181,7 @@ fn write_page(
 }
 
 /// The findings of each rule under a heading.
-fn write_rules(out: &mut dyn Write, feed: &Feed, facts: &Facts, list: &[Finding], layout: &Layout) -> io::Result<()> {
+fn write_rules(out: &mut dyn Write, feed: &Feed, facts: &Facts, list: &Findings, layout: &Layout) -> io::Result<()> {
     let totals = totals(list);
     for (&rule, &count) in &totals {
         let heading = format!("rule {rule}: {} ({count})", meaning(rule));
@@ -204,27 +204,27 @@ pub fn write_left_out(out: &mut dyn Write, count: usize) -> io::Result<()> {
 }
 
 /// The place of each finding with words about it, behind those that it is called by, and its line.
-fn write_findings<'a>(
+fn write_findings(
     out: &mut dyn Write,
     feed: &Feed,
     facts: &Facts,
-    findings: impl Iterator<Item = &'a Finding>,
+    findings: impl Iterator<Item = Finding>,
     style: Style,
     called: impl Fn(&Finding) -> String,
 ) -> io::Result<()> {
     for finding in findings {
-        let about = facts.about(finding);
+        let about = facts.about(&finding);
         let place = format!("{}{}", feed.place.of(NAMES[finding.file - 1]), numbers(finding.line, None));
-        writeln!(out, "{}: {}{}", style.path(&place), called(finding), about.words)?;
-        write_marked(out, feed, (finding.file, finding.line), &facts.marked(finding, &about), style)?;
+        writeln!(out, "{}: {}{}", style.path(&place), called(&finding), about.words)?;
+        write_marked(out, feed, (finding.file, finding.line), &facts.marked(&finding, &about), style)?;
     }
     Ok(())
 }
 
 /// How many findings each rule has.
-pub fn totals(list: &[Finding]) -> BTreeMap<usize, usize> {
+pub fn totals(list: &Findings) -> BTreeMap<usize, usize> {
     let mut totals = BTreeMap::new();
-    for finding in list {
+    for finding in list.iter() {
         *totals.entry(finding.rule).or_insert(0) += 1;
     }
     totals

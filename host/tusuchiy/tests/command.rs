@@ -360,7 +360,7 @@ fn one_page() {
     assert_eq!(report.get("page").get("room"), &Json::Null);
     assert!(places(&page(&["--after", "5,4,28"])).is_empty());
     assert!(places(&page(&["--room", "0"])).is_empty());
-    assert_eq!(places(&page(&["--after", "-1,99,99", "--room", "1179648"])).len(), 5);
+    assert_eq!(places(&page(&["--after", "-1,99,99", "--room", "18874368"])).len(), 5);
     let output = run(&["check", &feed, "--after", "4,3,30", "--room", "1"]);
     let wanted = format!("findings: 5\n{feed}/stop_times.txt:3: rule 29: arrival_time 07:59:59 is before ");
     assert!(out(&output).starts_with(&wanted), "{}", out(&output));
@@ -560,8 +560,8 @@ fn bad_words_on_the_command_line() {
     assert_cannot(&["check", &feed, "--fast"], &["unknown option '--fast'"]);
     assert_cannot(&["check", &feed, "-x"], &["unknown option '-x'"]);
     assert_cannot(&["check", &feed, "--room"], &["--room needs a value"]);
-    assert_cannot(&["check", &feed, "--room", "-1"], &["--room takes a number from 0 to 1179648, and not '-1'"]);
-    assert_cannot(&["check", &feed, "--room", "1179649"], &["--room takes a number from 0 to 1179648"]);
+    assert_cannot(&["check", &feed, "--room", "-1"], &["--room takes a number from 0 to 18874368, and not '-1'"]);
+    assert_cannot(&["check", &feed, "--room", "18874369"], &["--room takes a number from 0 to 18874368"]);
     assert_cannot(&["check", &feed, "--json=yes"], &["--json takes no value"]);
     assert_cannot(&["check", &feed, "--after", "1,2"], &["--after takes three numbers"]);
     assert_cannot(&["check", &feed, "--after", "1,2,99999999999"], &["--after takes three numbers"]);

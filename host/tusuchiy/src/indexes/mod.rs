@@ -12,13 +12,13 @@ use crate::memory;
 use crate::paging::Refusal;
 use crate::refusals::Reasons;
 use crate::style::{self, Style, When};
-use crate::{many, safe, source, whole, zip, REFUSED};
+use crate::{many, progress, safe, source, whole, zip, REFUSED};
 use std::ffi::OsStr;
 use std::io::Write;
 use std::os::unix::ffi::OsStrExt;
 use std::path::{Path, PathBuf};
-use tusuchiy::index::{self, Refused, ENTRY, FILES, HEAD};
-use tusuchiy::File;
+use tusuchiy::index::{self, Refused, Version, FILES};
+use tusuchiy::{Error, File};
 
 /// What `index` is asked for.
 #[derive(Debug, Default, PartialEq, Eq)]
@@ -60,7 +60,8 @@ fn done<'a>(asked: &'a Asked, path: &Path) -> Result<Done<'a>, String> {
     let output = asked.output.as_ref().map(|folder| must_be_folder(folder)).transpose()?;
     let feed = source::read(path, asked.follow_links)?;
     let folder = output.as_ref().or(feed.opened.as_ref());
-    let outcomes = if asked.check { judge_all(asked, &feed, folder)? } else { write_all(&feed, folder)? };
+    let all = || if asked.check { judge_all(asked, &feed, folder) } else { write_all(&feed, folder) };
+    let outcomes = tusuchiy::in_one_thread(all).map_err(|error| Error::Thread(error).to_string())??;
     Ok(Done { asked, feed, outcomes })
 }
 
@@ -89,11 +90,6 @@ fn name(file: File) -> &'static str {
     file.index_name().unwrap_or_default()
 }
 
-/// How many records an index of this length has.
-fn records(length: usize) -> usize {
-    length.saturating_sub(HEAD) / ENTRY
-}
-
 /// Judges all indexes. One that isn't there has no bytes, unless its file isn't supplied either.
 fn judge_all(asked: &Asked, feed: &Feed, folder: Option<&Folder>) -> Result<[Outcome; FILES.len()], String> {
     let indexes = read(asked, feed, folder)?;
@@ -114,6 +110,7 @@ fn judge(feed: &Feed, file: File, index: Option<&[u8]>) -> Result<Outcome, Strin
     if feed.left_out(file) && index.is_none() {
         return Ok(Outcome::NotSupplied);
     }
+    progress::step(|| format!("judging {}", name(file)));
     let judged = memory::told(|| index::judge(file, feed.bytes(file), index.unwrap_or(&[])));
     Ok(match judged.map_err(|error| error.to_string())? {
         Ok(()) => Outcome::Good(index.map_or(0, <[u8]>::len)),
@@ -139,6 +136,7 @@ fn write(feed: &Feed, file: File, folder: &Folder) -> Result<Outcome, String> {
         let path = folder.path_of(name);
         format!("can't write {}: {why}", safe::name(path.as_os_str().as_bytes()))
     };
+    progress::step(|| format!("indexing {file}"));
     match memory::told(|| index::of(file, feed.bytes(file))).map_err(|error| cannot(error.to_string()))? {
         Ok(index) => {
             let put = whole::put(folder, name, |out| out.write_all(&index));
@@ -198,6 +196,12 @@ impl Done<'_> {
             Outcome::Refused(refusal, about) => Some((refusal, about)),
             _ => None,
         })
+    }
+
+    /// How many records the index of a file lists if it is good, and its version.
+    fn records(&self, file: File) -> (usize, Version) {
+        let records = about::records(&self.feed, file);
+        (records, Version::of(records))
     }
 
     /// The path of an index, safe to print.

@@ -1,21 +1,24 @@
 //! What the page's script reads: JSON in elements that nothing in it can end, in blocks that are parsed when they are shown.
 
 use super::marks::{Headers, Piece, Shown};
-use super::parts::counts;
-use super::{Fault, Subject};
+use super::{faults_at, Fault, Subject};
 use crate::explain::meaning;
 use crate::feed::NAMES;
 use crate::fields::value;
 use crate::memory;
+use crate::progress;
 use crate::safe;
 use crate::value::Value;
 use std::borrow::Cow;
-use std::collections::HashMap;
+use std::collections::{BTreeSet, HashMap};
 use std::io::{self, Write};
 use tusuchiy::WIDTHS;
 
 /// How many findings stand in a block.
 const BLOCK: usize = 500;
+
+/// The most stops on the map beside those that the list names.
+const MOST_STOPS: usize = 65_536;
 
 /// The longest part of a stop's or a trip's name that is shown, in bytes.
 const SHOWN_NAME: usize = safe::SHOWN_VALUE;
@@ -67,16 +70,17 @@ fn list<Element>(
 pub fn write(out: &mut dyn Write, subject: &Subject) -> io::Result<()> {
     let headers = Headers::new(subject.feed);
     let trips = Trips::of(subject, &headers);
-    let blocks = subject.count().div_ceil(BLOCK);
-    element(out, "data", |out| write!(out, "{}", head(subject, blocks)))?;
+    let blocks = subject.listed.chunks(BLOCK);
+    element(out, "data", |out| write!(out, "{}", head(subject, blocks.len())))?;
     element(out, "index", |out| {
-        let numbers = subject.faults().flat_map(|fault| [fault.file, fault.line, fault.number, stop(subject, &fault)]);
+        let numbers = subject.listed().flat_map(|fault| [fault.file, fault.line, fault.number, stop(subject, &fault)]);
         list(out, numbers, |out, number| write!(out, "{number}"))
     })?;
-    for block in 0..blocks {
-        let faults = subject.faults_at(block * BLOCK..subject.count().min((block + 1) * BLOCK));
+    for (number, block) in blocks.enumerate() {
+        let faults = faults_at(&subject.report.outcome, block);
         let write_row = |out: &mut dyn Write, fault| write!(out, "{}", row(subject, &headers, &trips, &fault));
-        element(out, &format!("block-{block}"), |out| list(out, faults, write_row))?;
+        element(out, &format!("block-{number}"), |out| list(out, faults, write_row))?;
+        progress::far("writing the report", number * BLOCK, subject.listed.len());
     }
     let write_stop = |out: &mut dyn Write, line| write!(out, "{}", stop_row(subject, &headers, line));
     element(out, "stops", |out| list(out, stop_lines(subject), write_stop))?;
@@ -85,13 +89,15 @@ pub fn write(out: &mut dyn Write, subject: &Subject) -> io::Result<()> {
 }
 
 fn head(subject: &Subject, blocks: usize) -> Value {
-    let numbers = counts(subject).into_keys();
-    let meanings = numbers.map(|number| Value::List(vec![Value::size(number), Value::text(meaning(number))]));
+    let numbers = subject.counts.keys();
+    let meanings = numbers.map(|number| Value::List(vec![Value::size(*number), Value::text(meaning(*number))]));
     Value::Members(vec![
         ("files", Value::texts(NAMES)),
         ("meanings", Value::List(meanings.collect())),
         ("word", Value::text(subject.word())),
-        ("total", Value::size(subject.count())),
+        ("total", Value::size(subject.listed.len())),
+        ("all", Value::size(subject.count())),
+        ("stops", Value::size(stop_count(subject))),
         ("block", Value::size(BLOCK)),
         ("blocks", Value::size(blocks)),
     ])
@@ -137,18 +143,30 @@ fn shown(line: &Shown) -> Value {
     Value::List(vec![Value::size(line.file), Value::size(line.line), Value::List(pieces.collect())])
 }
 
-/// The lines of stops.txt that have a record; none in a feed that was refused.
-fn stop_lines(subject: &Subject) -> std::ops::RangeInclusive<usize> {
-    2..=if subject.refused() { 0 } else { subject.feed.line_count(1) }
+/// How many stops a feed has; none if it was refused.
+fn stop_count(subject: &Subject) -> usize {
+    if subject.refused() {
+        0
+    } else {
+        subject.feed.line_count(1).saturating_sub(1)
+    }
 }
 
-/// Latitude and longitude in ten-millionths of a degree, both null of a stop without a place; its id and name.
+/// The lines of the stops that stand in the page: those that its list names, and of all as many as a map shows, evenly.
+fn stop_lines(subject: &Subject) -> impl Iterator<Item = usize> {
+    let count = stop_count(subject);
+    let named: BTreeSet<usize> = subject.listed().map(|fault| stop(subject, &fault)).collect();
+    let step = count.div_ceil(MOST_STOPS).max(1);
+    (2..count + 2).filter(move |line| line % step == 0 || named.contains(line))
+}
+
+/// Its line; latitude and longitude in ten-millionths of a degree, both null of a stop without a place; its id and name.
 fn stop_row(subject: &Subject, headers: &Headers, line: usize) -> Value {
     let has_place = number(subject, 1, line, 6) == 1;
     let coordinate = |place| Value::Number(number(subject, 1, line, place).into());
     let [latitude, longitude] = [2, 3].map(|place| if has_place { coordinate(place) } else { Value::Null });
     let [id, name] = ["stop_id", "stop_name"].map(|column| Value::text(name(subject, headers, 1, line, column)));
-    Value::List(vec![latitude, longitude, id, name])
+    Value::List(vec![Value::size(line), latitude, longitude, id, name])
 }
 
 /// A value that is shown as a name.
@@ -177,7 +195,7 @@ fn is_about_time(fault: &Fault) -> bool {
 impl<'a> Trips<'a> {
     fn of(subject: &Subject<'a>, headers: &Headers) -> Self {
         let mut places = HashMap::new();
-        for fault in subject.faults().filter(is_about_time) {
+        for fault in subject.listed().filter(is_about_time) {
             let next = places.len() as u32;
             places.entry(id(subject, headers, fault.file, fault.line, "trip_id")).or_insert(next);
         }

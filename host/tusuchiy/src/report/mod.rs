@@ -14,10 +14,10 @@ use crate::progress;
 use crate::refusals::Reasons;
 use crate::style::{self, When};
 use crate::{hidden, safe, source, text, whole};
+use std::collections::BTreeMap;
 use std::ffi::OsStr;
 use std::fs::{self, File, Metadata};
 use std::io::{self, BufWriter, IsTerminal, Write};
-use std::ops::Range;
 use std::os::fd::AsFd;
 use std::os::unix::ffi::OsStrExt;
 use std::path::{Path, PathBuf};
@@ -48,9 +48,8 @@ pub fn run(asked: &Asked) -> Result<u8, String> {
     // Asked first, so that nobody waits for a check in vain.
     let place =
         asked.output.as_ref().map(|path| place(path, &feed).map_err(|error| cannot(path, error))).transpose()?;
-    let progress = progress::start(&feed);
-    let report = paging::check(&feed, None, asked.profile, &progress)?;
-    drop(progress);
+    let report = paging::check(&feed, None, asked.profile)?;
+    progress::step(|| "writing the report".to_string());
     match (&asked.output, place) {
         (Some(path), Some((folder, name))) => {
             to_file(&folder, name, &feed, &report).map_err(|error| cannot(path, error))?;
@@ -113,62 +112,105 @@ struct Fault {
     number: usize,
 }
 
+/// The most findings or faults that stand in the page: a browser still opens it, and nobody reads more.
+const MOST_LISTED: usize = 100_000;
+
 /// What the page is about: the feed, and what the check answered.
 struct Subject<'a> {
     feed: &'a Feed,
     report: &'a Report,
     facts: Facts<'a>,
     reasons: Reasons<'a>,
+    /// How many findings or faults there are of each number.
+    counts: BTreeMap<usize, usize>,
+    /// The places of those that stand in the page, in their order.
+    listed: Vec<u32>,
 }
 
-impl From<&Refusal> for Fault {
-    fn from(refusal: &Refusal) -> Self {
-        let Refusal { number, file, line, column } = *refusal;
+impl From<Refusal> for Fault {
+    fn from(refusal: Refusal) -> Self {
+        let Refusal { number, file, line, column } = refusal;
         Fault { file, line, column, number }
     }
 }
 
-impl From<&Finding> for Fault {
-    fn from(finding: &Finding) -> Self {
-        let Finding { file, line, rule } = *finding;
+impl From<Finding> for Fault {
+    fn from(finding: Finding) -> Self {
+        let Finding { file, line, rule } = finding;
         Fault { file, line, column: None, number: rule }
     }
 }
 
+/// The finding at a place, or the fault of a refused feed.
+fn fault_at(outcome: &Outcome, place: usize) -> Option<Fault> {
+    match outcome {
+        Outcome::Accepted => None,
+        Outcome::Findings { list, .. } => list.get(place).map(Fault::from),
+        Outcome::Refused { faults, .. } => faults.get(place).map(Fault::from),
+    }
+}
+
+/// Those at these places.
+fn faults_at<'o>(outcome: &'o Outcome, places: &'o [u32]) -> impl Iterator<Item = Fault> + 'o {
+    places.iter().filter_map(|place| fault_at(outcome, *place as usize))
+}
+
 impl<'a> Subject<'a> {
     fn new(feed: &'a Feed, report: &'a Report) -> Self {
-        Subject { feed, report, facts: Facts::new(feed, &report.tables), reasons: Reasons::new(feed) }
+        let (facts, reasons) = (Facts::new(feed, &report.tables), Reasons::new(feed));
+        let mut subject = Subject { feed, report, facts, reasons, counts: BTreeMap::new(), listed: Vec::new() };
+        for fault in subject.faults() {
+            *subject.counts.entry(fault.number).or_insert(0) += 1;
+        }
+        subject.listed = subject.first_of_each();
+        subject
     }
 
-    /// All findings, or all faults of a refused feed.
-    fn lists(&self) -> (&'a [Finding], &'a [Refusal]) {
-        match &self.report.outcome {
-            Outcome::Accepted => (&[], &[]),
-            Outcome::Findings { list, .. } => (list, &[]),
-            Outcome::Refused { faults, .. } => (&[], faults),
+    /// The places of all, or where there are too many of the first of each number.
+    fn first_of_each(&self) -> Vec<u32> {
+        let (most, mut seen) = (self.share(), BTreeMap::new());
+        let mut is_listed = |fault: &Fault| {
+            let seen = seen.entry(fault.number).or_insert(0);
+            *seen += 1;
+            *seen <= most
+        };
+        let places = (0..).zip(self.faults()).filter(|(_, fault)| is_listed(fault)).map(|(place, _)| place);
+        places.collect()
+    }
+
+    /// How many of a number stand in the page at most.
+    fn share(&self) -> usize {
+        if self.count() <= MOST_LISTED {
+            MOST_LISTED
+        } else {
+            MOST_LISTED / self.counts.len()
         }
     }
 
     /// How many there are.
     fn count(&self) -> usize {
-        let (findings, faults) = self.lists();
-        findings.len() + faults.len()
+        match &self.report.outcome {
+            Outcome::Accepted => 0,
+            Outcome::Findings { list, .. } => list.len(),
+            Outcome::Refused { faults, .. } => faults.len(),
+        }
     }
 
-    /// All of them in their order, or those at these places.
+    /// All of them in their order.
     fn faults(&self) -> impl Iterator<Item = Fault> + 'a {
-        self.faults_at(0..self.count())
+        let outcome = &self.report.outcome;
+        (0..self.count()).filter_map(|place| fault_at(outcome, place))
     }
 
-    fn faults_at(&self, places: Range<usize>) -> impl Iterator<Item = Fault> + 'a {
-        let (findings, faults) = self.lists();
-        places.map(|place| findings.get(place).map_or_else(|| Fault::from(&faults[place]), Fault::from))
+    /// Those that stand in the page, in their order.
+    fn listed(&self) -> impl Iterator<Item = Fault> + '_ {
+        faults_at(&self.report.outcome, &self.listed)
     }
 
     /// What the verdict names, if the feed is refused.
     fn first(&self) -> Option<Fault> {
         match &self.report.outcome {
-            Outcome::Refused { first, .. } => Some(Fault::from(first)),
+            Outcome::Refused { first, .. } => Some(Fault::from(*first)),
             _ => None,
         }
     }
@@ -189,7 +231,7 @@ impl<'a> Subject<'a> {
     /// What the list leaves open, since something else is to be mended first.
     fn hidden(&self) -> Vec<String> {
         match &self.report.outcome {
-            Outcome::Refused { faults, .. } => hidden::sentences(self.feed, faults),
+            Outcome::Refused { faults, .. } => hidden::sentences(self.feed, faults.iter()),
             _ => Vec::new(),
         }
     }
@@ -237,6 +279,7 @@ fn part(out: &mut dyn Write, name: &str, subject: &Subject) -> io::Result<()> {
         "records" => parts::records(subject),
         "read" => parts::read(subject),
         "totals" => parts::totals(subject),
+        "left-out" => parts::left_out(subject),
         "plain" => parts::plain(subject),
         "rules" => parts::rules(subject),
         // Where there is no fault, nothing is said about faults.

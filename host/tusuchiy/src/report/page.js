@@ -14,9 +14,10 @@ const fault = (place) => ({ file: index[4 * place], line: index[4 * place + 1], 
 
 // once FUNCTION: what it gives, made when it is first asked for.
 const once = (make) => { let made; return () => (made === undefined ? (made = make()) : made); };
-const stops = once(() => read("stops"));
+// The stops by their lines: of very many only those that findings name, and some of the others.
+const stops = once(() => new Map(read("stops").map((stop) => [stop[0], stop])));
 const trips = once(() => read("trips"));
-const stopName = (line) => { const stop = stops()[line - 2]; return stop ? stop[3] || stop[2] : ""; };
+const stopName = (line) => { const stop = stops().get(line); return stop ? stop[4] || stop[3] : `line ${line} of stops.txt`; };
 
 const blocks = new Map();
 // What is said of a finding or a fault: words, lines, trip, column. Blocks are parsed when they are needed.
@@ -100,9 +101,9 @@ function show(all) {
 // Which findings are shown, of how many.
 function count(from, until) {
   const word = data.word + (found.length === 1 ? "" : "s");
-  if (!found.length) return `No ${data.word} fits the filter, of ${grouped(data.total)} in all`;
+  if (!found.length) return `No ${data.word} fits the filter, of ${grouped(data.all)} in all`;
   const range = found.length > until - from ? `${grouped(from + 1)} to ${grouped(until)} of ` : "";
-  const all = found.length < data.total ? `, of ${grouped(data.total)} in all` : "";
+  const all = found.length < data.all ? `, of ${grouped(data.all)} in all` : "";
   return range + grouped(found.length) + " " + word + all;
 }
 
@@ -189,7 +190,7 @@ function rowsAround(lines, line) {
 const timed = (one) => one[2] >= 0 && one[3] >= 0;
 
 // For each line that falls the timed line with a smaller sequence that departs last, if that is after it arrives. The lines are in the order of
-// sequence and are walked along once: a trip may have 65,535.
+// sequence and are walked along once: a trip may have a million.
 function fallsOf(lines) {
   const falls = new Map();
   // The one that departs last of all lines so far, and of those with a smaller sequence than the line that is looked at.
@@ -301,12 +302,12 @@ function countFaulty() {
 }
 
 // A generic node or a boarding area may have no coordinates: it is on no map.
-const hasPlace = ([lat]) => lat !== null;
+const hasPlace = ([, lat]) => lat !== null;
 
-// Where each stop lies in a square of 10,000: degrees, narrowed by the latitude; null for one without a place.
+// Where each stop that has a place lies in a square of 10,000: degrees, narrowed by the latitude.
 function project() {
-  const all = stops(), bounds = [Infinity, -Infinity, Infinity, -Infinity];
-  for (const [lat, lon] of all.filter(hasPlace)) {
+  const all = [...stops().values()].filter(hasPlace), bounds = [Infinity, -Infinity, Infinity, -Infinity];
+  for (const [, lat, lon] of all) {
     bounds[0] = Math.min(bounds[0], lat); bounds[1] = Math.max(bounds[1], lat);
     bounds[2] = Math.min(bounds[2], lon); bounds[3] = Math.max(bounds[3], lon);
   }
@@ -316,19 +317,19 @@ function project() {
   const place = (lat, lon) => [(lon - (west + east) / 2) * narrow / size, ((south + north) / 2 - lat) / size];
   return { size, narrow, middle: [(south + north) / 2, (west + east) / 2], place,
     wide: (east - west) * narrow / size, high: (north - south) / size,
-    points: all.map((stop) => hasPlace(stop) ? place(stop[0] / 1e7, stop[1] / 1e7) : null) };
+    points: new Map(all.map(([line, lat, lon]) => [line, place(lat / 1e7, lon / 1e7)])) };
 }
 
-const onMap = (lines) => [...lines].filter((line) => ground.points[line - 2]);
-const dots = (lines) => onMap(lines).map((line) => { const [x, y] = ground.points[line - 2]; return `M${x.toFixed(1)} ${y.toFixed(1)}h.01`; }).join("");
+const onMap = (lines) => [...lines].filter((line) => ground.points.has(line));
+const dots = (lines) => onMap(lines).map((line) => { const [x, y] = ground.points.get(line); return `M${x.toFixed(1)} ${y.toFixed(1)}h.01`; }).join("");
 
 function startMap() {
-  if (!stops().some(hasPlace)) return;
+  if (![...stops().values()].some(hasPlace)) return;
   byId("map-section").hidden = false;
   countFaulty();
   ground = project();
   const own = [...faulty.keys()].filter((line) => faulty.get(line).own), calls = [...faulty.keys()].filter((line) => !faulty.get(line).own);
-  const plain = ground.points.map((_, place) => place + 2).filter((line) => !faulty.has(line));
+  const plain = [...ground.points.keys()].filter((line) => !faulty.has(line));
   const layer = (name, lines) => draw("path", { class: name, d: dots(lines) });
   ground.layer = draw("g", { class: faulty.size > 300 ? "dense" : false }, layer("stop", plain), layer("call", calls), layer("call-hole", calls), layer("own", own));
   ground.grid = draw("g", {});
@@ -344,10 +345,11 @@ function startMap() {
 }
 
 function mapWords(own, calls) {
-  const placed = stops().filter(hasPlace).length, more = stops().length - placed;
-  const count = `${grouped(placed)} stops by their coordinates${more ? `, ${grouped(more)} more without any` : ""}`;
+  const placed = ground.points.size, more = stops().size - placed, some = stops().size < data.stops;
+  const of = some ? ` of ${grouped(data.stops)}` : "", without = more && !some ? `, ${grouped(more)} more without any` : "";
+  const count = `${grouped(placed)}${of} stops by their coordinates${without}`;
   if (!own && !calls) return `${count}, none with a finding.`;
-  return `${count}, ${grouped(own + calls)} with findings.`;
+  return `${count}, ${grouped(own + calls)} with findings${data.total < data.all ? " that are listed" : ""}.`;
 }
 
 function showLegend(own, calls) {
@@ -422,14 +424,14 @@ function markStop() {
   const named = faulty.size <= 12 ? onMap(faulty.keys()) : [];
   const parts = [], taken = [];
   for (const line of named) {
-    const [x, y] = onScreen(ground.points[line - 2]), name = stopName(line), end = x + 14 + name.length * 7;
+    const [x, y] = onScreen(ground.points.get(line)), name = stopName(line), end = x + 14 + name.length * 7;
     // A name that would stand on another is left out; the list beside the map has it.
     if (taken.some((other) => Math.abs(other.y - y) < 14 && x < other.end && other.x < end)) continue;
     taken.push({ x, y, end });
     parts.push(draw("text", { class: "label", x: x + 10, y: y + 4 }, name));
   }
-  if (chosen.stop && ground.points[chosen.stop - 2]) {
-    const [x, y] = onScreen(ground.points[chosen.stop - 2]);
+  if (chosen.stop && ground.points.get(chosen.stop)) {
+    const [x, y] = onScreen(ground.points.get(chosen.stop));
     parts.push(draw("circle", { class: "chosen-stop", cx: x, cy: y, r: 12 }));
   }
   ground.labels.replaceChildren(...parts);
@@ -450,7 +452,7 @@ function move(x, y) {
 function stopAt(x, y) {
   let nearest = 0, least = 16;
   for (const line of onMap(faulty.keys())) {
-    const [stopX, stopY] = onScreen(ground.points[line - 2]), distance = Math.hypot(stopX - x, stopY - y);
+    const [stopX, stopY] = onScreen(ground.points.get(line)), distance = Math.hypot(stopX - x, stopY - y);
     if (distance < least) { nearest = line; least = distance; }
   }
   return nearest;

@@ -8,7 +8,6 @@ use crate::feed::NAMES;
 use crate::paging::Outcome;
 use crate::safe;
 use crate::text::asked;
-use std::collections::BTreeMap;
 use std::os::unix::ffi::OsStrExt;
 use tusuchiy::{File, Profile, Rule, MOST_BYTES};
 
@@ -197,16 +196,9 @@ fn unread(subject: &Subject) -> String {
     format!("<p class=\"note\" id=\"unread\">Not looked at: {}{more}.</p>\n", names.join(", "))
 }
 
-/// How many faults there are of each number.
-pub fn counts(subject: &Subject) -> BTreeMap<usize, usize> {
-    let mut counts = BTreeMap::new();
-    subject.faults().for_each(|fault| *counts.entry(fault.number).or_insert(0) += 1);
-    counts
-}
-
 /// The totals by rule; the script makes each number a filter.
 pub fn totals(subject: &Subject) -> String {
-    let counts = counts(subject);
+    let counts = &subject.counts;
     let most = counts.values().copied().max().unwrap_or(1);
     let row = |(&number, &count): (&usize, &usize)| {
         // A bar is seen however short it is.
@@ -249,6 +241,22 @@ fn pieces(pieces: &[Piece]) -> String {
     format!("<bdi>{line}</bdi>").replace("<bdi></bdi>", "")
 }
 
+/// What the list leaves out, where there are too many for a page, and who has all of them.
+pub fn left_out(subject: &Subject) -> String {
+    let (word, listed, all) = (subject.word(), subject.listed.len(), subject.count());
+    if listed == all {
+        return String::new();
+    }
+    let each = if subject.refused() { "refusal" } else { "rule" };
+    format!(
+        "<p class=\"note\" id=\"left-out\">Listed here are {} of {} {word}s, the first {} of each {each}. \
+         <code>tusuchiy check --json</code> has all of them.</p>\n",
+        grouped(listed),
+        grouped(all),
+        grouped(subject.share())
+    )
+}
+
 /// The first faults as a plain list.
 pub fn plain(subject: &Subject) -> String {
     let headers = Headers::new(subject.feed);
@@ -265,7 +273,7 @@ pub fn plain(subject: &Subject) -> String {
             own.map_or(String::new(), |own| format!("<br><code>{}</code>", pieces(&own.pieces)))
         )
     };
-    let items: String = subject.faults().take(PLAIN).map(item).collect();
+    let items: String = subject.listed().take(PLAIN).map(item).collect();
     let more = subject.count().saturating_sub(PLAIN);
     let more = if more == 0 { String::new() } else { format!("<p>And {} more.</p>", grouped(more)) };
     format!("<ol>\n{items}</ol>{more}")
@@ -283,7 +291,7 @@ pub fn rules(subject: &Subject) -> String {
             marked_up(body)
         )
     };
-    counts(subject).keys().map(|&number| article(number)).collect()
+    subject.counts.keys().map(|&number| article(number)).collect()
 }
 
 /// The little Markdown that docs/RULES.md has: paragraphs, lines, bold words, code.

@@ -8,16 +8,19 @@ mod records;
 
 use crate::feed::{Feed, Place, Unread, MOST_BYTES, NAMES};
 use crate::folder::{all, cannot, limited, open, Files};
-use crate::safe;
+use crate::{progress, safe};
 use data::Data;
 use records::{named, Member};
 use std::collections::BTreeSet;
 use std::fs::File;
-use std::io::{self, ErrorKind};
+use std::io::{self, ErrorKind, Read};
 use std::path::Path;
 
-/// More than this beside the six files isn't unpacked.
-const MOST_BESIDE: u64 = 1 << 30;
+/// More than this beside the six files isn't unpacked: a member without numbers of 64 bits has no more.
+const MOST_BESIDE: u64 = 1 << 32;
+
+/// A byte of packed data can't become more: deflate has 258 bytes in two bits at best.
+const MOST_FROM_BYTE: u64 = 1032;
 
 /// Members that are sought, each at the place of its name.
 type Found<'a, const COUNT: usize> = [Option<&'a Member>; COUNT];
@@ -79,16 +82,19 @@ fn sought<'a, const COUNT: usize>(members: &'a [Member], folder: &[u8], names: [
 /// The bytes of members, or of each that can't be read what is in the way, a line each.
 fn unpack_all<const COUNT: usize>(path: &Path, file: &File, found: Found<COUNT>) -> Result<Files<COUNT>, String> {
     all(found.map(|member| {
+        member.inspect(|member| progress::step(|| format!("unpacking {}", safe::name(names::parts(&member.name).1))));
         let bytes = member.map(|member| unpack(file, member).map_err(|error| named(&member.name, &error)));
         bytes.transpose().map_err(|error| cannot(path, &error.to_string()))
     }))
 }
 
-/// The bytes of a member, at most one past what rule 1 allows. A longer one is refused, whatever follows.
+/// The bytes of a member, at most one past what rule 1 allows, or past the size that it claims. A longer one is refused, whatever follows.
 fn unpack(file: &File, member: &Member) -> io::Result<Vec<u8>> {
     let mut data = Data::of(file, member);
-    let bytes = limited(&mut data, member.size)?;
-    if bytes.len() <= MOST_BYTES {
+    // No memory is asked for that nothing in the file could fill.
+    let expected = member.size.min(member.packed.saturating_mul(MOST_FROM_BYTE));
+    let bytes = limited(data.by_ref().take(member.size + 1), expected + 1)?;
+    if member.size.min(bytes.len() as u64) <= MOST_BYTES as u64 {
         data.check()?;
     }
     Ok(bytes)
@@ -101,6 +107,7 @@ fn pass_others<const COUNT: usize>(file: &File, members: &[Member], found: Found
     if others().map(|member| member.size).sum::<u64>() > MOST_BESIDE {
         return Err(bad(format!("it has more than {MOST_BESIDE} bytes beside the files of the feed")));
     }
+    progress::step(|| "unpacking other members".to_string());
     for member in others() {
         let mut data = Data::of(file, member);
         data.pass().and_then(|()| data.check()).map_err(|error| named(&member.name, &error))?;
