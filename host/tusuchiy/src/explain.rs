@@ -1,9 +1,17 @@
 //! The clerk's page: docs/RULES.md, a section for each refusal and each rule, found by its heading.
 
+use std::sync::OnceLock;
+
 const RULES: &str = include_str!("../../../docs/RULES.md");
 
 /// The headings' first words: `## Refusal 4: ..` and `## Rule 20: ..`.
 const WORDS: [&str; 2] = ["## Refusal ", "## Rule "];
+
+/// Meanings by their numbers, each looked up once: a list may ask a million times.
+static MEANINGS: [OnceLock<&str>; 64] = {
+    const NONE: OnceLock<&str> = OnceLock::new();
+    [NONE; 64]
+};
 
 /// The place of a section, and its heading without number and marks.
 fn find(number: usize) -> Option<(usize, &'static str)> {
@@ -21,7 +29,8 @@ fn find(number: usize) -> Option<(usize, &'static str)> {
 /// What a refusal or a rule means, in one line.
 #[must_use]
 pub fn meaning(number: usize) -> &'static str {
-    find(number).map_or("a rule that docs/RULES.md doesn't know", |(_, meaning)| meaning)
+    let look = || find(number).map_or("a rule that docs/RULES.md doesn't know", |(_, meaning)| meaning);
+    MEANINGS.get(number).map_or_else(look, |known| known.get_or_init(look))
 }
 
 /// The section of a refusal or a rule, from its heading to the next one.

@@ -43,13 +43,16 @@ fn write_list<Element>(
     value: impl Fn(Element) -> Value,
 ) -> io::Result<()> {
     progress::step(|| "writing the list".to_string());
-    out.write_all(b"[")?;
+    let mut written = b"[".to_vec();
     for (place, element) in list.enumerate() {
         progress::far("writing the list", place, length);
-        let comma = if place == 0 { "" } else { ", " };
-        write!(out, "{comma}{}", value(element))?;
+        written.extend(if place == 0 { &b""[..] } else { b", " });
+        value(element).write(&mut written);
+        out.write_all(&written)?;
+        written.clear();
     }
-    out.write_all(b"]")
+    written.push(b']');
+    out.write_all(&written)
 }
 
 /// What the verdict names, how many faults there are, and the list of them; null, 0 and none for a feed that can be read.
