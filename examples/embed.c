@@ -26,8 +26,8 @@ static const struct {
     {"calendar_dates.txt", TUSUCHIY_CALENDAR_DATES_WIDTH, 1},
 };
 
-/* Rules 1 and 2 refuse longer files and more lines, so nothing past these need be lent. */
-enum { MOST_BYTES = 16777216 + 1, MOST_LINES = 65536 };
+/* Rule 1 refuses longer files, so nothing past one byte more need be lent. Files are read in pieces that double. */
+enum { MOST_BYTES = TUSUCHIY_MOST_BYTES + 1, FIRST_BYTES = 65536 };
 
 /* A file and the table lent for it. */
 struct lent {
@@ -69,18 +69,33 @@ static FILE *opened(int folder, const char *name, int may_be_missing) {
     return from;
 }
 
+/* Reads an open file to its end, or as far as need be, into memory that grows with it: a small feed takes little. */
+static void read_to_end(FILE *from, struct lent *lent) {
+    size_t room = FIRST_BYTES;
+    for (;;) {
+        lent->length += fread(lent->bytes + lent->length, 1, room - lent->length, from);
+        if (lent->length < room || room == MOST_BYTES)
+            return;
+        room = room < MOST_BYTES / 2 ? 2 * room : MOST_BYTES;
+        lent->bytes = realloc(lent->bytes, room);
+        if (!lent->bytes)
+            stop("memory");
+    }
+}
+
 /* Reads a file, which has a length of 0 where it isn't there, and lends a table for its lines. */
 static struct lent lend(int folder, int file) {
-    struct lent lent = {.bytes = memory(MOST_BYTES, 1)};
+    struct lent lent = {.bytes = memory(FIRST_BYTES, 1)};
     FILE *from = opened(folder, KNOWN[file].name, KNOWN[file].may_be_missing);
     if (from) {
-        lent.length = fread(lent.bytes, 1, MOST_BYTES, from);
+        read_to_end(from, &lent);
         if (ferror(from))
             stop(KNOWN[file].name);
         fclose(from);
     }
     size_t lines = 0;
-    for (size_t place = 0; place < lent.length && lines < MOST_LINES; place++)
+    /* Rule 2 refuses more lines before rule 3 asks for a longer table. */
+    for (size_t place = 0; place < lent.length && lines < TUSUCHIY_MOST_LINES; place++)
         lines += lent.bytes[place] == '\n';
     lent.numbers = lines * KNOWN[file].width;
     lent.table = memory(lent.numbers, sizeof *lent.table);

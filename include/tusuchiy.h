@@ -24,6 +24,13 @@ enum {
     TUSUCHIY_CALENDAR_DATES = 6 /* calendar_dates.txt */
 };
 
+/* A file with more bytes is refused with number 1, one with more LF bytes with number 2. Before 0.10.0 the limits were
+ * 16,777,216 and 65,536. */
+enum {
+    TUSUCHIY_MOST_BYTES = 134217728,
+    TUSUCHIY_MOST_LINES = 1048576
+};
+
 /* A record has so many numbers in the table of its file. Lend each table at least its width times the number of
  * LF bytes in its file, else the feed is refused with number 3. A longer table does no harm. */
 enum {
@@ -139,7 +146,7 @@ typedef struct {
  * during the call. Nothing else is asked of the contents, and no call fails otherwise.
  *
  * The call keeps nothing: it allocates no memory, opens no file, holds no state between calls, so several threads may
- * call it at a time on memory of their own. A call uses at most 4 MiB of stack. */
+ * call it at a time on memory of their own. A call uses at most 5 MiB of stack. */
 tusuchiy_answer tusuchiy_check(
     const uint8_t *stops, size_t stops_len,
     const uint8_t *routes, size_t routes_len,
@@ -178,7 +185,7 @@ typedef struct {
  * faults: room for faults_len / 4 faults. Those after the place (after_file, after_line, after_number) are written, in
  *   rising order of file, line and number, as many as fit; the rest of the list stays as it was. Start with 0, 0, 0.
  *   For the next page give the last fault written; once a call writes none, you have had them all. The total doesn't
- *   depend on the place or on the room; it is 393,228 at most, 65,538 for each file.
+ *   depend on the place or on the room; it is 6,291,468 at most, 1,048,578 for each file.
  *
  * With long enough tables tusuchiy_check refuses a feed exactly when this list isn't empty, and what it names is in it.
  * No call is refused: a feed that can be read has a total of 0, and nothing is written.
@@ -195,18 +202,25 @@ tusuchiy_faults_answer tusuchiy_faults(
     int32_t after_file, int32_t after_line, int32_t after_number);
 
 /* An index lists the records of one of the files 1 to 4 in the order of their ids, so that an id can be sought by
- * halving. Its bytes, all numbers low byte first:
- *   0 to 2  the mark, 54 54 58 ("TTX")
- *   3, 4    the version, 1
- *   5       the file's number, 1 to 4
- *   6, 7    the count: how many records the file has
- *   8 ..    that many record numbers of two bytes; line n of the file is record n - 1
+ * halving. One of up to 65,535 records has version 1, one of more has version 2. Its bytes, all numbers low byte first:
+ *   version 1   version 2
+ *   0 to 2      0 to 2      the mark, 54 54 58 ("TTX")
+ *   3, 4        3, 4        the version, 1 or 2
+ *   5           5           the file's number, 1 to 4
+ *   6, 7        6 to 9      the count: how many records the file has
+ *   8 ..        10 ..       that many record numbers, of 2 bytes or of 4; line n of the file is record n - 1
+ * So an index of n records has 8 + 2 n bytes, or 10 + 4 n in version 2.
  * Ids rise strictly as byte strings, bytes from 0 to 255, a proper prefix first. They are compared by value: an id in
- * quotation marks is the id without them. A file in which no id stands twice has exactly one index, any other none. */
+ * quotation marks is the id without them. A file in which no id stands twice has exactly one index, any other none.
+ * Indexes that were stored before 0.10.0 stay good. Readers of then know version 1 alone: they answer 1 or 2 to a file
+ * past the limits of then, and 41 to version 2 beside a file that they can read. */
 enum {
-    TUSUCHIY_INDEX_HEAD_BYTES = 8,     /* before the record numbers */
-    TUSUCHIY_INDEX_ENTRY_BYTES = 2,    /* of each record number */
-    TUSUCHIY_INDEX_MOST_BYTES = 131078 /* of an index of 65,535 records, the most that rule 2 allows */
+    TUSUCHIY_INDEX_HEAD_BYTES = 8,         /* before the record numbers, in version 1 */
+    TUSUCHIY_INDEX_ENTRY_BYTES = 2,        /* of each record number, in version 1 */
+    TUSUCHIY_INDEX_1_MOST_RECORDS = 65535, /* the most that version 1 lists; version 2 lists more */
+    TUSUCHIY_INDEX_2_HEAD_BYTES = 10,      /* before the record numbers, in version 2 */
+    TUSUCHIY_INDEX_2_ENTRY_BYTES = 4,      /* of each record number, in version 2 */
+    TUSUCHIY_INDEX_MOST_BYTES = 4194310    /* of an index of 1,048,575 records, the most that rule 2 allows */
 };
 
 typedef struct {
@@ -219,7 +233,7 @@ typedef struct {
  *
  * In this order it is refused with 42 where file_number isn't 1 to 4, whatever is lent; with the file's own refusal (no
  * table is asked for, and a file of length 0 is refused with 4, calendar.txt too); with 45 where an id stands twice;
- * with 46 where the buffer is shorter than 8 bytes and 2 for each record: TUSUCHIY_INDEX_MOST_BYTES is always enough.
+ * with 46 where the buffer is shorter than the index: TUSUCHIY_INDEX_MOST_BYTES is always enough.
  * A refusal leaves the whole buffer as it was; else the bytes behind the index stay as they were.
  *
  * Pointers, memory, stack and threads are as for tusuchiy_check; the buffer doesn't overlap the file. */
@@ -229,8 +243,9 @@ tusuchiy_index_answer tusuchiy_index_write(
 /* Accepts exactly the index that tusuchiy_index_write writes for the file, whoever made it. Any bytes may stand in it.
  *
  * First come 42 and the file's own refusal as above; then the lowest number speaks: 40 fewer than 8 bytes, or another
- * mark; 41 another version; 42 another file number, count or length; 43 a record number of 0 or past the last record;
- * 44 ids that don't rise strictly, as those of a file in which an id stands twice never do. */
+ * mark; 41 a version other than 1 and 2; 42 another file number, count or length, or the version that isn't the one for
+ * that many records; 43 a record number of 0 or past the last record; 44 ids that don't rise strictly, as those of a
+ * file in which an id stands twice never do. */
 tusuchiy_index_answer tusuchiy_index_check(
     int32_t file_number, const uint8_t *file, size_t file_len, const uint8_t *index, size_t index_len);
 

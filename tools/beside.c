@@ -1,4 +1,4 @@
-/* beside.c: the checks of two archives by turns, on feeds whose folders are given; tools/beside builds and runs it. */
+/* beside.c: the checks of two archives by turns, on the feed whose folder is given; without one, the head of the table. tools/beside builds and runs it. */
 #define _POSIX_C_SOURCE 200809L
 #include <stdio.h>
 #include <stdlib.h>
@@ -12,11 +12,12 @@ typedef __typeof__(tusuchiy_check) check;
 /* The other archive's check, which has this name here. */
 check other_check;
 
-/* Each check has its turn until this many seconds are spent, but so many times at most; the fastest call counts. */
-enum { TURNS = 20, SPENT = 5 };
+/* Each check has its turn until this many seconds are spent, but so many times at most; the fastest counts. A call on a small feed is short: in each turn so many
+ * bytes at least are checked, by several calls. */
+enum { TURNS = 20, SPENT = 5, BATCH = 1 << 22 };
 
-/* The list has room for 65,536 findings. */
-enum { FILES = 6, ROOM = 3 * 65536 };
+/* The list has room for 1,048,576 findings. */
+enum { FILES = 6, ROOM = 3 * 1048576 };
 
 /* A file: its name, and the width of its table. */
 static const struct {
@@ -34,7 +35,7 @@ struct file {
     size_t length, numbers;
 };
 
-/* What one check has, and its fastest call. */
+/* What one check has, and the time of a call in its fastest turn. */
 struct side {
     check *check;
     int32_t *tables[FILES], *list;
@@ -91,18 +92,38 @@ static struct side lend(check *check, const struct file *files) {
     return side;
 }
 
-/* One call, and its time where it is the fastest. */
+/* One call. */
 static void call(const struct file *f, struct side *side) {
     int32_t **t = side->tables;
-    double start = seconds();
     side->answer = side->check(f[0].bytes, f[0].length, f[1].bytes, f[1].length, f[2].bytes, f[2].length,
                                f[3].bytes, f[3].length, f[4].bytes, f[4].length, f[5].bytes, f[5].length,
                                t[0], f[0].numbers, t[1], f[1].numbers, t[2], f[2].numbers,
                                t[3], f[3].numbers, t[4], f[4].numbers, t[5], f[5].numbers,
                                side->list, ROOM, 0, 0, 0, TUSUCHIY_PROFILE_PLAIN);
-    double time = seconds() - start;
+}
+
+/* One turn of so many calls, and the time of one where it is the fastest. */
+static void turn(const struct file *files, struct side *side, int calls) {
+    double start = seconds();
+    for (int count = 0; count < calls; count++)
+        call(files, side);
+    double time = (seconds() - start) / calls;
     if (time < side->least)
         side->least = time;
+}
+
+/* Gives each check its turns, unless it refuses the feed, which is no measure. */
+static void take_turns(const struct file *files, struct side *sides[2]) {
+    size_t bytes = 1;
+    for (int file = 0; file < FILES; file++)
+        bytes += files[file].length;
+    double start = seconds();
+    for (int count = 0; count < 2 * TURNS && seconds() - start < SPENT; count++) {
+        /* One after the other, and neither is always the first. */
+        struct side *side = sides[(count + count / 2) % 2];
+        if (side->answer.verdict != TUSUCHIY_REFUSED)
+            turn(files, side, BATCH / bytes + 1);
+    }
 }
 
 /* Have both given the same answer, tables and list? */
@@ -114,10 +135,23 @@ static int same(const struct file *files, const struct side *one, const struct s
     return same;
 }
 
-static void free_side(struct side *side) {
-    for (int file = 0; file < FILES; file++)
-        free(side->tables[file]);
-    free(side->list);
+/* The time of one check, or why it has none. */
+static void print_time(const struct side *side) {
+    if (side->answer.verdict == TUSUCHIY_REFUSED)
+        printf(" refused: %-2d |", side->answer.number);
+    else
+        printf(" %8.3f ms |", side->least * 1e3);
+}
+
+/* One row: both times, and how they stand to each other where there are both. */
+static void print(const char *folder, const struct side *other, const struct side *own) {
+    printf("| %-18s |", folder);
+    print_time(other);
+    print_time(own);
+    if (other->answer.verdict == TUSUCHIY_REFUSED || own->answer.verdict == TUSUCHIY_REFUSED)
+        printf(" %13s |\n", "-");
+    else
+        printf(" %13.2f |\n", other->least / own->least);
 }
 
 /* Measures both checks on a feed. */
@@ -126,30 +160,22 @@ static void measure(const char *folder) {
     for (int file = 0; file < FILES; file++)
         files[file] = read_file(folder, file);
     struct side other = lend(other_check, files), own = lend(tusuchiy_check, files);
-    double start = seconds();
-    for (int turn = 0; turn < TURNS && seconds() - start < SPENT; turn++) {
-        /* Neither is always the first. */
-        call(files, turn % 2 ? &own : &other);
-        call(files, turn % 2 ? &other : &own);
-    }
-    if (!same(files, &other, &own))
+    call(files, &other);
+    call(files, &own);
+    int refused = other.answer.verdict == TUSUCHIY_REFUSED || own.answer.verdict == TUSUCHIY_REFUSED;
+    if (!refused && !same(files, &other, &own))
         stop(folder, "the two checks differ");
-    if (own.answer.verdict == TUSUCHIY_REFUSED)
-        stop(folder, "it is refused, and a refusal is no measure");
-    printf("| %-12s | %8.2f ms | %8.2f ms | %13.2f |\n", folder, other.least * 1e3, own.least * 1e3,
-           other.least / own.least);
-    fflush(stdout);
-    free_side(&other);
-    free_side(&own);
-    for (int file = 0; file < FILES; file++)
-        free(files[file].bytes);
+    take_turns(files, (struct side *[]){&other, &own});
+    print(folder, &other, &own);
 }
 
 int main(int count, char **words) {
-    printf("Processor time of one call: the fastest of %d turns, or of as many as %d s allow.\n\n", TURNS, SPENT);
-    printf("| feed         | other       | this        | times as fast |\n");
-    printf("| ------------ | ----------- | ----------- | ------------- |\n");
-    for (int word = 1; word < count; word++)
-        measure(words[word]);
+    if (count == 2) {
+        measure(words[1]);
+        return 0;
+    }
+    printf("Processor time of one call: the fastest of %d turns, or of as many as %d s allow. Refused: by that rule, so no measure.\n\n", TURNS, SPENT);
+    printf("| feed               | other       | this        | times as fast |\n");
+    printf("| ------------------ | ----------- | ----------- | ------------- |\n");
     return 0;
 }

@@ -12,6 +12,7 @@ pub mod feeds;
 pub mod generate;
 pub mod index;
 pub mod large;
+pub mod limits;
 pub mod lines;
 pub mod listing;
 pub mod nodes;

@@ -16,9 +16,14 @@ pub fn table_sizes(files: [&[u8]; FILES]) -> [usize; FILES] {
     let mut sizes = WIDTHS;
     for (size, file) in sizes.iter_mut().zip(files) {
         // A file with more lines is refused before its table is measured.
-        *size *= file.iter().filter(|&&byte| byte == b'\n').count().min(MOST_LINES);
+        *size *= lines(file);
     }
     sizes
+}
+
+/// How many lines a file has, but no more than rule 2 allows.
+pub(crate) fn lines(file: &[u8]) -> usize {
+    file.iter().filter(|&&byte| byte == b'\n').count().min(MOST_LINES)
 }
 
 /// Why a call gave no answer; none of this is the feed's fault.
@@ -67,14 +72,14 @@ impl Place {
 
 impl From<Finding> for Place {
     fn from(finding: Finding) -> Self {
-        // Lines are at most 65,536.
+        // Lines are at most those of rule 2.
         Place([finding.file.number() as i32, finding.line as i32, finding.rule.number() as i32])
     }
 }
 
 impl From<Fault> for Place {
     fn from(fault: Fault) -> Self {
-        // Lines are at most 65,537.
+        // Lines are at most one more than those of rule 2.
         Place([fault.file.number() as i32, fault.line as i32, fault.refusal.number() as i32])
     }
 }
@@ -128,7 +133,7 @@ impl<'a> Check<'a> {
     ///
     /// Where there is no memory for the list or no thread for the call.
     pub fn page(&mut self, after: Place, room: usize) -> Result<Page, Error> {
-        let mut list = zeros(room.saturating_mul(3))?;
+        let mut list = zeros(room.min(self.most_findings()) * 3)?;
         let tables = self.tables.each_mut().map(|table| &mut table[..]);
         let answer = try_check(self.files, tables, &mut list, after.0, self.profile).map_err(Error::Thread)?;
         let verdict = answer.verdict().ok_or(Error::Unknown(answer))?;
@@ -140,6 +145,12 @@ impl<'a> Check<'a> {
             findings.push(Finding::of(numbers).ok_or(Error::Unknown(answer))?);
         }
         Ok(Page { verdict, findings })
+    }
+
+    /// As many findings as there can be: a line breaks a rule once. More room is never used, however much is asked for.
+    fn most_findings(&self) -> usize {
+        let lines = self.tables.iter().zip(WIDTHS).map(|(table, width)| table.len() / width);
+        lines.sum::<usize>() * Rule::all().count()
     }
 
     /// The verdict alone.

@@ -21,17 +21,20 @@
 //! # Ok::<(), tusuchiy::Error>(())
 //! ```
 
-use crate::check::{zeros, Place};
+use crate::check::{lines, zeros, Place};
 use crate::kinds::{Fault, FILES};
 use crate::pages::{Pages, PAGE};
-use crate::{on_stack, Error, MOST_LINES, THREAD_STACK};
+use crate::{on_stack, Error, THREAD_STACK};
 use std::io;
 
 /// How many numbers a fault has in the list: file, line, number, column.
 pub const WIDTH: usize = 4;
 
-/// The most faults that a feed can have: of each file one on every line, on one more without an ending, and 4 of the whole.
-pub const MOST: usize = FILES * (MOST_LINES + 2);
+/// The most faults that these files can have: of each file one on every line, on one more without an ending, and 4 of the whole.
+#[must_use]
+pub fn most(files: [&[u8]; FILES]) -> usize {
+    files.iter().map(|file| lines(file) + 2).sum()
+}
 
 /// The answer as the archive gives it; include/tusuchiy.h says what each number means.
 #[repr(C)]
@@ -105,8 +108,8 @@ pub struct Page {
 ///
 /// Where there is no memory for the list or no thread for the call.
 pub fn page(files: [&[u8]; FILES], after: Place, room: usize) -> Result<Page, Error> {
-    // No feed has more, so that more room is never used.
-    let mut list = zeros(room.min(MOST) * WIDTH)?;
+    // More room is never used.
+    let mut list = zeros(room.min(most(files)) * WIDTH)?;
     let answer = try_faults(files, &mut list, after.0).map_err(Error::Thread)?;
     read(&list, answer).ok_or(Error::UnknownFaults(answer))?
 }
@@ -138,7 +141,7 @@ pub struct Faults<'a> {
 impl<'a> Faults<'a> {
     /// All faults of these files in order, so many a page, at least one: less memory, but each page is a walk along all files.
     pub fn new(files: [&'a [u8]; FILES], room: usize) -> Self {
-        Faults { files, pages: Pages::of(room.min(MOST)) }
+        Faults { files, pages: Pages::of(room) }
     }
 
     /// The same with as many a page as most feeds need.
@@ -160,7 +163,9 @@ impl std::iter::FusedIterator for Faults<'_> {}
 #[cfg(test)]
 mod tests {
     use super::*;
+    use crate::tests::in_header;
     use crate::STACK;
+    use cases::limits::MOST_LINES;
 
     #[test]
     fn answers_in_words() {
@@ -177,23 +182,25 @@ mod tests {
     /// The header has the same figures.
     #[test]
     fn the_header_has_the_same_figures() {
+        assert_eq!(in_header("TUSUCHIY_FAULT_WIDTH"), WIDTH);
+        let full = vec![b'\n'; MOST_LINES + 9];
         let header = include_str!("../../../include/tusuchiy.h");
-        assert!(header.contains(&format!("TUSUCHIY_FAULT_WIDTH = {WIDTH}")));
-        assert!(header.contains("393,228 at most") && MOST == 393_228);
+        assert!(header.contains("6,291,468 at most") && most([&full[..]; FILES]) == 6_291_468);
     }
 
-    /// As many faults as a file can have, on no more stack than the header asks for.
+    /// Few faults, and as many as a file can have, on no more stack than the header asks for.
     #[test]
     fn the_stack_that_is_promised_is_enough() {
-        let routes = format!("route_id,route_type\n{}R", "R,x\n".repeat(MOST_LINES - 1)).into_bytes();
-        let mut files: [&[u8]; FILES] = [b"", b"", b"x\n", b"", b"", b""];
-        files[1] = &routes;
-        let mut list = vec![0; WIDTH * (MOST_LINES + 10)];
-        let answer = on_stack(STACK, || archive::faults(files, &mut list, [2, 0, 0])).expect("a thread");
-        // 4 of the files without a byte, of routes.txt 4, 13 on all lines but the header, 10 on the last; 9 of calendar.txt.
-        let of_routes = MOST_LINES as i32 + 1;
-        assert_eq!(answer, FaultsAnswer { written: of_routes + 3, total: of_routes + 4 });
-        assert_eq!(list[..8], [2, 0, 4, 0, 2, 2, 13, 2]);
-        assert_eq!(list[WIDTH * (MOST_LINES - 1)..][..12], [2, 65_536, 13, 2, 2, 65_537, 10, 0, 3, 1, 9, 0]);
+        for lines in [2, MOST_LINES] {
+            let routes = format!("route_id,route_type\n{}R", "R,x\n".repeat(lines - 1)).into_bytes();
+            let files: [&[u8]; FILES] = [b"", &routes, b"x\n", b"", b"", b""];
+            let mut list = vec![0; WIDTH * (lines + 10)];
+            let answer = on_stack(STACK, || archive::faults(files, &mut list, [2, 0, 0])).expect("a thread");
+            // 4 of the files without a byte, of routes.txt 4, 13 on all lines but the header, 10 on the last; 9 of calendar.txt.
+            let last = lines as i32;
+            assert_eq!(answer, FaultsAnswer { written: last + 4, total: last + 5 });
+            assert_eq!(list[..8], [2, 0, 4, 0, 2, 2, 13, 2]);
+            assert_eq!(list[WIDTH * (lines - 1)..][..12], [2, last, 13, 2, 2, last + 1, 10, 0, 3, 1, 9, 0]);
+        }
     }
 }

@@ -11,18 +11,42 @@
 //! # Ok::<(), tusuchiy::Error>(())
 //! ```
 
-use crate::check::zeros;
+use crate::check::{lines, zeros};
 use crate::kinds::{Fault, File, IndexRefusal};
-use crate::{on_stack, Error, MOST_LINES, THREAD_STACK};
+use crate::{on_stack, Error, THREAD_STACK};
 use std::fmt::{self, Display, Formatter};
 use std::io;
 
 /// The files that have an index: 1 to 4.
 pub const FILES: [File; 4] = [File::Stops, File::Routes, File::Calendar, File::Trips];
 
-/// The bytes before an index's record numbers, and those that each of them takes.
-pub const HEAD: usize = 8;
-pub const ENTRY: usize = 2;
+/// A version of the index: its number, the bytes before the record numbers, and those that the count and each record number take.
+#[derive(Clone, Copy, Debug, PartialEq, Eq)]
+pub struct Version {
+    pub number: usize,
+    pub head: usize,
+    pub entry: usize,
+}
+
+impl Version {
+    /// The first has count and records in 16 bits, the second in 32.
+    pub const ALL: [Version; 2] = [Version { number: 1, head: 8, entry: 2 }, Version { number: 2, head: 10, entry: 4 }];
+
+    /// The most records that an index of the first lists; one of the second lists more.
+    pub const MOST_OF_FIRST: usize = 65_535;
+
+    /// The one version that an index of so many records has.
+    #[must_use]
+    pub const fn of(records: usize) -> Self {
+        Version::ALL[(records > Version::MOST_OF_FIRST) as usize]
+    }
+
+    /// How many bytes an index of this version has that lists so many records.
+    #[must_use]
+    pub const fn length(self, records: usize) -> usize {
+        self.head + self.entry * records
+    }
+}
 
 /// The answer as the archive gives it; include/tusuchiy.h says what each number means.
 #[repr(C)]
@@ -133,12 +157,12 @@ pub fn check_here(file_number: i32, file: &[u8], index: &[u8]) -> IndexAnswer {
     archive::check(file_number, file, index)
 }
 
-/// How many bytes the index of a file has that can be read: 8, and 2 for each line but the header.
+/// How many bytes the index of a file has that can be read: with a record for each line but the header 8, and 2 for each of them, or above
+/// 65,535 records 10, and 4 for each.
 #[must_use]
 pub fn length(file: &[u8]) -> usize {
-    // A file with more lines is refused.
-    let lines = file.iter().filter(|&&byte| byte == b'\n').count().min(MOST_LINES);
-    HEAD + ENTRY * lines.saturating_sub(1)
+    let records = lines(file).saturating_sub(1);
+    Version::of(records).length(records)
 }
 
 /// The index of a file, or why it has none.
@@ -173,7 +197,9 @@ pub fn judge(file: File, bytes: &[u8], index: &[u8]) -> Result<Result<(), Refuse
 #[cfg(test)]
 mod tests {
     use super::*;
+    use crate::tests::in_header;
     use crate::STACK;
+    use cases::limits::MOST_LINES;
 
     #[test]
     fn answers_in_words() {
@@ -197,21 +223,55 @@ mod tests {
     #[test]
     fn the_length_follows_the_lines() {
         assert_eq!([&b""[..], b"x", b"x\n", b"x\ny\n", b"x\ny\nz"].map(length), [8, 8, 8, 10, 10]);
-        assert_eq!([65_535, 65_536, 70_000].map(|lines| length(&vec![b'\n'; lines])), [131_076, 131_078, 131_078]);
-        let most = include_str!("../../../include/tusuchiy.h").contains("TUSUCHIY_INDEX_MOST_BYTES = 131078");
-        assert!(most, "the header has another figure");
+        let of_lines = |lines: usize| length(&vec![b'\n'; lines]);
+        // On both sides of 65,535 records, and of as many as rule 2 allows.
+        assert_eq!([65_535, 65_536, 65_537, 65_538].map(of_lines), [131_076, 131_078, 262_154, 262_158]);
+        assert_eq!(
+            [-1, 0, 1].map(|more| of_lines(MOST_LINES.wrapping_add_signed(more))),
+            [4_194_306, 4_194_310, 4_194_310]
+        );
     }
 
-    /// As many records as rule 2 allows, on no more stack than the header asks for.
+    /// The header has the same figures.
+    #[test]
+    fn the_header_has_the_same_figures() {
+        let [first, second] = Version::ALL;
+        let figures = [
+            ("HEAD_BYTES", first.head),
+            ("ENTRY_BYTES", first.entry),
+            ("1_MOST_RECORDS", Version::MOST_OF_FIRST),
+            ("2_HEAD_BYTES", second.head),
+            ("2_ENTRY_BYTES", second.entry),
+            ("MOST_BYTES", second.length(MOST_LINES - 1)),
+        ];
+        for (name, figure) in figures {
+            assert_eq!(in_header(&format!("TUSUCHIY_INDEX_{name}")), figure, "{name}");
+        }
+    }
+
+    /// routes.txt with so many records, whose ids fall.
+    fn routes(records: usize) -> Vec<u8> {
+        let lines: String = (0..records).rev().map(|number| format!("{number:07},3\n")).collect();
+        format!("route_id,route_type\n{lines}").into_bytes()
+    }
+
+    /// An index of few records, on both sides of 65,535, and of as many as rule 2 allows, on no more stack than the header asks for.
     #[test]
     fn the_stack_that_is_promised_is_enough() {
-        let lines: String = (0..65_535).rev().map(|number| format!("{number:05},3\n")).collect();
-        let routes = format!("route_id,route_type\n{lines}").into_bytes();
-        let mut buffer = vec![0; length(&routes)];
-        let answer = on_stack(STACK, || archive::write(2, &routes, &mut buffer)).expect("a thread");
-        assert_eq!(answer.outcome(), Some(Ok(131_078)));
-        assert_eq!(buffer[..12], *b"TTX\x01\x00\x02\xFF\xFF\xFF\xFF\xFE\xFF");
-        let answer = on_stack(STACK, || archive::check(2, &routes, &buffer)).expect("a thread");
-        assert_eq!(answer.outcome(), Some(Ok(131_078)));
+        let heads: [(usize, &[u8]); 4] = [
+            (2, b"TTX\x01\x00\x02\x02\x00\x02\x00\x01\x00"),
+            (65_535, b"TTX\x01\x00\x02\xFF\xFF\xFF\xFF\xFE\xFF"),
+            (65_536, b"TTX\x02\x00\x02\x00\x00\x01\x00\x00\x00\x01\x00\xFF\xFF\x00\x00"),
+            (MOST_LINES - 1, b"TTX\x02\x00\x02\xFF\xFF\x0F\x00\xFF\xFF\x0F\x00\xFE\xFF\x0F\x00"),
+        ];
+        for (records, head) in heads {
+            let routes = routes(records);
+            let mut buffer = vec![0; length(&routes)];
+            let answer = on_stack(STACK, || archive::write(2, &routes, &mut buffer)).expect("a thread");
+            assert_eq!(answer.outcome(), Some(Ok(buffer.len())), "{records} records");
+            assert_eq!(buffer[..head.len()], *head, "{records} records");
+            let answer = on_stack(STACK, || archive::check(2, &routes, &buffer)).expect("a thread");
+            assert_eq!(answer.outcome(), Some(Ok(buffer.len())), "{records} records");
+        }
     }
 }

@@ -71,10 +71,10 @@ use std::io;
 use std::thread;
 
 /// How much stack a call of one of the archive's functions uses at most, in bytes; include/tusuchiy.h has the same figure.
-pub const STACK: usize = 4 << 20;
+pub const STACK: usize = 5 << 20;
 
-/// How much the thread has that makes the call: four times as much, of which only what is used takes memory.
-const THREAD_STACK: usize = 4 * STACK;
+/// How much the thread has that makes the call: twice as much, of which only what is used takes memory.
+const THREAD_STACK: usize = 2 * STACK;
 
 /// How many numbers a record of each file has, stops first: a table needs its width times its file's LF count.
 pub const WIDTHS: [usize; FILES] = {
@@ -220,8 +220,17 @@ pub fn check(
 #[cfg(test)]
 mod tests {
     use super::*;
+    use cases::large;
 
-    /// The feed of document 01 on no more stack than the header asks for.
+    /// One call on no more stack than the header asks for; the verdict.
+    fn verdict_on_stack(files: [&[u8]; FILES]) -> Option<Verdict> {
+        let mut tables = table_sizes(files).map(|size| vec![0; size]);
+        let tables = tables.each_mut().map(|table| &mut table[..]);
+        let answer = on_stack(STACK, move || archive::check(files, tables, &mut [0; 30], [0, 0, 0], Profile::Boards));
+        answer.expect("a thread").verdict()
+    }
+
+    /// The feed of document 01, and feeds whose longest file has as many lines as rule 2 allows.
     #[test]
     fn the_stack_that_is_promised_is_enough() {
         let files: [&[u8]; FILES] = [
@@ -232,11 +241,13 @@ mod tests {
             include_bytes!("../../../examples/findings/stop_times.txt"),
             b"",
         ];
-        let mut tables = WIDTHS.map(|width| vec![0; width * 10]);
-        let tables = tables.each_mut().map(|table| &mut table[..]);
-        let answer = on_stack(STACK, move || archive::check(files, tables, &mut [0; 30], [0, 0, 0], Profile::Boards));
         // Five of document 01, and the line without times.
-        assert_eq!(answer.expect("a thread").verdict(), Some(Verdict::Findings { written: 6, total: 6 }));
+        assert_eq!(verdict_on_stack(files), Some(Verdict::Findings { written: 6, total: 6 }));
+        for files in [large::feed(MOST_LINES - 1), large::dates(MOST_LINES)] {
+            let lines = files.iter().map(|file| check::lines(file)).max();
+            assert_eq!(lines, Some(MOST_LINES));
+            assert_eq!(verdict_on_stack(files.each_ref().map(|file| &file[..])), Some(Verdict::Accepted));
+        }
     }
 
     /// The header has the version of this package.
@@ -244,6 +255,21 @@ mod tests {
     fn the_version_is_the_same() {
         let line = format!("#define TUSUCHIY_VERSION \"{}\"\n", env!("CARGO_PKG_VERSION"));
         assert!(include_str!("../../../include/tusuchiy.h").contains(&line), "{line}");
+    }
+
+    /// A figure of the header.
+    pub fn in_header(name: &str) -> usize {
+        let figure = |line: &'static str| line.trim().strip_prefix(name)?.strip_prefix(" = ");
+        let text = include_str!("../../../include/tusuchiy.h").lines().find_map(figure).expect("a figure");
+        text.split(|byte: char| !byte.is_ascii_digit()).next().and_then(|digits| digits.parse().ok()).expect("a number")
+    }
+
+    /// The limits are those of document 02, and the header has them.
+    #[test]
+    fn the_limits_are_the_same() {
+        let limits = [cases::limits::MOST_BYTES, cases::limits::MOST_LINES];
+        assert_eq!([MOST_BYTES, MOST_LINES], limits);
+        assert_eq!(["TUSUCHIY_MOST_BYTES", "TUSUCHIY_MOST_LINES"].map(in_header), limits);
     }
 
     /// The README and the header have the same figure.

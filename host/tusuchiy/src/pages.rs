@@ -1,9 +1,10 @@
 //! A list that the archive hands out in pages, entry by entry: each page is asked for when it is needed.
 
 use crate::check::{Error, Place};
+use crate::MOST_LINES;
 
-/// How many entries a page has where nobody says: most feeds need one call.
-pub(crate) const PAGE: usize = 65_536;
+/// How many entries a page has where nobody says: most feeds need one call, and no more room is lent than a feed can use.
+pub(crate) const PAGE: usize = MOST_LINES;
 
 /// Where a list stands that is read page by page.
 #[derive(Clone, Debug)]

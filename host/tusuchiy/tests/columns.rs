@@ -2,6 +2,7 @@
 
 mod common;
 
+use cases::limits::{MOST_BYTES, MOST_LINES};
 use common::json::Json;
 use common::{document, json, out, run, said, status, Folder};
 
@@ -88,8 +89,8 @@ fn a_name_that_stands_twice() {
 #[test]
 fn refusals_without_a_column() {
     let cases: [(i64, Vec<u8>); 9] = [
-        (1, vec![b'x'; 16_777_217]),
-        (2, vec![b'\n'; 65_537]),
+        (1, vec![b'x'; MOST_BYTES + 1]),
+        (2, vec![b'\n'; MOST_LINES + 1]),
         (4, b"x".to_vec()),
         (5, b"a\tb\n".to_vec()),
         (6, b"a\"b\n".to_vec()),

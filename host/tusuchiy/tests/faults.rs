@@ -2,6 +2,7 @@
 
 mod common;
 
+use cases::limits::{MOST_BYTES, MOST_LINES};
 use common::json::Json;
 use common::{document, example, example_files, json, out, run, said, status, Folder, NAMES};
 use std::collections::BTreeMap;
@@ -238,8 +239,8 @@ fn values_under_a_refused_header_are_not_judged() {
 /// A file that is too long or has too many lines is one fault, and the others are told all the same.
 #[test]
 fn a_file_that_is_too_long_hides_its_lines() {
-    let long = format!("{ROUTES}B7,7,bus\n{}\n", "x".repeat(16_777_216));
-    let many = format!("{ROUTES}{}", "B7,7,bus\n".repeat(65_536));
+    let long = format!("{ROUTES}B7,7,bus\n{}\n", "x".repeat(MOST_BYTES));
+    let many = format!("{ROUTES}{}", "B7,7,bus\n".repeat(MOST_LINES));
     let sentence =
         "routes.txt: the file is too long, so its lines weren't judged and may bring more faults once it is shorter";
     for (bytes, number) in [(long.as_bytes(), 1), (&long.as_bytes()[..long.len() - 1], 1), (many.as_bytes(), 2)] {
@@ -249,7 +250,7 @@ fn a_file_that_is_too_long_hides_its_lines() {
         assert!(shown.contains(sentence), "{shown}");
     }
     // One byte too long: here the end was seen.
-    let folder = with(&[("routes.txt", &long.as_bytes()[..16_777_217])]);
+    let folder = with(&[("routes.txt", &long.as_bytes()[..MOST_BYTES + 1])]);
     assert_eq!(agreed(folder.path()), [[2, 0, 1, 0], [2, 0, 4, 0]]);
 }
 
@@ -336,7 +337,7 @@ fn a_long_list_is_short_unless_all_is_asked_for() {
     assert_eq!(agreed(folder.path()).len(), 18);
 }
 
-/// As many faulty lines as a file may have, in three files: seconds, also where the header or the file is long and is asked for
+/// Many faulty lines in three files: seconds, also where the header or the file is long and is asked for
 /// with each line, and where each line is Windows-1252.
 #[test]
 fn lists_as_long_as_they_can_be_are_quick() {
@@ -363,4 +364,26 @@ fn lists_as_long_as_they_can_be_are_quick() {
     assert_eq!(report.get("faults_total").number(), 3 * 65_535);
     assert_eq!(report.get("faults").list().len(), 3 * 65_535);
     quick(&["report", "-o", &folder.at("report.html")]);
+}
+
+/// As many faulty lines as a file may have, in each file: the first ones are shown, the last are on a page, and all are counted.
+#[test]
+fn as_many_faults_as_there_can_be() {
+    let file = "x\n".repeat(MOST_LINES - 1) + "\t\n\t";
+    let folder = with(&NAMES.map(|name| (name, file.as_bytes())));
+    // Of each file 4, 9 of the header, under which values aren't judged, and the tabs on its last two lines.
+    let shown = text(&[folder.path()]);
+    assert!(shown.contains("\nfaults: 24, this one among them\n"), "{shown}");
+    let file = "\t\n".repeat(MOST_LINES) + "\t";
+    let folder = with(&NAMES.map(|name| (name, file.as_bytes())));
+    let most = 6 * (MOST_LINES + 2);
+    let shown = text(&[folder.path()]);
+    assert!(shown.contains(&format!("\nfaults: {most}, this one among them\n")), "{shown}");
+    assert!(shown.contains(&format!("\nand {} more, which --all shows\n", most - 6 - 5)), "{shown}");
+    let last = MOST_LINES as i64 + 1;
+    let report = document(&["--after", &format!("6,{},5", last - 2), folder.path()]);
+    assert_eq!(
+        (report.get("faults_total").number(), faults(&report)),
+        (most as i64, vec![[6, last - 1, 5, 0], [6, last, 5, 0]])
+    );
 }

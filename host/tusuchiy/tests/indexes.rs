@@ -2,6 +2,7 @@
 
 mod common;
 
+use cases::limits::{MOST_BYTES, MOST_LINES, MOST_OF_VERSION_1};
 use common::json::Json;
 use common::zip::{feed, member, write};
 use common::{
@@ -106,7 +107,7 @@ fn a_feed_without_calendar_has_three() {
         let document = document(&["--check", folder.path()]);
         assert_eq!(verdicts(&document), ["accepted", "accepted", "not_supplied", "accepted"]);
         let calendar = &document.get("indexes").list()[2];
-        assert_eq!(["records", "length", "refusal"].map(|name| calendar.get(name)), [&Json::Null; 3]);
+        assert_eq!(["version", "records", "length", "refusal"].map(|name| calendar.get(name)), [&Json::Null; 4]);
         INDEXES.iter().filter(|name| **name != "calendar.ttx").for_each(|name| folder.take(name));
     }
 }
@@ -223,25 +224,40 @@ const WRONG: &[Wrong] = &[
     ),
     (b"TTX\x02\x01\x01\x05\x00", 41, "its version is 258, wanted 1", r#"{"version": 258, "wanted": 1}"#),
     (b"TTX\x00\x00\x01\x05\x00", 41, "its version is 0, wanted 1", r#"{"version": 0, "wanted": 1}"#),
+    (b"TTX\x03\x00\x01\x05\x00", 41, "its version is 3, wanted 1", r#"{"version": 3, "wanted": 1}"#),
+    (
+        b"TTX\x02\x00\x01\x05\x00\x00\x00\x05\x00\x00\x00\x01\x00\x00\x00\x02\x00\x00\x00\x03\x00\x00\x00\x04\x00\x00\x00",
+        42,
+        "its version is 2, wanted 1 (up to 65535 records); its length is 30, wanted 18",
+        r#"{"clauses": ["version", "length"], "version": 2, "wanted_version": 1, "file_number": 1, "wanted_file_number": 1,
+            "count": 5, "wanted_count": 5, "length": 30, "wanted_length": 18}"#,
+    ),
+    (
+        b"TTX\x02\x00\x01\x05\x00\x00",
+        42,
+        "its version is 2, wanted 1 (up to 65535 records); its count is 0, wanted 5; its length is 9, wanted 18",
+        r#"{"clauses": ["version", "count", "length"], "version": 2, "wanted_version": 1, "file_number": 1,
+            "wanted_file_number": 1, "count": 0, "wanted_count": 5, "length": 9, "wanted_length": 18}"#,
+    ),
     (
         ROUTES,
         42,
         "its file number is 2, wanted 1; its count is 1, wanted 5; its length is 10, wanted 18",
-        r#"{"clauses": ["file_number", "count", "length"], "file_number": 2, "wanted_file_number": 1, "count": 1,
+        r#"{"clauses": ["file_number", "count", "length"], "version": 1, "wanted_version": 1, "file_number": 2, "wanted_file_number": 1, "count": 1,
             "wanted_count": 5, "length": 10, "wanted_length": 18}"#,
     ),
     (
         b"TTX\x01\x00\x01\x05\x01\x05\x00\x01\x00\x02\x00\x03\x00\x04\x00",
         42,
         "its count is 261, wanted 5",
-        r#"{"clauses": ["count"], "file_number": 1, "wanted_file_number": 1, "count": 261, "wanted_count": 5,
+        r#"{"clauses": ["count"], "version": 1, "wanted_version": 1, "file_number": 1, "wanted_file_number": 1, "count": 261, "wanted_count": 5,
             "length": 18, "wanted_length": 18}"#,
     ),
     (
         b"TTX\x01\x00\x01\x05\x00\x05\x00\x01\x00\x02\x00\x03\x00\x04\x00\x00",
         42,
         "its length is 19, wanted 18",
-        r#"{"clauses": ["length"], "file_number": 1, "wanted_file_number": 1, "count": 5, "wanted_count": 5,
+        r#"{"clauses": ["length"], "version": 1, "wanted_version": 1, "file_number": 1, "wanted_file_number": 1, "count": 5, "wanted_count": 5,
             "length": 19, "wanted_length": 18}"#,
     ),
     (
@@ -343,12 +359,12 @@ fn the_document() {
     assert_eq!((document.get("version").number(), document.get("verdict").text()), (1, "refused"));
     assert_eq!((document.get("feed").text(), document.get("folder")), (folder.path(), &Json::Null));
     assert_eq!(document.get("output"), &Json::Null);
-    let wanted = r#"{"file": 3, "name": "calendar.txt", "index": "calendar.ttx", "verdict": "accepted", "records": 2,
-                     "length": 12, "refusal": null}"#;
+    let wanted = r#"{"file": 3, "name": "calendar.txt", "index": "calendar.ttx", "verdict": "accepted", "version": 1,
+                     "records": 2, "length": 12, "refusal": null}"#;
     assert_eq!(document.get("indexes").list()[2], json::read(wanted));
     let last = &document.get("indexes").list()[3];
-    assert_eq!(last.names(), ["file", "name", "index", "verdict", "records", "length", "refusal"]);
-    assert_eq!(["records", "length"].map(|name| last.get(name)), [&Json::Null; 2]);
+    assert_eq!(last.names(), ["file", "name", "index", "verdict", "version", "records", "length", "refusal"]);
+    assert_eq!(["version", "records", "length"].map(|name| last.get(name)), [&Json::Null; 3]);
     let members =
         ["file", "name", "line", "column", "column_name", "number", "meaning", "text", "cut", "words", "about"];
     assert_eq!(last.get("refusal").names(), members);
@@ -536,7 +552,7 @@ fn a_folder_without_permission() {
 
 /// So many routes, their ids falling.
 fn with_routes(folder: &Folder, count: usize) {
-    let lines: String = (0..count).rev().map(|number| format!("{number:05},3\n")).collect();
+    let lines: String = (0..count).rev().map(|number| format!("{number:07},3\n")).collect();
     folder.put("routes.txt", format!("route_id,route_type\n{lines}").as_bytes());
 }
 
@@ -555,29 +571,91 @@ fn a_full_disk() {
     assert_said(&folder, &["--quiet", "--check"], 0, "accepted\n");
 }
 
-/// As many records as rule 2 allows, and one more.
+/// Fails unless an index of so many routes, whose ids fall, is written and accepted, and said to be so.
+fn assert_falling(folder: &Folder, records: usize, said: &str, head: &[u8], width: usize) {
+    with_routes(folder, records);
+    let output = run(&["index", folder.path()]);
+    assert!(out(&output).contains(&format!("/routes.ttx: written ({said})\n")), "{}", out(&output));
+    let index = bytes(folder, "routes.ttx").expect("an index");
+    assert_eq!(index[..head.len()], *head);
+    let entries = index[head.len()..].chunks(width);
+    let number = |bytes: &[u8]| bytes.iter().rev().fold(0, |number, &byte| number << 8 | usize::from(byte));
+    assert!(entries.map(number).eq((1..=records).rev()), "{records} records");
+    let output = run(&["index", "--check", folder.path()]);
+    assert!(out(&output).contains(&format!("/routes.ttx: accepted ({said})\n")), "{}", out(&output));
+}
+
+/// On both sides of 65,535 records, where the second version begins, and as many as rule 2 allows.
 #[test]
 fn the_most_records() {
     let folder = Folder::new("index-most");
-    with_routes(&folder, 65_535);
+    let most = MOST_OF_VERSION_1;
+    assert_falling(&folder, most, "records 65535, bytes 131078", b"TTX\x01\x00\x02\xFF\xFF", 2);
+    let first = bytes(&folder, "routes.ttx").expect("an index");
+    let second = b"TTX\x02\x00\x02\x00\x00\x01\x00";
+    assert_falling(&folder, most + 1, "version 2, records 65536, bytes 262154", second, 4);
+    let told = document(&["--check", folder.path()]);
+    let index = &told.get("indexes").list()[1];
+    assert_eq!(["version", "records", "length"].map(|name| index.get(name).number()), [2, 65_536, 262_154]);
+    // The index of one record less, in the version that has no room for the count.
+    folder.put("routes.ttx", &first);
+    let words = "its version is 1, wanted 2 (above 65535 records); its count is 65535, wanted 65536; its length is 131078, wanted 262154";
+    let output = run(&["index", "--check", folder.path()]);
+    assert!(
+        out(&output).contains(&format!(": refusal 42: the index has a wrong file number, count or length: {words}\n"))
+    );
+    let full = b"TTX\x02\x00\x02\xFF\xFF\x0F\x00";
+    assert_falling(&folder, MOST_LINES - 1, "version 2, records 1048575, bytes 4194310", full, 4);
+    with_routes(&folder, MOST_LINES);
     let output = run(&["index", folder.path()]);
-    assert!(out(&output).contains("/routes.ttx: written (records 65535, bytes 131078)\n"), "{}", out(&output));
-    let index = bytes(&folder, "routes.ttx").expect("an index");
-    assert!(index[8..].chunks(2).map(|pair| u16::from_le_bytes([pair[0], pair[1]])).eq((1..=65_535).rev()));
-    assert_said(&folder, &["--check", "--quiet"], 0, "accepted\n");
-    with_routes(&folder, 65_536);
-    let output = run(&["index", "--check", folder.path()]);
     assert!(out(&output).contains("/routes.txt: refusal 2: "), "{}", out(&output));
-    assert_eq!(bytes(&folder, "routes.ttx"), Some(index));
-    // An index of any length is read as far as a file is.
+    assert_eq!(bytes(&folder, "routes.ttx").expect("an index")[..10], *full, "a refusal changes nothing");
+}
+
+/// An index of 65,536 records with something wrong in its wide numbers: the words have them whole.
+#[test]
+fn wide_numbers_are_told_whole() {
+    let folder = Folder::new("index-wide");
+    with_routes(&folder, MOST_OF_VERSION_1 + 1);
+    assert_said(&folder, &["--quiet"], 0, "written\n");
+    let good = bytes(&folder, "routes.ttx").expect("an index");
+    let cases: [(usize, &[u8], &str); 4] = [
+        (3, &[9, 0], "its version is 9, wanted 2\n"),
+        (6, &[255; 4], "its count is 4294967295, wanted 65536\n"),
+        (10, &[0, 0, 1, 128], "entry 1 is record 2147549184, wanted 1 to 65536\n"),
+        (
+            10,
+            &[255, 255, 0, 0, 0, 0, 1, 0],
+            "entry 1 is record 65535, route_id \"0000001\" on line 65536; entry 2 is record 65536, route_id \"0000000\" on \
+             line 65537: the second id comes before the first\n",
+        ),
+    ];
+    for (place, changed, words) in cases {
+        let mut index = good.clone();
+        index[place..place + changed.len()].copy_from_slice(changed);
+        folder.put("routes.ttx", &index);
+        let output = run(&["index", "--check", folder.path()]);
+        assert!(out(&output).contains(&format!(": {words}")), "{words}: {}", out(&output));
+        assert_eq!(status(&output), 2);
+    }
+}
+
+/// An index of any length is read as far as a file is.
+#[test]
+fn an_index_that_is_too_long() {
+    let folder = Folder::new("index-long");
     with_routes(&folder, 1);
-    fs::File::create(folder.at("routes.ttx")).expect("a file").set_len(2 << 30).expect("a file of holes");
-    let output = run(&["index", "--check", folder.path()]);
-    assert!(out(&output).contains("/routes.ttx: refusal 40: "), "{}", out(&output));
-    let head = [b"TTX\x01\x00\x02\x01\x00\x01\x00", &vec![0; 20_000_000][..]].concat();
-    folder.put("routes.ttx", &head);
-    let output = run(&["index", "--check", folder.path()]);
-    assert!(out(&output).contains(": its length is more than 16777216, wanted 10\n"), "{}", out(&output));
+    let hole = |begins: &[u8], length: usize| {
+        folder.put("routes.ttx", begins);
+        let file = fs::OpenOptions::new().write(true).open(folder.at("routes.ttx")).expect("a file");
+        file.set_len(length as u64).expect("a file of holes");
+        out(&run(&["index", "--check", folder.path()])).to_string()
+    };
+    assert!(hole(b"", 2 << 30).contains("/routes.ttx: refusal 40: "));
+    let begins = b"TTX\x01\x00\x02\x01\x00\x01\x00";
+    let told = hole(begins, MOST_BYTES + 9);
+    assert!(told.contains(&format!(": its length is more than {MOST_BYTES}, wanted 10\n")), "{told}");
+    assert!(hole(begins, 1_000_010).contains(": its length is 1000010, wanted 10\n"));
 }
 
 /// Ids of 64 bytes that differ in the last one, ids that begin another, quotes and bytes above 127: by their bytes.

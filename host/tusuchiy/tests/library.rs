@@ -2,6 +2,7 @@
 
 mod common;
 
+use cases::limits::{MOST_BYTES, MOST_LINES, MOST_OF_VERSION_1};
 use common::example_files;
 use std::num::NonZeroU32;
 use tusuchiy::index::{self, Refused};
@@ -44,7 +45,8 @@ fn pages_of_any_room_join() {
 fn pages_join(mut check: Check, wanted: &[Finding]) {
     let total = wanted.len();
     assert_eq!(check.verdict().expect("an answer"), Verdict::Findings { written: 0, total });
-    for room in [0, 1, 2, 3, total - 1, total, total + 1, 1000] {
+    // No more is lent than the feed can use, however much room is asked for.
+    for room in [0, 1, 2, 3, total - 1, total, total + 1, 1000, usize::MAX] {
         let told: Result<Vec<Finding>, _> = check.findings_by(room).collect();
         assert_eq!(told.expect("findings"), wanted, "room {room}");
     }
@@ -182,8 +184,8 @@ fn tables_are_long_enough_and_filled() {
     // A station without a parent, and with a place.
     assert_eq!(check.tables()[0][File::Stops.width() + 2..][..5], [525_251_000, 133_694_000, 1, 0, 1]);
     assert_eq!(check.into_tables().map(|table| table.len()), table_sizes(slices(&files)));
-    let long = vec![b'\n'; 70_000];
-    assert_eq!(table_sizes([&long, b"", b"x", b"\n", b"", b"\n\n"]), [7 * 65_536, 0, 0, 8, 0, 8]);
+    let long = vec![b'\n'; MOST_LINES + 9];
+    assert_eq!(table_sizes([&long, b"", b"x", b"\n", b"", b"\n\n"]), [7 * MOST_LINES, 0, 0, 8, 0, 8]);
 }
 
 /// The feed by date: what its trips and its dates have in their tables, by hand.
@@ -303,4 +305,113 @@ fn an_index_of_a_file() {
         index::FILES.map(|file| file.index_name().expect("a name")),
         ["stops", "routes", "calendar", "trips"].map(|name| format!("{name}.ttx"))
     );
+}
+
+/// The accepted example with another routes.txt: what the check says, how many faults there are and which is the first, and what the index says.
+fn with_routes(routes: &[u8]) -> (Option<Verdict>, i32, [i32; 4], [IndexAnswer; 2]) {
+    let example = example_files("feed");
+    let mut files = slices(&example);
+    files[1] = routes;
+    let mut tables = table_sizes(files).map(|size| vec![0; size]);
+    let lent = tables.each_mut().map(|table| &mut table[..]);
+    let verdict = tusuchiy::check(files, lent, &mut [0; 30], [0, 0, 0], Profile::Boards).verdict();
+    let mut list = [0; 4];
+    let faults = faults::faults(files, &mut list, [0, 0, 0]);
+    let mut index = vec![77; index::length(routes)];
+    let written = index::write(2, routes, &mut index);
+    (verdict, faults.total, list, [written, index::check(2, routes, &index)])
+}
+
+/// Fails unless every call reads a routes.txt whose index has this length.
+fn every_call_reads(routes: &[u8], length: i32) {
+    assert_eq!(with_routes(routes), (Some(Verdict::Accepted), 0, [0; 4], [IndexAnswer { length, ..GOOD }; 2]));
+}
+
+/// Fails unless every call refuses a routes.txt as a whole with this number, and nothing else is wrong with it.
+fn every_call_refuses(routes: &[u8], number: i32) {
+    let refusal = Refusal::new(number as usize).expect("a refusal");
+    let fault = Fault { file: File::Routes, line: 0, column: None, refusal };
+    let refused = IndexAnswer { number, file: 2, length: 0, ..GOOD };
+    assert_eq!(with_routes(routes), (Some(Verdict::Refused(fault)), 1, [2, 0, number, 0], [refused; 2]));
+}
+
+const ROUTES: &str = "route_id,route_short_name,route_type\n";
+
+/// routes.txt with so many records and ids that rise, B7 the last.
+fn rising(records: usize) -> Vec<u8> {
+    let lines: String = (1..records).map(|number| format!("{number:07},7,3\n")).collect();
+    format!("{ROUTES}{lines}B7,7,3\n").into_bytes()
+}
+
+/// Rules 1 and 2 at their limits and one past them.
+#[test]
+fn the_limits_by_every_call() {
+    let mut long = format!("note,{ROUTES}").into_bytes();
+    long.resize(MOST_BYTES - 8, b'x');
+    long.extend(b",B7,7,3\n");
+    every_call_reads(&long, 10);
+    long.insert(long.len() - 8, b'x');
+    every_call_refuses(&long, 1);
+    every_call_reads(&rising(MOST_LINES - 1), 4_194_310);
+    every_call_refuses(&rising(MOST_LINES), 2);
+}
+
+/// An index of routes.txt in a version whose numbers have so many bytes.
+fn listing(version: u8, width: usize, count: usize, records: impl IntoIterator<Item = usize>) -> Vec<u8> {
+    let number = |number: usize| number.to_le_bytes().into_iter().take(width);
+    let head = [b'T', b'T', b'X', version, 0, 2].into_iter().chain(number(count));
+    head.chain(records.into_iter().flat_map(number)).collect()
+}
+
+/// On both sides of 65,535 records: which version is written, in how many bytes, and that the reader takes no other.
+#[test]
+fn both_versions_of_the_index() {
+    let refused = |number| IndexAnswer { number, length: 0, ..GOOD };
+    let most = MOST_OF_VERSION_1;
+    for (records, version, width, length) in [(most, 1, 2, 131_078), (most + 1, 2, 4, 262_154)] {
+        let file = rising(records);
+        let wanted = listing(version, width, records, 1..=records);
+        assert_eq!((wanted.len(), index::length(&file)), (length, length));
+        let mut buffer = vec![77; length + 3];
+        assert_eq!(index::write(2, &file, &mut buffer[..length - 1]), refused(46));
+        assert!(buffer.iter().all(|&byte| byte == 77), "a refusal writes nothing");
+        let good = IndexAnswer { length: length as i32, ..GOOD };
+        assert_eq!(index::write(2, &file, &mut buffer), good);
+        assert!(buffer[..length] == wanted && buffer[length..] == [77; 3], "{records} records");
+        assert_eq!(index::check(2, &file, &wanted), good);
+        // The other version, with all else right, or with what its count can hold.
+        let (other, others) = if version == 1 { (2, 4) } else { (1, 2) };
+        for count in [records, records - 1, 0] {
+            for listed in [records, records - 1, 0] {
+                let wrong = listing(other, others, count, 1..=listed);
+                assert_eq!(index::check(2, &file, &wrong), refused(42), "{count}, {listed}");
+            }
+        }
+    }
+}
+
+/// The version 2 index of 65,536 records with something wrong: the lowest number speaks.
+#[test]
+fn a_version_2_index_that_is_wrong() {
+    let last = MOST_OF_VERSION_1 + 1;
+    let (file, good) = (rising(last), listing(2, 4, last, 1..=last));
+    let refused = |index: &[u8]| index::check(2, &file, index).number;
+    let with = |place: usize, bytes: &[u8]| {
+        let mut index = good.clone();
+        index[place..place + bytes.len()].copy_from_slice(bytes);
+        refused(&index)
+    };
+    assert_eq!([7, 8, 9, 10, good.len() - 1].map(|length| refused(&good[..length])), [40, 42, 42, 42, 42]);
+    assert_eq!(refused(&[&good[..], &[0]].concat()), 42);
+    let versions = [[0, 0], [1, 0], [3, 0], [2, 1], [0, 2], [255, 255]];
+    assert_eq!(versions.map(|version| with(3, &version)), [41, 42, 41, 41, 41, 41]);
+    assert_eq!([with(2, b"Y"), with(5, &[1]), with(5, &[0])], [40, 42, 42]);
+    // Counts that are right in their low half or their high half alone.
+    let counts = [[0, 0, 0, 0], [255, 255, 0, 0], [1, 0, 1, 0], [0, 0, 2, 0], [0, 0, 1, 128], [255; 4]];
+    assert_eq!(counts.map(|count| with(6, &count)), [42; 6]);
+    // The first entry, which is record 1, then another record: none, past the last by one or in the highest bit, or one that comes later too.
+    let entries = [[0; 4], [1, 0, 1, 0], [1, 0, 0, 128], [255; 4], [2, 0, 0, 0], [0, 0, 1, 0]];
+    assert_eq!(entries.map(|entry| with(10, &entry)), [43, 43, 43, 43, 44, 44]);
+    // The last two the other way round: 65,535 and 65,536 differ in all of their low bytes.
+    assert_eq!(with(good.len() - 8, &[0, 0, 1, 0, 255, 255, 0, 0]), 44);
 }

@@ -3,6 +3,7 @@
 use crate::clock;
 use crate::measure::least;
 use crate::report::seconds;
+use crate::steps;
 use crate::table::Table;
 use model::fields::value;
 use tusuchiy::index::{check, length, write};
@@ -21,19 +22,19 @@ const TIMES: Table = Table(&[
     ("of sort", 6),
 ]);
 
-/// Ids of one kind: a name, and the raw field of each number below 65,536.
+/// Ids of one kind: a name, and the raw field of each number below 1,048,576.
 type Ids = (&'static str, fn(usize) -> String);
 
 const IDS: [Ids; 4] = [
-    ("sorted", |number| format!("S{number:05}")),
+    ("sorted", |number| format!("S{number:07}")),
     ("random", |number| format!("{:x}", mixed(number))),
-    ("prefix", |number| format!("{:060}{:04x}", 0, mixed(number))),
-    ("quoted", |number| format!("\"\"\"{:04x}\"\"{number}\"\"\"", mixed(number))),
+    ("prefix", |number| format!("{:059}{:05x}", 0, mixed(number))),
+    ("quoted", |number| format!("\"\"\"{:05x}\"\"{number}\"\"\"", mixed(number))),
 ];
 
-/// Another number below 65,536, of each its own.
+/// Another number below 1,048,576, of each its own.
 fn mixed(number: usize) -> usize {
-    number * 40_503 % 65_536
+    number * 40_503 % 1_048_576
 }
 
 /// stops.txt with so many lines.
@@ -47,10 +48,13 @@ fn sorted(file: &[u8]) -> Vec<u8> {
     let raw = |line: &[u8]| line.rsplitn(4, |&byte| byte == b',').last().map(value).unwrap_or_default();
     // The header, which is no record, the records, and what follows the last LF.
     let ids: Vec<Vec<u8>> = file.split(|&byte| byte == b'\n').map(raw).collect();
-    let mut records: Vec<u16> = (1..=(ids.len() - 2) as u16).collect();
-    records.sort_by_key(|&record| &ids[usize::from(record)]);
-    let head = [&b"TTX\x01\0\x01"[..], &(records.len() as u16).to_le_bytes()].concat();
-    head.into_iter().chain(records.into_iter().flat_map(u16::to_le_bytes)).collect()
+    let mut records: Vec<u32> = (1..=(ids.len() - 2) as u32).collect();
+    records.sort_by_key(|&record| &ids[record as usize]);
+    // In version 2 numbers have four bytes, in version 1 the two low ones of them.
+    let (version, width) = if records.len() > 65_535 { (2, 4) } else { (1, 2) };
+    let number = |number: u32| number.to_le_bytes().into_iter().take(width);
+    let head = [b'T', b'T', b'X', version, 0, 1].into_iter().chain(number(records.len() as u32));
+    head.chain(records.into_iter().flat_map(number)).collect()
 }
 
 /// The times of writer, reader and sort.
@@ -68,15 +72,21 @@ fn times(file: &[u8]) -> [f64; 3] {
     [write, check, timed(&mut || sorted(file) == index)]
 }
 
-/// Measures each kind of ids at a fourth of the lines, and at all of them.
+/// Measures ids of one kind at each size.
+fn sizes(ids: Ids, most: usize) {
+    let mut before: Option<[f64; 3]> = None;
+    for lines in steps(most) {
+        let times = times(&stops(ids, lines));
+        let growth = |place: usize| before.map_or("-".to_string(), |few| format!("{:.1}", times[place] / few[place]));
+        let sizes = [ids.0.to_string(), lines.to_string()];
+        TIMES.row(sizes.into_iter().chain(times.map(seconds)).chain([0, 1, 2].map(growth)));
+        before = Some(times);
+    }
+}
+
+/// Measures each kind of ids.
 pub fn measure(most: usize) {
     println!("\nThe index of stops.txt; growth: the time by that in the row above, for four times the lines.\n");
     TIMES.head();
-    for ids in IDS {
-        let [few, many] = [most / 4, most].map(|lines| times(&stops(ids, lines)));
-        let sizes = |lines: usize| [ids.0.to_string(), lines.to_string()].into_iter();
-        TIMES.row(sizes(most / 4).chain(few.map(seconds)).chain(["-"; 3].map(String::from)));
-        let growth = [0, 1, 2].map(|place| format!("{:.1}", many[place] / few[place]));
-        TIMES.row(sizes(most).chain(many.map(seconds)).chain(growth));
-    }
+    IDS.into_iter().for_each(|ids| sizes(ids, most));
 }

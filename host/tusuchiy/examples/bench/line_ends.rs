@@ -4,8 +4,9 @@ use crate::clock;
 use crate::report::{processor, seconds};
 use crate::table::Table;
 use cases::large::families::FAMILIES;
+use cases::limits::{MOST_BYTES, MOST_LINES};
 use std::hint::black_box;
-use tusuchiy::{check_here, Profile, FILES, MOST_BYTES, MOST_LINES};
+use tusuchiy::{check_here, Profile, FILES};
 
 /// What `--only` calls it.
 pub const NAME: &str = "line-ends";
@@ -69,9 +70,9 @@ type Bytes = (&'static str, fn(usize) -> Vec<u8>);
 
 const BYTES: [Bytes; 2] = [("feed-like", feed_like), ("all LF", |size| vec![b'\n'; size])];
 
-/// Lines of stop_times.txt as the plain feed has them, the first family, over and over.
+/// Lines of stop_times.txt as a plain feed has them, the first family, over and over.
 fn feed_like(size: usize) -> Vec<u8> {
-    let [_, _, _, _, lines, _] = (FAMILIES[0].feed)(MOST_LINES);
+    let [_, _, _, _, lines, _] = (FAMILIES[0].feed)(65_536);
     let mut bytes = lines.repeat(size / lines.len() + 1);
     bytes.truncate(size);
     bytes

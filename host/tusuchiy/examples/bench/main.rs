@@ -11,13 +11,11 @@ mod report;
 mod table;
 
 use cases::large::families::{Family, FAMILIES};
+use cases::limits::MOST_LINES;
 use measure::{fastest, parts, Checker};
 use model::Answer;
 use report::{Parts, Row};
 use tusuchiy::Profile;
-
-/// The lines of the longest file, the header counted: the most that rule 2 allows.
-const MOST_LINES: usize = 65_536;
 
 /// A size is skipped where a check would take longer than so many seconds, if its time grew with the square.
 const PATIENCE: f64 = 60.0;
@@ -68,6 +66,11 @@ fn main() {
     }
 }
 
+/// The sizes of a feed: a sixteenth of the lines, a fourth, and all of them.
+pub fn steps(most: usize) -> [usize; 3] {
+    [most / 16, most / 4, most]
+}
+
 /// Measures the check on these feeds, by the rules that are asked for.
 fn feeds(families: &[&'static Family], lines: usize, profile: Profile) {
     report::introduce(families, profile);
@@ -84,10 +87,10 @@ fn stop(words: &str) -> ! {
     std::process::exit(2);
 }
 
-/// Measures a feed at a sixteenth of the lines, at a fourth, and at all of them.
+/// Measures a feed at each of its sizes.
 fn sizes(family: &'static Family, most: usize, profile: Profile) -> Vec<Row> {
     let mut rows: Vec<Row> = Vec::new();
-    for lines in [most / 16, most / 4, most] {
+    for lines in steps(most) {
         let before = rows.last().map(|row| row.check);
         let row = size(family, lines, profile, before);
         report::row(&row);

@@ -56,16 +56,20 @@ fn words(answer: &tusuchiy::Answer) -> Answer {
     }
 }
 
-/// Tables and list as lent, written to before the clock starts, so that their memory is there.
+/// What stands in tables and list as lent.
+const LENT: i32 = -1;
+
+/// Tables and list, written to before the clock starts, so that their memory is there.
 fn lend(files: &Files) -> Outcome {
-    Outcome { answer: Answer::Accepted, tables: cases::large::tables(files, -1), list: vec![-1; ROOM * 3] }
+    Outcome { answer: Answer::Accepted, tables: cases::large::tables(files, LENT), list: vec![LENT; ROOM * 3] }
 }
 
 /// The time of the fastest call, and what a call gave.
 pub fn fastest(checker: Checker, files: &Files, profile: Profile) -> (f64, Outcome) {
     let mut lent = lend(files);
     let least = least(|| {
-        lent = lend(files);
+        // As they were lent: no second ones, which at a million lines would take as much memory again.
+        lent.tables.iter_mut().chain([&mut lent.list]).for_each(|numbers| numbers.fill(LENT));
         checker.call(files, profile, &mut lent)
     });
     (least, lent)

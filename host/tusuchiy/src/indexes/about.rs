@@ -8,15 +8,16 @@ use crate::names::Names;
 use crate::value::{Members, Value};
 use std::borrow::Cow;
 use std::collections::HashMap;
-use tusuchiy::index::{ENTRY, HEAD};
+use tusuchiy::index::Version;
 use tusuchiy::File;
 
-/// What an index begins with, and the version that is read.
+/// What an index begins with, and how many bytes it has at least, whatever its version.
 const MARK: [u8; 3] = *b"TTX";
-const VERSION: usize = 1;
+const LEAST: usize = Version::ALL[0].head;
 
-/// Where its version, its file number and its count stand.
+/// Where its version, which takes two bytes, its file number and its count stand.
 const VERSION_PLACE: usize = 3;
+const VERSION_WIDTH: usize = 2;
 const FILE_PLACE: usize = 5;
 const COUNT_PLACE: usize = 6;
 
@@ -25,7 +26,7 @@ pub fn of(feed: &Feed, file: File, index: Option<&[u8]>, number: usize) -> (usiz
     let bytes = index.unwrap_or(&[]);
     let about = match number {
         40 => Some(no_mark(index)),
-        41 => Some(other_version(bytes)),
+        41 => Some(other_version(feed, file, bytes)),
         42 => Some(other_size(feed, file, bytes)),
         43 => no_such_record(feed, file, bytes),
         44 => not_rising(feed, file, bytes),
@@ -43,18 +44,20 @@ pub fn of_nothing(file: File) -> About {
     About { words: format!("{file} isn't supplied, and {index} is left of an earlier one: take it away"), members }
 }
 
-/// A number of 16 bits, low byte first; 0 where the index ends before.
-fn number(bytes: &[u8], place: usize) -> usize {
-    bytes.get(place..place + ENTRY).map_or(0, |pair| usize::from(pair[0]) | usize::from(pair[1]) << 8)
+/// A number of so many bytes, low byte first; 0 where the index ends before.
+fn number(bytes: &[u8], place: usize, width: usize) -> usize {
+    let bytes = bytes.get(place..place + width).unwrap_or(&[]);
+    bytes.iter().rev().fold(0, |number, &byte| number << 8 | usize::from(byte))
 }
 
-/// The record numbers that an index lists.
-fn entries(bytes: &[u8]) -> impl Iterator<Item = usize> + '_ {
-    bytes.get(HEAD..).unwrap_or(&[]).chunks_exact(ENTRY).map(|pair| number(pair, 0))
+/// The record numbers that an index lists, which has the version that its file asks for.
+fn entries<'b>(feed: &Feed, file: File, bytes: &'b [u8]) -> impl Iterator<Item = usize> + 'b {
+    let Version { head, entry, .. } = Version::of(records(feed, file));
+    bytes.get(head..).unwrap_or(&[]).chunks_exact(entry).map(move |bytes| number(bytes, 0, entry))
 }
 
 /// How many records a file has that can be read.
-fn records(feed: &Feed, file: File) -> usize {
+pub fn records(feed: &Feed, file: File) -> usize {
     feed.line_count(file.number()).saturating_sub(1)
 }
 
@@ -68,8 +71,8 @@ fn no_mark(index: Option<&[u8]>) -> About {
     let begins = digits(&bytes[..bytes.len().min(MARK.len())]);
     let (clause, words) = match index {
         None => ("missing", "there is no such file".to_string()),
-        Some(short) if short.len() < HEAD => {
-            ("too_short", format!("its length is {}, wanted at least {HEAD}", short.len()))
+        Some(short) if short.len() < LEAST => {
+            ("too_short", format!("its length is {}, wanted at least {LEAST}", short.len()))
         }
         Some(_) => ("mark", format!("it begins with {begins}, wanted {} (TTX)", digits(&MARK))),
     };
@@ -78,40 +81,73 @@ fn no_mark(index: Option<&[u8]>) -> About {
     About { words, members }
 }
 
-fn other_version(bytes: &[u8]) -> About {
-    let version = number(bytes, VERSION_PLACE);
-    let members = vec![("version", Value::size(version)), ("wanted", Value::size(VERSION))];
-    About { words: format!("its version is {version}, wanted {VERSION}"), members }
+/// The version of an index.
+fn version(bytes: &[u8]) -> usize {
+    number(bytes, VERSION_PLACE, VERSION_WIDTH)
 }
 
-/// Each of file number, count and length that is wrong, and what was wanted.
-fn other_size(feed: &Feed, file: File, bytes: &[u8]) -> About {
-    let count = records(feed, file);
+fn other_version(feed: &Feed, file: File, bytes: &[u8]) -> About {
+    let (version, wanted) = (version(bytes), Version::of(records(feed, file)).number);
+    let members = vec![("version", Value::size(version)), ("wanted", Value::size(wanted))];
+    About { words: format!("its version is {version}, wanted {wanted}"), members }
+}
+
+/// What an index says of itself, or is: its names in the document, as it is and as its file asks for, and both numbers.
+struct Part {
+    names: [&'static str; 2],
+    found: usize,
+    wanted: usize,
+}
+
+/// Version, file number, count and length of an index.
+fn parts(feed: &Feed, file: File, bytes: &[u8]) -> [Part; 4] {
+    let (records, version) = (records(feed, file), version(bytes));
+    let wanted = Version::of(records);
+    // Any other version is refused before.
+    let found = Version::ALL.into_iter().find(|known| known.number == version).unwrap_or(wanted);
     let of_file = bytes.get(FILE_PLACE).map_or(0, |byte| usize::from(*byte));
-    let sizes = [
-        (["file_number", "wanted_file_number"], "file number", of_file, file.number()),
-        (["count", "wanted_count"], "count", number(bytes, COUNT_PLACE), count),
-        (["length", "wanted_length"], "length", bytes.len(), HEAD + ENTRY * count),
-    ];
-    let wrong: Vec<_> = sizes.iter().filter(|(_, _, found, wanted)| found != wanted).collect();
-    let words = wrong.iter().map(|(_, what, found, wanted)| {
+    let part = |names, found, wanted| Part { names, found, wanted };
+    [
+        part(["version", "wanted_version"], version, wanted.number),
+        part(["file_number", "wanted_file_number"], of_file, file.number()),
+        part(["count", "wanted_count"], number(bytes, COUNT_PLACE, found.entry), records),
+        part(["length", "wanted_length"], bytes.len(), wanted.length(records)),
+    ]
+}
+
+/// Each of version, file number, count and length that is wrong, and what was wanted.
+fn other_size(feed: &Feed, file: File, bytes: &[u8]) -> About {
+    let parts = parts(feed, file, bytes);
+    let wrong: Vec<&Part> = parts.iter().filter(|part| part.found != part.wanted).collect();
+    let words: Vec<String> = wrong.iter().map(|part| in_words(part)).collect();
+    let mut members: Members = vec![("clauses", Value::texts(wrong.iter().map(|part| part.names[0])))];
+    members.extend(parts.iter().flat_map(|part| {
+        let [found, wanted] = [part.found, part.wanted].map(Value::size);
+        [(part.names[0], found), (part.names[1], wanted)]
+    }));
+    About { words: words.join("; "), members }
+}
+
+/// A part that is wrong.
+fn in_words(part: &Part) -> String {
+    let Part { names: [name, _], found, wanted } = part;
+    let found = match *name {
         // No more of a file is read than rule 1 allows, and one byte.
-        let found = if *found > MOST_BYTES { format!("more than {MOST_BYTES}") } else { found.to_string() };
-        format!("its {what} is {found}, wanted {wanted}")
-    });
-    let mut members: Members = vec![("clauses", Value::texts(wrong.iter().map(|([name, _], ..)| name)))];
-    members.extend(
-        sizes.iter().flat_map(|([name, other], _, found, wanted)| {
-            [(*name, Value::size(*found)), (*other, Value::size(*wanted))]
-        }),
-    );
-    About { words: words.collect::<Vec<_>>().join("; "), members }
+        "length" if *found > MOST_BYTES => format!("more than {MOST_BYTES}"),
+        _ => found.to_string(),
+    };
+    let why = match (*name, *wanted) {
+        ("version", 1) => format!(" (up to {} records)", Version::MOST_OF_FIRST),
+        ("version", _) => format!(" (above {} records)", Version::MOST_OF_FIRST),
+        _ => String::new(),
+    };
+    format!("its {} is {found}, wanted {wanted}{why}", name.replace('_', " "))
 }
 
 /// The first entry that is no record of the file.
 fn no_such_record(feed: &Feed, file: File, bytes: &[u8]) -> Option<About> {
     let last = records(feed, file);
-    let (place, record) = entries(bytes).enumerate().find(|(_, record)| *record == 0 || *record > last)?;
+    let (place, record) = entries(feed, file, bytes).enumerate().find(|(_, record)| *record == 0 || *record > last)?;
     let entry = place + 1;
     let members = vec![("entry", Value::size(entry)), ("record", Value::size(record)), ("last", Value::size(last))];
     Some(About { words: format!("entry {entry} is record {record}, wanted 1 to {last}"), members })
@@ -120,7 +156,7 @@ fn no_such_record(feed: &Feed, file: File, bytes: &[u8]) -> Option<About> {
 /// The first two entries of which the second doesn't come after the first.
 fn not_rising(feed: &Feed, file: File, bytes: &[u8]) -> Option<About> {
     let ids = Ids::new(feed, file)?;
-    let entries: Vec<usize> = entries(bytes).collect();
+    let entries: Vec<usize> = entries(feed, file, bytes).collect();
     let place = entries.windows(2).position(|pair| ids.on(pair[0] + 1) >= ids.on(pair[1] + 1))?;
     let pair = [entries[place], entries[place + 1]];
     let values = pair.map(|record| ids.on(record + 1));

@@ -1,6 +1,6 @@
 //! What became of a feed's indexes, as one JSON document on one line; docs/JSON.md explains it.
 
-use super::{name, records, Done, Outcome};
+use super::{name, Done, Outcome};
 use crate::json;
 use crate::refusals::Reasons;
 use crate::value::Value;
@@ -35,12 +35,14 @@ fn of_file(done: &Done, file: File, outcome: &Outcome) -> Value {
             ("refused", None, json::refused(&done.feed, &Reasons::new(&done.feed), refusal, about.clone()))
         }
     };
+    let listed = length.map(|_| done.records(file));
     Value::Members(vec![
         ("file", Value::size(file.number())),
         ("name", Value::text(file.name())),
         ("index", Value::text(name(file))),
         ("verdict", Value::text(verdict)),
-        ("records", Value::maybe(length.map(records))),
+        ("version", Value::maybe(listed.map(|(_, version)| version.number))),
+        ("records", Value::maybe(listed.map(|(records, _)| records))),
         ("length", Value::maybe(length)),
         ("refusal", refusal),
     ])

@@ -12,12 +12,12 @@ use crate::memory;
 use crate::paging::Refusal;
 use crate::refusals::Reasons;
 use crate::style::{self, Style, When};
-use crate::{many, safe, source, whole, zip, REFUSED};
+use crate::{many, progress, safe, source, whole, zip, REFUSED};
 use std::ffi::OsStr;
 use std::io::Write;
 use std::os::unix::ffi::OsStrExt;
 use std::path::{Path, PathBuf};
-use tusuchiy::index::{self, Refused, ENTRY, FILES, HEAD};
+use tusuchiy::index::{self, Refused, Version, FILES};
 use tusuchiy::File;
 
 /// What `index` is asked for.
@@ -89,11 +89,6 @@ fn name(file: File) -> &'static str {
     file.index_name().unwrap_or_default()
 }
 
-/// How many records an index of this length has.
-fn records(length: usize) -> usize {
-    length.saturating_sub(HEAD) / ENTRY
-}
-
 /// Judges all indexes. One that isn't there has no bytes, unless its file isn't supplied either.
 fn judge_all(asked: &Asked, feed: &Feed, folder: Option<&Folder>) -> Result<[Outcome; FILES.len()], String> {
     let indexes = read(asked, feed, folder)?;
@@ -114,6 +109,7 @@ fn judge(feed: &Feed, file: File, index: Option<&[u8]>) -> Result<Outcome, Strin
     if feed.left_out(file) && index.is_none() {
         return Ok(Outcome::NotSupplied);
     }
+    progress::step(|| format!("judging {}", name(file)));
     let judged = memory::told(|| index::judge(file, feed.bytes(file), index.unwrap_or(&[])));
     Ok(match judged.map_err(|error| error.to_string())? {
         Ok(()) => Outcome::Good(index.map_or(0, <[u8]>::len)),
@@ -139,6 +135,7 @@ fn write(feed: &Feed, file: File, folder: &Folder) -> Result<Outcome, String> {
         let path = folder.path_of(name);
         format!("can't write {}: {why}", safe::name(path.as_os_str().as_bytes()))
     };
+    progress::step(|| format!("indexing {file}"));
     match memory::told(|| index::of(file, feed.bytes(file))).map_err(|error| cannot(error.to_string()))? {
         Ok(index) => {
             let put = whole::put(folder, name, |out| out.write_all(&index));
@@ -198,6 +195,12 @@ impl Done<'_> {
             Outcome::Refused(refusal, about) => Some((refusal, about)),
             _ => None,
         })
+    }
+
+    /// How many records the index of a file lists if it is good, and its version.
+    fn records(&self, file: File) -> (usize, Version) {
+        let records = about::records(&self.feed, file);
+        (records, Version::of(records))
     }
 
     /// The path of an index, safe to print.

@@ -1,13 +1,13 @@
 //! What became of a feed's indexes, as text: the verdict, then each index or why it is refused.
 
-use super::{is_of_index, name, records, Done, Outcome};
+use super::{is_of_index, name, Done, Outcome};
 use crate::paging::Refusal;
 use crate::safe;
 use crate::style::Style;
 use crate::text;
 use std::io::{self, Write};
 use std::os::unix::ffi::OsStrExt;
-use tusuchiy::index::FILES;
+use tusuchiy::index::{Version, FILES};
 use tusuchiy::File;
 
 /// Writes all that is to be said of a feed.
@@ -18,7 +18,7 @@ pub fn write(out: &mut dyn Write, done: &Done, style: Style) -> io::Result<()> {
         match outcome {
             Outcome::Good(length) => {
                 let path = style.path(&done.path(name(file)));
-                writeln!(out, "{path}: {} (records {}, bytes {length})", done.good(), records(*length))?;
+                writeln!(out, "{path}: {} ({}bytes {length})", done.good(), listed(done, file))?;
             }
             Outcome::NotSupplied => writeln!(out, "not supplied: {file}")?,
             Outcome::Refused(refusal, about) => {
@@ -29,6 +29,13 @@ pub fn write(out: &mut dyn Write, done: &Done, style: Style) -> io::Result<()> {
         }
     }
     done.refused().next().map_or(Ok(()), |(refusal, _)| text::write_hint(out, refusal.number))
+}
+
+/// How many records an index lists, and its version where older programs wouldn't read it.
+fn listed(done: &Done, file: File) -> String {
+    let (records, version) = done.records(file);
+    let first = version == Version::ALL[0];
+    format!("{}records {records}, ", if first { String::new() } else { format!("version {}, ", version.number) })
 }
 
 /// The verdict in a word.
