@@ -297,9 +297,8 @@ impl<'a> Facts<'a> {
         };
         ids.sort_unstable_by(|one, other| id(one).cmp(&id(other)));
         let mut numbered = memory::list([].into_iter(), lines);
-        let mut number = self.feed.line_count(4) as u32;
-        for same in ids.chunk_by(|one, other| id(one) == id(other)) {
-            number += 1;
+        let numbers = self.feed.line_count(4) as u32 + 1..;
+        for (same, number) in ids.chunk_by(|one, other| id(one) == id(other)).zip(numbers) {
             numbered.extend(same.iter().map(|&(line, ..)| (number, line)));
         }
         numbered
