@@ -1,6 +1,7 @@
 //! A check, writer and reader of an index, and the list of all faults, held to the customer's cases and to the model: by threads of this process,
 //! or by processes that have one thread each ([`crate::processes`]).
 
+use crate::index::versions;
 use crate::large::{self, families::FAMILIES};
 use crate::listing::mend::{mendable, only_what_was_hidden, rounds};
 use crate::{by_model, difference, edges, generate, index, listing, vectors, Case, Outcome};
@@ -117,6 +118,14 @@ pub fn on_every_edge_case_about_an_index(indexes: Indexes) -> Comparison<'static
     let cases = index::edges::cases();
     let with_model = move |case: &index::Case| with_index_outcome(indexes, case, &index::by_model(case));
     Comparison::new(cases.len(), move |place| with_model(&cases[place]))
+}
+
+/// Files of as many records as version 1 counts, and around that.
+pub fn on_both_versions_of_an_index(indexes: Indexes) -> Comparison<'static> {
+    Comparison::new(versions::CALLS, move |place| {
+        let (case, wanted) = versions::beside_many(place);
+        with_index_outcome(indexes, &case, &wanted);
+    })
 }
 
 pub fn on_generated_calls_about_an_index(indexes: Indexes, seeds: usize) -> Comparison<'static> {

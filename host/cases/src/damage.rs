@@ -2,6 +2,7 @@
 
 use crate::characters::ILL_FORMED;
 use crate::feeds::Grid;
+use crate::limits::{MOST_BYTES, MOST_LINES};
 use crate::random::Random;
 use model::columns::{Column, COLUMNS};
 use model::forms::Form;
@@ -117,8 +118,8 @@ fn long_value(random: &mut Random) -> Vec<u8> {
 /// Breaks rule 1, 2, 4, 5, 6, 7, 10 or 14 in the bytes of a file.
 pub fn break_bytes(file: &mut Vec<u8>, rule: usize, random: &mut Random) {
     match rule {
-        1 => file.resize(16_777_217, b'\n'),
-        2 => file.extend(vec![b'\n'; 65_537]),
+        1 => file.resize(MOST_BYTES + 1, b'\n'),
+        2 => file.extend(vec![b'\n'; MOST_LINES + 1]),
         4 if random.once_in(3) => file.clear(),
         4 if random.once_in(2) => drop(file.pop()),
         4 => file.extend(random.pick(&[&b"x"[..], b"\r", b"\xEF\xBB\xBF"]).iter()),

@@ -3,6 +3,7 @@
 use crate::damage::{break_bytes, break_values, cut_services, mutate, truncate};
 use crate::faults::break_one;
 use crate::feeds::{clean, Feed};
+use crate::limits::{MOST_BYTES, MOST_LINES};
 use crate::random::Random;
 use crate::render::{arrange, write};
 use crate::Case;
@@ -39,10 +40,10 @@ pub fn kind(seed: u64) -> Kind {
 /// The rules that turns break: 14 can be broken in many ways, 8 and 11 to 13 in many columns.
 const TURNS: [usize; 18] = [3, 4, 5, 6, 7, 8, 9, 10, 11, 12, 13, 14, 8, 11, 12, 13, 14, 14];
 
-/// The rule that a turn breaks; rules 1 and 2 take much memory and come seldom.
+/// The rule that a turn breaks; rules 1 and 2 take much memory and come seldom, rule 1 most so.
 fn refusal(turn: u64) -> usize {
     match turn % 240 {
-        17 => 1,
+        17 if turn % 720 == 17 => 1,
         34 | 134 => 2,
         other => TURNS[other as usize % TURNS.len()],
     }
@@ -113,8 +114,10 @@ fn lend(files: &Files, random: &mut Random) -> Tables {
     let mut tables = Tables::default();
     let short = random.once_in(30);
     for file in 0..FILES {
-        // Rule 2 speaks before rule 3, so more than its lines are never needed.
-        let exact = WIDTHS[file] * line_ends(&files[file]).min(65_536);
+        let lines = line_ends(&files[file]);
+        // Rules 1 and 2 speak before rule 3, so a file that breaks one of them needs no table.
+        let too_large = files[file].len() > MOST_BYTES || lines > MOST_LINES;
+        let exact = if too_large { 0 } else { WIDTHS[file] * lines };
         let length = match random.below(8) {
             0 if short => random.below(exact + 1),
             1 => exact + random.below(WIDTHS[file] * 2),

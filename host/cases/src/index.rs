@@ -2,6 +2,7 @@
 
 pub mod edges;
 pub mod generate;
+pub mod versions;
 
 use crate::edges::BASE;
 use model::fields::line_ends;
@@ -45,6 +46,16 @@ pub fn by_model(case: &Case) -> Outcome {
     let answer = match case.asked {
         Asked::Write => index::write(case.number, &case.file, &mut lent),
         Asked::Check => index::check(case.number, &case.file, &lent),
+    };
+    Outcome { answer, lent }
+}
+
+/// The same where the ids of its file are known, by record.
+pub fn by_model_of(case: &Case, ids: &[Vec<u8>]) -> Outcome {
+    let mut lent = case.lent.clone();
+    let answer = match case.asked {
+        Asked::Write => index::write_ids(case.number, ids, &mut lent),
+        Asked::Check => index::check_ids(case.number, ids, &lent),
     };
     Outcome { answer, lent }
 }

@@ -5,6 +5,7 @@ mod draft;
 pub mod families;
 mod plan;
 
+use crate::limits::MOST_LINES;
 use model::columns::WIDTHS;
 use model::fields::line_ends;
 use model::{Files, Tables};
@@ -43,7 +44,7 @@ pub fn dates(lines: usize) -> Files {
     dated::dates_mixed(lines)
 }
 
-/// Tables of just the length that rule 3 asks for, all of one number.
+/// Tables of just the length that rule 3 asks for, all of one number; of more lines than there may be rule 2 speaks first.
 pub fn tables(files: &Files, filled: i32) -> Tables {
-    from_fn(|file| vec![filled; WIDTHS[file] * line_ends(&files[file])])
+    from_fn(|file| vec![filled; WIDTHS[file] * line_ends(&files[file]).min(MOST_LINES)])
 }

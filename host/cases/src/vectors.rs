@@ -1,11 +1,11 @@
-//! Reads vector files; their form is explained at the top of vectors/e13.txt.
+//! Reads vector files; their form is explained at the top of vectors/e9.txt.
 
 use crate::index::{self, Asked};
 use crate::{Case, Outcome};
 use model::{Answer, Files, Profile, Tables};
 
-/// The customer's vectors for document 01 with E2, E1, E6, E7, E4, E10 and E13; the first line says so.
-pub const E13: &str = include_str!("../vectors/e13.txt");
+/// The customer's vectors for document 01 with E2, E1, E6, E7, E4, E10, E13 and E9; the first line says so.
+pub const E9: &str = include_str!("../vectors/e9.txt");
 
 /// A case of a vector file with what the check must give, and the calls about indexes with what each must give.
 #[derive(Debug)]
@@ -17,16 +17,16 @@ pub struct Vector {
 
 /// The customer's cases with what each must give.
 pub fn customers() -> Vec<(Case, Outcome)> {
-    all_of_e13().into_iter().map(|vector| (vector.case, vector.outcome)).collect()
+    all_of_e9().into_iter().map(|vector| (vector.case, vector.outcome)).collect()
 }
 
 /// The customer's calls about indexes with what each must give.
 pub fn indexes() -> Vec<(index::Case, index::Outcome)> {
-    all_of_e13().into_iter().flat_map(|vector| vector.indexes).collect()
+    all_of_e9().into_iter().flat_map(|vector| vector.indexes).collect()
 }
 
-fn all_of_e13() -> Vec<Vector> {
-    read(E13).expect("vectors/e13.txt is well-formed")
+fn all_of_e9() -> Vec<Vector> {
+    read(E9).expect("vectors/e9.txt is well-formed")
 }
 
 /// The cases of a vector file, or what is wrong with it and where.

@@ -4,6 +4,7 @@ mod common;
 
 use cases::edges::BASE;
 use cases::large::tables;
+use cases::limits::{MOST_BYTES, MOST_LINES};
 use common::{check, feed, findings, refusal, refused};
 
 /// Fails unless the base feed with this header and line in a file is refused with this rule, on the line and in this column.
@@ -215,8 +216,8 @@ fn whole_files_have_none() {
     assert_eq!(check(&files, &mut short).0, refusal([8, 6, 1, 2]));
     short[5].pop();
     assert_eq!(check(&files, &mut short).0, refusal([3, 6, 0, 0]));
-    refused(&[(6, &format!("{text}{}", "\n".repeat(65_537)))], [2, 6, 0, 0]);
-    refused(&[(6, &format!("{text}{}\n", " ".repeat(16_777_216)))], [1, 6, 0, 0]);
+    refused(&[(6, &format!("{text}{}", "\n".repeat(MOST_LINES + 1)))], [2, 6, 0, 0]);
+    refused(&[(6, &format!("{text}{}\n", " ".repeat(MOST_BYTES)))], [1, 6, 0, 0]);
 }
 
 /// Which rule, file and line speak doesn't change; a feed that is read has no column to tell.

@@ -3,6 +3,7 @@
 use cases::edges::BASE;
 use cases::generate;
 use cases::large::tables;
+use cases::limits::{MOST_BYTES, MOST_LINES};
 use cases::listing::edges::{at_the_limits, cases, ended, feed, header, line, several, OF_LINES};
 use cases::listing::generate::{case, pair};
 use cases::listing::mend::{mend, only_what_was_hidden, rounds};
@@ -55,7 +56,9 @@ fn the_list_beside_the_verdict() {
     vectors::customers().iter().for_each(|(case, _)| beside_the_verdict(&case.name, &case.files));
     cases::edges::cases().iter().step_by(4).for_each(|case| beside_the_verdict(&case.name, &case.files));
     cases().iter().for_each(|case| beside_the_verdict(&case.name, &case.files));
-    at_the_limits(4).iter().for_each(|case| beside_the_verdict(&case.name, &case.files));
+    // The others have the same files.
+    let numbers = [0, 1, 2, 3, 4, 7, 8, 10].into_iter();
+    numbers.for_each(|number| beside_the_verdict("at a limit", &at_the_limits(4, number).files));
     (0..SEEDS).map(case).for_each(|case| beside_the_verdict(&case.name, &case.files));
 }
 
@@ -194,10 +197,10 @@ fn a_second_round_where_a_header_is_refused() {
 #[test]
 fn a_third_round_where_a_file_is_too_large() {
     let [good, bad] = broken_everywhere(&[9]);
-    let over = |bytes: &[u8], end: &[u8]| [&bad[5], bytes, end].concat();
-    let many = b"\n".repeat(65_536);
-    let long = vec![b'x'; 16_777_216];
-    for file in [over(&many, b""), over(&many, b"x"), over(&long, b""), over(&long, b"\n")] {
+    let sizes: [(u8, usize, &[u8]); 4] =
+        [(b'\n', MOST_LINES, b""), (b'\n', MOST_LINES, b"x"), (b'x', MOST_BYTES, b""), (b'x', MOST_BYTES, b"\n")];
+    for (byte, most, end) in sizes {
+        let file = [&bad[5][..], &vec![byte; most], end].concat();
         let whole = faults(&feed(&[(5, &file)])).len();
         let mut feeds = [good.clone(), feed(&[(5, &file)])];
         assert_eq!(lengths(&feeds), [whole, 5, 4]);
@@ -207,7 +210,7 @@ fn a_third_round_where_a_file_is_too_large() {
     }
     // With a good header two rounds do, and with good lines one.
     let [good, bad] = broken_everywhere(&[]);
-    let too_many = |file: &[u8]| [file, &many].concat();
+    let too_many = |file: &[u8]| [file, &[b'\n'; MOST_LINES]].concat();
     assert_eq!(lengths(&[good.clone(), feed(&[(5, &too_many(&bad[5]))])]), [1, 8]);
     assert_eq!(lengths(&[good.clone(), feed(&[(5, &too_many(&good[5]))])]), [1]);
 }
@@ -227,11 +230,12 @@ fn calendar_is_excused_by_calendar_dates() {
 #[test]
 fn an_ending_at_the_limit_is_one_too_many() {
     let mut files = feed(&[]);
-    files[5] = [&b"service_id,date,exception_type\n"[..], &b"W,20240704,2\n".repeat(65_535), b"W,20240704,2"].concat();
+    files[5] =
+        [&b"service_id,date,exception_type\n"[..], &b"W,20240704,2\n".repeat(MOST_LINES - 1), b"W,20240704,2"].concat();
     let mended = mend(&files, &files, &[[6, 0, 4, 0]]);
     assert_eq!([faults(&files), faults(&mended)], [[[6, 0, 4, 0]], [[6, 0, 2, 0]]]);
     files[5] = b"service_id,date,exception_type,note\nW,20240704,2,".to_vec();
-    files[5].resize(16_777_216, b'x');
+    files[5].resize(MOST_BYTES, b'x');
     let mended = mend(&files, &files, &[[6, 0, 4, 0]]);
     assert_eq!([faults(&files), faults(&mended)], [[[6, 0, 4, 0]], [[6, 0, 1, 0]]]);
 }

@@ -1,6 +1,7 @@
 //! Issue 19: the model against lists of faults written by hand from the issue, document 01 and what was decided of both.
 
 use cases::edges::BASE;
+use cases::limits::{MOST_BYTES, MOST_LINES};
 use model::faults::{faults, hand_out, Answer, Fault};
 use model::Files;
 
@@ -237,29 +238,29 @@ fn files_that_are_not_supplied() {
 fn files_that_are_too_large() {
     let lines = lines_below(b"service_id\t");
     let filled = |byte: u8, count: usize, end: &[u8]| [&lines[..], &vec![byte; count], end].concat();
-    let (bytes, ends) = (16_777_216, 65_536);
     let behind = |numbers: &[i32]| numbers.iter().map(|&number| [6, 0, number, 0]).collect::<Vec<Fault>>();
-    listed(&[(6, &filled(b'x', bytes, b"\n"))], &behind(&[1]));
-    listed(&[(6, &filled(b'x', bytes, b""))], &behind(&[1, 4]));
-    listed(&[(6, &filled(b'\n', ends, b""))], &behind(&[2]));
-    listed(&[(6, &filled(b'\n', ends, b"\t"))], &behind(&[2, 4]));
-    listed(&[(6, &filled(b'\n', bytes, b""))], &behind(&[1, 2]));
-    listed(&[(6, &filled(b'\n', bytes, b"\t"))], &behind(&[1, 2, 4]));
+    listed(&[(6, &filled(b'x', MOST_BYTES, b"\n"))], &behind(&[1]));
+    listed(&[(6, &filled(b'x', MOST_BYTES, b""))], &behind(&[1, 4]));
+    listed(&[(6, &filled(b'\n', MOST_LINES, b""))], &behind(&[2]));
+    listed(&[(6, &filled(b'\n', MOST_LINES, b"\t"))], &behind(&[2, 4]));
+    listed(&[(6, &filled(b'\n', MOST_BYTES, b""))], &behind(&[1, 2]));
+    listed(&[(6, &filled(b'\n', MOST_BYTES, b"\t"))], &behind(&[1, 2, 4]));
     // Files before and behind it speak as they would alone.
     let wanted = [[1, 1, 9, 0], [2, 0, 2, 0], [3, 0, 4, 0], [4, 1, 9, 0], [4, 2, 6, 0]];
-    listed(&[(1, b"\nx\n"), (2, &filled(b'\n', ends, b"")), (3, b"\xEF\xBB\xBF"), (4, b"\n\"\n")], &wanted);
+    listed(&[(1, b"\nx\n"), (2, &filled(b'\n', MOST_LINES, b"")), (3, b"\xEF\xBB\xBF"), (4, b"\n\"\n")], &wanted);
 }
 
-/// At the limits nothing is hidden: 65,536 LF bytes, and a line behind them.
+/// At the limits nothing is hidden: as many LF bytes as there may be, and a line behind them.
 #[test]
 fn files_that_are_as_large_as_they_may_be() {
-    let good = [DATES, b"\n", &b"W,20240704,2\n".repeat(65_535)].concat();
+    let good = [DATES, b"\n", &b"W,20240704,2\n".repeat(MOST_LINES - 1)].concat();
+    let behind = MOST_LINES as i32 + 1;
     listed(&[(6, &good)], &[]);
-    listed(&[(6, &[&good[..], b"W,2024070,2"].concat())], &[[6, 0, 4, 0], [6, 65_537, 13, 2]]);
-    listed(&[(6, &[&good[..], b"\r"].concat())], &[[6, 0, 4, 0], [6, 65_537, 5, 0]]);
+    listed(&[(6, &[&good[..], b"W,2024070,2"].concat())], &[[6, 0, 4, 0], [6, behind, 13, 2]]);
+    listed(&[(6, &[&good[..], b"\r"].concat())], &[[6, 0, 4, 0], [6, behind, 5, 0]]);
     listed(&[(6, &[&good[..], b"\n"].concat())], &[[6, 0, 2, 0]]);
     let mut long = of_lines(&[DATES, b"W", b"W"]);
-    long.resize(16_777_216, b'x');
+    long.resize(MOST_BYTES, b'x');
     listed(&[(6, &long)], &[[6, 0, 4, 0], [6, 2, 10, 0], [6, 3, 10, 0], [6, 4, 10, 0]]);
     long.push(b'\n');
     listed(&[(6, &long)], &[[6, 0, 1, 0]]);
@@ -297,7 +298,7 @@ fn the_order_of_the_list() {
 
 /// A feed of five faults, two of one whole file: (2, 0, 2), (2, 0, 4), (6, 1, 8), (6, 3, 5) and (6, 4, 6).
 fn paged() -> Files {
-    let large = [&b"\n".repeat(65_537)[..], b"x"].concat();
+    let large = [&[b'\n'; MOST_LINES + 1][..], b"x"].concat();
     feed(&[(2, &large), (6, b"date,date\nW\n\t\n\"\n")])
 }
 

@@ -1,5 +1,6 @@
-//! E4: the model against answers and bytes written by hand from document 02 and readings A59 to A64.
+//! E4 and E9: the model against answers and bytes written by hand from document 02 and readings A59 to A64, A84 and A85.
 
+use cases::limits::{MOST_BYTES, MOST_LINES};
 use model::index::{check, write, Answer};
 
 const STOPS: &str = "stop_id,stop_name,stop_lat,stop_lon";
@@ -32,7 +33,7 @@ fn index(number: i32, file: &[u8], wanted: &[u8]) {
     for more in [0, 1, 5] {
         let mut buffer = vec![0xEE; wanted.len() + more];
         assert_eq!(numbers(write(number, file, &mut buffer)), [0, 0, 0, 0, wanted.len()]);
-        assert_eq!(buffer, [wanted, &vec![0xEE; more]].concat());
+        assert!(buffer == [wanted, &vec![0xEE; more]].concat(), "{}", buffer[..buffer.len().min(99)].escape_ascii());
     }
     assert_eq!(numbers(check(number, file, wanted)), [0, 0, 0, 0, wanted.len()]);
 }
@@ -43,7 +44,7 @@ fn not_written(number: i32, file: &[u8], lengths: &[usize], wanted: Numbers) {
     for &length in lengths {
         let mut buffer = vec![0xEE; length];
         assert_eq!(numbers(write(number, file, &mut buffer)), wanted, "{length} bytes");
-        assert_eq!(buffer, vec![0xEE; length]);
+        assert!(buffer == vec![0xEE; length], "{length} bytes");
     }
 }
 
@@ -147,7 +148,7 @@ fn no_such_file() {
         for file in [&b""[..], b"\t", &routes(&["A"]), &routes(&["A", "A"]), b"trip_id\n"] {
             refused(number, file, [42, 0, 0, 0, 0]);
         }
-        refused(number, &vec![b'\n'; 65_537], [42, 0, 0, 0, 0]);
+        refused(number, &vec![b'\n'; MOST_LINES + 1], [42, 0, 0, 0, 0]);
     }
 }
 
@@ -158,13 +159,13 @@ fn whole_files() {
         refused(number, b"", [4, file, 0, 0, 0]);
         refused(number, b"\xEF\xBB\xBF", [4, file, 0, 0, 0]);
         refused(number, b"\t", [4, file, 0, 0, 0]);
-        refused(number, &vec![b'\n'; 65_537], [2, file, 0, 0, 0]);
-        refused(number, &[vec![b'\n'; 65_537], b"x".to_vec()].concat(), [2, file, 0, 0, 0]);
+        refused(number, &vec![b'\n'; MOST_LINES + 1], [2, file, 0, 0, 0]);
+        refused(number, &[vec![b'\n'; MOST_LINES + 1], b"x".to_vec()].concat(), [2, file, 0, 0, 0]);
         // So many lines are allowed, but the first has no name.
-        refused(number, &vec![b'\n'; 65_536], [9, file, 1, 0, 0]);
+        refused(number, &vec![b'\n'; MOST_LINES], [9, file, 1, 0, 0]);
     }
     refused(2, &routes(&["A"])[..23], [4, 2, 0, 0, 0]);
-    let long = vec![b'\n'; 16_777_217];
+    let long = vec![b'\n'; MOST_BYTES + 1];
     assert_eq!(numbers(check(1, &long, b"")), [1, 1, 0, 0, 0]);
     assert_eq!(numbers(check(1, &long[1..], b"")), [2, 1, 0, 0, 0]);
 }
@@ -226,7 +227,7 @@ fn each_refusal_of_the_reader() {
     for mark in [b"TTY", b"ttx", b"XTT", b"\0TX"] {
         judged(&[mark, &b"\x01\0\x02\x02\0\x02\0\x01\0"[..]].concat(), 40);
     }
-    for version in [[0, 0], [2, 0], [0, 1], [1, 1], [255, 255]] {
+    for version in [[0, 0], [3, 0], [0, 1], [1, 1], [2, 1], [0, 2], [255, 255]] {
         judged(&[b"TTX", &version[..], b"\x02\x02\0\x02\0\x01\0"].concat(), 41);
     }
     for (file, count) in [(1, [2, 0]), (0, [2, 0]), (b'2', [2, 0]), (2, [1, 0]), (2, [3, 0]), (2, [0, 2]), (2, [2, 1])]
@@ -253,13 +254,13 @@ fn each_refusal_of_the_reader() {
 #[test]
 fn the_lowest_number() {
     // The mark, the version, the file number and the entries are wrong; then one after the other is right.
-    judged(b"TTx\x02\0\x03\x02\0\0\0\x01\0", 40);
-    judged(b"TTX\x02\0\x03\x02\0\0\0\x01\0", 41);
+    judged(b"TTx\x03\0\x03\x02\0\0\0\x01\0", 40);
+    judged(b"TTX\x03\0\x03\x02\0\0\0\x01\0", 41);
     judged(b"TTX\x01\0\x03\x02\0\0\0\x01\0", 42);
     judged(b"TTX\x01\0\x02\x02\0\0\0\x01\0", 43);
     // Too short for a version of its own, and with the wrong one.
-    judged(b"TTX\x02\0\x02\x02", 40);
-    judged(b"TTX\x02\0\x02\x02\0", 41);
+    judged(b"TTX\x03\0\x02\x02", 40);
+    judged(b"TTX\x03\0\x02\x02\0", 41);
     judged(b"TTX\x01\0\x02\x02\0", 42);
     judged(b"TTX\x01\0\x03\x02\0\x01\0\x02\0", 42);
     judged(b"TTX\x01\0\x02\x02\0\x01\0\x02\0\0\0", 42);
@@ -308,4 +309,109 @@ fn a_repeated_id() {
 #[test]
 fn a_buffer_too_short() {
     not_written(2, &routes(&["B", "A"]), &[0, 1, 4, 7, 8, 9, 10, 11], [46, 0, 0, 0, 0]);
+}
+
+/// A85: beside 65,535 records or fewer version 2 is 42, right in all else or cut to any length from 8 bytes on; no records too.
+#[test]
+fn version_2_beside_few_records() {
+    let right = b"TTX\x02\0\x02\x02\0\0\0\x02\0\0\0\x01\0\0\0";
+    for length in 0..=right.len() {
+        judged(&right[..length], if length < 8 { 40 } else { 42 });
+    }
+    // Laid out as version 1, with the records of version 1, and the other way round.
+    judged(b"TTX\x02\0\x02\x02\0\x02\0\x01\0", 42);
+    judged(b"TTX\x02\0\x02\x02\0\0\0\x02\0\x01\0", 42);
+    judged(b"TTX\x01\0\x02\x02\0\0\0\x02\0\0\0\x01\0\0\0", 42);
+    // With records that aren't there, in no order, and with a count that only version 2 can have.
+    judged(b"TTX\x02\0\x02\x02\0\0\0\0\0\0\0\x03\0\0\0", 42);
+    judged(b"TTX\x02\0\x02\x02\0\0\0\x01\0\0\0\x02\0\0\0", 42);
+    judged(b"TTX\x02\0\x02\x02\0\x01\0\x02\0\0\0\x01\0\0\0", 42);
+    assert_eq!(numbers(check(2, &routes(&[]), b"TTX\x02\0\x02\0\0\0\0")), [42, 0, 0, 0, 0]);
+}
+
+/// routes.txt with so many ids that fall.
+fn falling(count: usize) -> Vec<u8> {
+    let ids: Vec<String> = (0..count).map(|place| (3_000_000 - place).to_string()).collect();
+    routes(&ids.iter().map(String::as_str).collect::<Vec<_>>())
+}
+
+/// The index that lists so many records from the last to the first, behind these bytes, in so many bytes each.
+fn backward(head: &[u8], count: u32, width: usize) -> Vec<u8> {
+    let entries = (1..=count).rev().flat_map(|record| record.to_le_bytes()[..width].to_vec());
+    head.iter().copied().chain(entries).collect()
+}
+
+/// A85: 65,535 records have version 1 and nothing else.
+#[test]
+fn as_many_records_as_version_1_counts() {
+    let file = falling(65_535);
+    let right = backward(b"TTX\x01\0\x02\xFF\xFF", 65_535, 2);
+    assert_eq!(right.len(), 131_078);
+    index(2, &file, &right);
+    not_written(2, &file, &[131_077], [46, 0, 0, 0, 0]);
+    let wide = backward(b"TTX\x02\0\x02\xFF\xFF\0\0", 65_535, 4);
+    assert_eq!(numbers(check(2, &file, &wide)), [42, 0, 0, 0, 0]);
+}
+
+/// A84 and A85: 65,536 records have version 2 and nothing else; 46 follows its length.
+#[test]
+fn more_records_than_version_1_counts() {
+    let file = falling(65_536);
+    let right = backward(b"TTX\x02\0\x02\0\0\x01\0", 65_536, 4);
+    assert_eq!(right[..18], *b"TTX\x02\0\x02\0\0\x01\0\0\0\x01\0\xFF\xFF\0\0");
+    assert_eq!(right.len(), 262_154);
+    index(2, &file, &right);
+    not_written(2, &file, &[131_080, 262_153], [46, 0, 0, 0, 0]);
+    // Wrong in its mark, version, file and count; then a record that is right in its low half only, or isn't there, or stands twice.
+    let head: [(usize, &[u8], usize); 10] = [
+        (2, b"Y", 40),
+        (3, &[0], 41),
+        (3, &[3], 41),
+        (4, &[1], 41),
+        (3, &[1], 42),
+        (5, &[1], 42),
+        (6, &[1], 42),
+        (8, &[0], 42),
+        (8, &[2], 42),
+        (9, &[1], 42),
+    ];
+    let records: [(usize, &[u8], usize); 4] =
+        [(12, &[0], 43), (16, &[1], 43), (17, &[128], 43), (10, &[0xFF, 0xFF, 0], 44)];
+    for (place, bytes, wanted) in head.into_iter().chain(records) {
+        let mut index = right.clone();
+        index[place..place + bytes.len()].copy_from_slice(bytes);
+        assert_eq!(numbers(check(2, &file, &index)), [wanted, 0, 0, 0, 0], "{bytes:?} at {place}");
+    }
+}
+
+/// Version 2 of another length, and version 1 beside so many: with the count's low half, and with as many as it counts.
+#[test]
+fn other_lengths_beside_many_records() {
+    let file = falling(65_536);
+    let right = backward(b"TTX\x02\0\x02\0\0\x01\0", 65_536, 4);
+    for length in [8, 9, 10, 14, 262_150, 262_153] {
+        assert_eq!(numbers(check(2, &file, &right[..length])), [42, 0, 0, 0, 0], "{length} bytes");
+    }
+    for (head, count) in [(b"TTX\x01\0\x02\0\0", 65_536), (b"TTX\x01\0\x02\xFF\xFF", 65_535)] {
+        assert_eq!(numbers(check(2, &file, &backward(head, count, 2))), [42, 0, 0, 0, 0]);
+    }
+}
+
+/// Rules 1 and 2 at their limits, and a line or a byte over them.
+#[test]
+fn as_large_a_file_as_there_may_be() {
+    let mut file = falling(MOST_LINES - 1);
+    let right = backward(b"TTX\x02\0\x02\xFF\xFF\x0F\0", 1_048_575, 4);
+    let mut buffer = vec![0xEE; right.len()];
+    assert_eq!(numbers(write(2, &file, &mut buffer)), [0, 0, 0, 0, 4_194_310]);
+    assert!(buffer == right);
+    assert_eq!(numbers(check(2, &file, &right)), [0, 0, 0, 0, 4_194_310]);
+    file.extend(b"3,0\n");
+    refused(2, &file, [2, 2, 0, 0, 0]);
+    let mut file = b"route_id,route_type,note\nR,3,".to_vec();
+    file.resize(MOST_BYTES - 1, b'x');
+    file.push(b'\n');
+    assert_eq!(numbers(check(2, &file, b"TTX\x01\0\x02\x01\0\x01\0")), [0, 0, 0, 0, 10]);
+    file.insert(0, b'x');
+    refused(2, &file, [1, 2, 0, 0, 0]);
 }

@@ -82,7 +82,7 @@ fn ids_are_as_long_as_said() {
     let (files, tables) = filled("prefix");
     for file in 0..4 {
         let ids = tables[file].iter().map(|record| &files[file][record[0] as usize..record[1] as usize]);
-        assert!(ids.into_iter().all(|id| id.len() == 64 && id[..60] == [b'0'; 60]), "file {}", file + 1);
+        assert!(ids.into_iter().all(|id| id.len() == 52 && id[..48] == [b'0'; 48]), "file {}", file + 1);
     }
     let [_, _, _, trips, calls, _] = filled("long-ids").1;
     assert!(trips.iter().all(|trip| trip[1] - trip[0] == 64));
@@ -96,14 +96,14 @@ fn characters_are_as_wide_as_said() {
     let (files, tables) = filled("three-bytes");
     for file in 0..4 {
         let ids = tables[file].iter().map(|record| &files[file][record[0] as usize..record[1] as usize]);
-        assert!(ids.into_iter().all(|id| widths(id) == [3; 21]), "file {}", file + 1);
+        assert!(ids.into_iter().all(|id| widths(id) == [3; 17]), "file {}", file + 1);
     }
     let (files, tables) = filled("mixed-bytes");
     assert_eq!(tables, filled("plain").1);
     let notes =
         files[4].split(|&byte| byte == b'\n').skip(1).filter_map(|line| line.rsplit(|&byte| byte == b',').next());
     let notes: Vec<Vec<usize>> = notes.filter(|note| !note.is_empty()).map(widths).collect();
-    assert_eq!(notes, vec![[1, 2, 3, 4].repeat(16); 63]);
+    assert_eq!(notes, vec![[1, 2, 3, 4].repeat(9); 63]);
 }
 
 #[test]

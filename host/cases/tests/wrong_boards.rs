@@ -1,5 +1,5 @@
-//! Likely wrong readings of E13: vectors, edge cases and generated feeds each tell every one of them from the right one. That any number but 0
-//! asks for the profile is no reading of these: here it is a word.
+//! Likely wrong readings of E13: edge cases and generated feeds each tell every one of them from the right one, vectors all but one. That any
+//! number but 0 asks for the profile is no reading of these: here it is a word.
 
 use cases::readings::Missed;
 use cases::{boards, by_model, generate, vectors, Case, Outcome};
@@ -289,28 +289,29 @@ fn by(reading: &Reading, case: &Case, read: &Read) -> Outcome {
     }
 }
 
-/// Fails unless the right reading gives the model's outcome on every case, and each wrong one another on some.
-fn told_apart(cases: impl Iterator<Item = Case>) {
+/// Fails unless the right reading gives the model's outcome on every case, and each wrong one but these another on some.
+fn told_apart(cases: impl Iterator<Item = Case>, but: &[&str]) {
     let mut missed = Missed::new(RIGHT, &[&UNTIMED[..], &ARRANGED, &LATE, &LISTED, &ANSWERED].concat());
     for case in cases {
         let Ok(feed) = read(&case.files, case.tables.each_ref().map(Vec::len)) else { continue };
         let read = Read::new(&case, &feed);
         missed.try_case(&case.name, &by_model(&case), |reading| by(reading, &case, &read));
     }
-    missed.are(&[]);
+    missed.are(but);
 }
 
+/// What the customer's feeds lack: a late time beside a missing one.
 #[test]
 fn by_the_vectors() {
-    told_apart(vectors::customers().into_iter().map(|(case, _)| case));
+    told_apart(vectors::customers().into_iter().map(|(case, _)| case), &["62 only at timed lines"]);
 }
 
 #[test]
 fn by_the_edge_cases() {
-    told_apart(boards::cases().into_iter());
+    told_apart(boards::cases().into_iter(), &[]);
 }
 
 #[test]
 fn by_generated_feeds() {
-    told_apart((0..SEEDS).map(generate::case));
+    told_apart((0..SEEDS).map(generate::case), &[]);
 }

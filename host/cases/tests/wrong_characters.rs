@@ -202,18 +202,19 @@ fn told_apart(cases: impl Iterator<Item = Case>, but: &[&str]) {
     missed.are(but);
 }
 
-/// What the customer's feeds lack: several ill-formed sequences, a rule from 5 to 9 broken beside 14, and one broken on a line above it.
+/// What the customer's feeds lack: several ill-formed sequences, U+FFFF, a rule 5 or 6 broken beside 14, and a file without its end with 14.
 #[test]
 fn by_the_vectors() {
     let but = [
         "14 after 6",
-        "14 after 7",
+        "14 before 4",
         "14 before 5",
-        "14 before all lines of its file",
         "C0 80 for U+0000",
-        "F4 90 and above",
+        "F5 to F7 begin four bytes",
+        "U+FFFF is ill-formed",
         "a cut character at a line's end",
         "a second mark is ill-formed",
+        "overlong forms of two bytes",
         "surrogates in pairs",
         "the CR of an ending goes on",
     ];

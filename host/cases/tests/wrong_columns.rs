@@ -288,18 +288,23 @@ fn told_apart(cases: impl Iterator<Item = Case>, but: &[&str]) {
     missed.are(but);
 }
 
-/// What the customer's feeds lack: left of the value that is named one that only seems to break the rule; names right of an unknown one that
-/// stands twice.
+/// What the customer's feeds lack: left of the value that is named one that only seems to break the rule; a long direction_id; names right of an
+/// unknown one that stands twice, and a name that stands three times.
 #[test]
 fn by_the_vectors() {
     let but = [
+        "11 by raw bytes",
+        "11 from 64 bytes on",
         "11 in every known column",
         "11 in unread columns of ids",
+        "11 not in direction_id",
         "12 by empty times",
         "13 by another file's columns",
+        "13 by raw bytes",
         "8 by another file's names",
         "8 by unknown names",
         "8 in any case",
+        "8 the last standing",
     ];
     told_apart(vectors::customers().into_iter().map(|(case, _)| case), &but);
 }

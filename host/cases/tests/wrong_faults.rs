@@ -1,7 +1,8 @@
 //! Likely wrong readings of issue 19: edge cases tell every one of them from the right one, generated calls all but one.
 
 use cases::edges::MARK;
-use cases::listing::edges::{at_the_limits, cases};
+use cases::limits::{MOST_BYTES, MOST_LINES};
+use cases::listing::edges::{at_the_limits, cases, AT_THE_LIMITS};
 use cases::listing::generate::case;
 use cases::listing::{by_model, Case, Outcome, NUMBERS};
 use cases::readings::Missed;
@@ -294,11 +295,10 @@ fn unsigned(fault: &Fault, start: [i32; 3]) -> bool {
     [fault[0], fault[1], fault[2]].map(|number| number as u32) > start.map(|number| number as u32)
 }
 
-/// Which of rules 1 to 4 a whole file breaks. Without a table it has none for its lines.
-fn broken_as_a_whole(reading: &Reading, file: usize, files: &Files) -> Vec<usize> {
-    let ends = line_ends(&files[file]);
+/// Which of rules 1 to 4 a whole file breaks, which has so many LF bytes. Without a table it has none for its lines.
+fn broken_as_a_whole(reading: &Reading, file: usize, files: &Files, ends: usize) -> Vec<usize> {
     let unended = !files[file].ends_with(b"\n") && !(reading.absent)(file, files);
-    let all = [files[file].len() > 16_777_216, ends > 65_536, ends > 0, unended];
+    let all = [files[file].len() > MOST_BYTES, ends > MOST_LINES, ends > 0, unended];
     (1..=4).filter(|number| all[number - 1]).collect()
 }
 
@@ -379,9 +379,9 @@ fn of_lines(reading: &Reading, file: usize, bytes: &[u8]) -> Vec<Fault> {
     all.flat_map(|(broken, line)| broken.into_iter().map(move |one| fault(line, one))).collect()
 }
 
-/// All faults of a feed by a reading.
-fn faults(reading: &Reading, files: &Files) -> Vec<Fault> {
-    let whole: [Vec<usize>; FILES] = std::array::from_fn(|file| broken_as_a_whole(reading, file, files));
+/// All faults by a reading of a feed whose files have so many LF bytes.
+fn faults(reading: &Reading, files: &Files, ends: [usize; FILES]) -> Vec<Fault> {
+    let whole: [Vec<usize>; FILES] = std::array::from_fn(|file| broken_as_a_whole(reading, file, files, ends[file]));
     // What isn't listed may hide all the same.
     let hides = |file: usize, by: &[usize]| whole[file].iter().any(|number| by.contains(number));
     let none = (0..FILES).any(|file| hides(file, reading.hide_all));
@@ -402,9 +402,9 @@ fn faults(reading: &Reading, files: &Files) -> Vec<Fault> {
     faults
 }
 
-/// The outcome of a call by a reading.
-fn by(reading: &Reading, case: &Case) -> Outcome {
-    let all = faults(reading, &case.files);
+/// The outcome by a reading of a call whose files have so many LF bytes.
+fn by(reading: &Reading, case: &Case, ends: [usize; FILES]) -> Outcome {
+    let all = faults(reading, &case.files, ends);
     let behind: Vec<Fault> = all.iter().filter(|fault| (reading.behind)(fault, case.start)).copied().collect();
     let mut list = case.list.clone();
     let fit = (reading.room)(list.len()).min(behind.len());
@@ -420,7 +420,8 @@ fn by(reading: &Reading, case: &Case) -> Outcome {
 fn told_apart(cases: impl Iterator<Item = Case>, wrong: &[&[(&'static str, Reading)]], but: &[&str]) {
     let mut missed = Missed::new(RIGHT, &wrong.concat());
     for case in cases {
-        missed.try_case(&case.name, &by_model(&case), |reading| by(reading, &case));
+        let ends = case.files.each_ref().map(|file| line_ends(file));
+        missed.try_case(&case.name, &by_model(&case), |reading| by(reading, &case, ends));
     }
     missed.are(but);
 }
@@ -432,7 +433,7 @@ fn by_the_edge_cases() {
 
 #[test]
 fn by_large_files() {
-    told_apart(at_the_limits(5).into_iter(), &[&LIMITS], &[]);
+    told_apart((0..AT_THE_LIMITS).map(|number| at_the_limits(5, number)), &[&LIMITS], &[]);
 }
 
 #[test]

@@ -1,6 +1,8 @@
-//! Likely wrong readings of E4: edge cases tell every one of them from the right one, generated calls all but two, vectors most.
+//! Likely wrong readings of E4 and of E9's versions: edge cases and files of many records tell every one of them from the right one, generated
+//! calls and vectors most.
 
-use cases::index::{by_model, edges, generate, Asked, Case, Outcome};
+use cases::index::{by_model, edges, generate, versions, Asked, Case, Outcome};
+use cases::limits::{MOST_LINES, MOST_OF_VERSION_1};
 use cases::readings::Missed;
 use cases::vectors;
 use model::columns::COLUMNS;
@@ -23,6 +25,18 @@ struct Id {
 /// The ids of a file by record, or its refusal.
 type Read = Result<Vec<Id>, Answer>;
 
+/// How a version is laid out: its number, and how many bytes stand before the records, are the count and are a record.
+#[derive(Clone, Copy, PartialEq)]
+struct Layout {
+    version: isize,
+    head: usize,
+    count: usize,
+    record: usize,
+}
+
+const ONE: Layout = Layout { version: 1, head: 8, count: 2, record: 2 };
+const TWO: Layout = Layout { version: 2, head: 10, count: 4, record: 4 };
+
 /// How a call is read.
 #[derive(Clone, Copy)]
 struct Reading {
@@ -37,6 +51,10 @@ struct Reading {
     broken: fn(usize, &Call) -> bool,
     before: fn(&Id, &Id) -> bool,
     sorts: bool,
+    /// The versions, from how many records on the second is used, and which bits of its record numbers count.
+    layouts: [Layout; 2],
+    wide_from: usize,
+    record_bits: isize,
     /// The high byte first: in the version, in the count, in record numbers.
     high_first: [bool; 3],
     /// What is added to the count, and to each record number.
@@ -69,6 +87,9 @@ const RIGHT: Reading = Reading {
     broken,
     before: |one, other| one.value < other.value,
     sorts: true,
+    layouts: [ONE, TWO],
+    wide_from: MOST_OF_VERSION_1 + 1,
+    record_bits: 0xFFFF_FFFF,
     high_first: [false; 3],
     more: [0; 2],
     own: |answer| answer,
@@ -130,8 +151,8 @@ const BYTES: [(&str, Reading); 16] = [
     ("any mark", rule(|number, call| spared(number, call, 40, |call| call.begins(8, b"")))),
     ("any version", rule(|number, call| spared(number, call, 41, |_| true))),
     ("version 0", rule(|number, call| spared(number, call, 41, |call| call.version() < 1))),
-    ("later versions", rule(|number, call| spared(number, call, 41, |call| call.version() > 1))),
-    ("the version's low byte", rule(|number, call| spared(number, call, 41, |call| call.byte(3) == 1))),
+    ("later versions", rule(|number, call| spared(number, call, 41, |call| call.version() > 2))),
+    ("the version's low byte", rule(|number, call| spared(number, call, 41, |call| matches!(call.byte(3), 1 | 2)))),
 ];
 
 /// Readings of 42 to 44.
@@ -208,7 +229,7 @@ const ANSWERS: [(&str, Reading); 23] = [
     ("no length", Reading { length: |_, _| 0, ..RIGHT }),
     ("the reader tells no length", Reading { length: |length, call| length * usize::from(call.writes()), ..RIGHT }),
     ("the writer tells no length", Reading { length: |length, call| length * usize::from(!call.writes()), ..RIGHT }),
-    ("the count for the length", Reading { length: |length, _| (length - 8) / 2, ..RIGHT }),
+    ("the count for the length", Reading { length: |_, call| call.ids.len(), ..RIGHT }),
     ("the buffer's length", Reading { length: |_, call| call.case.lent.len(), ..RIGHT }),
     ("any repeated id", rule(|number, call| spared(number, call, 45, |_| true))),
     ("45 by lines in a row", rule(|number, call| spared(number, call, 45, apart))),
@@ -225,7 +246,58 @@ const ANSWERS: [(&str, Reading); 23] = [
     ("the rest cleared", Reading { rest: |rest| rest.fill(0), ..RIGHT }),
 ];
 
+const fn laid_out(two: Layout) -> Reading {
+    Reading { layouts: [ONE, two], ..RIGHT }
+}
+
+const fn wide_from(wide_from: usize) -> Reading {
+    Reading { wide_from, ..RIGHT }
+}
+
+/// Readings of E9's two versions.
+const VERSIONS: [(&str, Reading); 19] = [
+    ("version 2 from 65,535 records on", wide_from(MOST_OF_VERSION_1)),
+    ("version 1 up to 65,536 records", wide_from(MOST_OF_VERSION_1 + 2)),
+    ("version 1 always", wide_from(usize::MAX)),
+    ("version 2 always", wide_from(0)),
+    ("a 16-bit count in version 2", laid_out(Layout { count: 2, ..TWO })),
+    ("8 bytes before 32-bit records", laid_out(Layout { head: 8, count: 2, ..TWO })),
+    ("16-bit records behind 10 bytes", laid_out(Layout { record: 2, ..TWO })),
+    ("version 2 laid out as version 1", laid_out(Layout { version: 2, ..ONE })),
+    ("41 to version 2", rule(|number, call| barred(number, call, 41, |call| call.version() == 2))),
+    ("version 2 beside few records", rule(|number, call| spared(number, call, 42, |call| call.fits(TWO)))),
+    ("version 1 beside many records", rule(|number, call| spared(number, call, 42, |call| call.fits(ONE)))),
+    ("42 by the count's low half", rule(|number, call| spared(number, call, 42, low_count))),
+    ("the low halves of records", Reading { record_bits: 0xFFFF, ..RIGHT }),
+    ("40 to version 2 of 8 or 9 bytes", rule(|number, call| barred(number, call, 40, cut_short))),
+    ("43 to version 2 of 8 or 9 bytes", Reading { refusal: later_if_cut_short, ..RIGHT }),
+    ("46 by version 1's length", rule(|number, call| spared(number, call, 46, |call| call.room_for(ONE)))),
+    ("46 by version 2's length", rule(|number, call| barred(number, call, 46, |call| !call.room_for(TWO)))),
+    ("44 up to record 65,535", rule(|number, call| spared(number, call, 44, late_records))),
+    ("44 up to entry 65,535", rule(|number, call| spared(number, call, 44, late_entries))),
+];
+
 impl Call<'_> {
+    /// The version for so many records.
+    fn chosen(&self) -> Layout {
+        self.reading.layouts[usize::from(self.ids.len() >= self.reading.wide_from)]
+    }
+
+    /// The version that the index names, or the one for so many records where it names none.
+    fn named(&self) -> Layout {
+        let named = self.reading.layouts.into_iter().find(|layout| layout.version == self.version());
+        named.unwrap_or(self.chosen())
+    }
+
+    /// Has the index this version, and file, count and length that go with it?
+    fn fits(&self, layout: Layout) -> bool {
+        self.version() == layout.version && !wrong_file(self) && !wrong_count(self) && self.over_by(layout) == 0
+    }
+
+    fn room_for(&self, layout: Layout) -> bool {
+        self.over_by(layout) >= 0
+    }
+
     fn writes(&self) -> bool {
         self.case.asked == Asked::Write
     }
@@ -235,10 +307,11 @@ impl Call<'_> {
         self.case.lent.get(place).map_or(0, |&byte| byte.into())
     }
 
-    /// The number of two bytes, of the version (0), the count (1) or a record (2).
-    fn number_at(&self, place: usize, which: usize) -> isize {
-        let [low, high] = if self.reading.high_first[which] { [place + 1, place] } else { [place, place + 1] };
-        (self.byte(low) + 256 * self.byte(high)) as isize
+    /// The number of so many bytes, of the version (0), the count (1) or a record (2).
+    fn number_at(&self, place: usize, width: usize, which: usize) -> isize {
+        let high_first = self.reading.high_first[which];
+        let byte = |from_high: usize| if high_first { place + from_high } else { place + width - 1 - from_high };
+        (0..width).fold(0, |number, from_high| 256 * number + self.byte(byte(from_high)) as isize)
     }
 
     fn begins(&self, length: usize, mark: &[u8]) -> bool {
@@ -246,7 +319,7 @@ impl Call<'_> {
     }
 
     fn version(&self) -> isize {
-        self.number_at(3, 0)
+        self.number_at(3, 2, 0)
     }
 
     /// The last record.
@@ -254,16 +327,27 @@ impl Call<'_> {
         self.ids.len() as isize
     }
 
+    /// How many bytes more than a version's need are lent.
+    fn over_by(&self, layout: Layout) -> isize {
+        self.case.lent.len() as isize - self.need(layout)
+    }
+
+    /// How many bytes a version needs.
+    fn need(&self, layout: Layout) -> isize {
+        layout.head as isize + layout.record as isize * self.last()
+    }
+
     /// How many bytes more than the need are lent.
     fn over(&self) -> isize {
-        self.case.lent.len() as isize - 8 - 2 * self.last()
+        self.over_by(self.chosen())
     }
 
     /// The records that are listed, as many as there are at most.
     fn records(&self) -> Vec<isize> {
-        let whole = self.case.lent.len().saturating_sub(8) / 2;
-        let record = |entry| self.number_at(8 + 2 * entry, 2) - self.reading.more[1];
-        (0..whole.min(self.ids.len())).map(record).collect()
+        let Layout { head, record: width, .. } = self.named();
+        let whole = self.case.lent.len().saturating_sub(head) / width;
+        let number = |entry| self.number_at(head + width * entry, width, 2) & self.reading.record_bits;
+        (0..whole.min(self.ids.len())).map(|entry| number(entry) - self.reading.more[1]).collect()
     }
 
     fn within(&self, range: std::ops::RangeInclusive<isize>) -> bool {
@@ -291,8 +375,9 @@ impl Call<'_> {
     /// All records in the order of their ids.
     fn sorted(&self) -> Vec<isize> {
         let mut records: Vec<isize> = (1..=self.last()).collect();
-        let before = |pair: [&isize; 2]| !self.falls_of(&pair.map(|record| *record)).contains(&0);
-        records.sort_by(|one, other| match (before([one, other]), before([other, one])) {
+        let id = |record: &isize| &self.ids[*record as usize - 1];
+        let before = |one: &isize, other: &isize| (self.reading.before)(id(one), id(other));
+        records.sort_by(|one, other| match (before(one, other), before(other, one)) {
             (true, _) => Ordering::Less,
             (_, true) => Ordering::Greater,
             _ => Ordering::Equal,
@@ -302,18 +387,19 @@ impl Call<'_> {
 
     /// What the writer writes.
     fn bytes(&self) -> Vec<u8> {
-        let two = |number: isize, which: usize| {
-            let low_first = (number as u16).to_le_bytes();
+        let number = |number: isize, width: usize, which: usize| {
+            let mut bytes = number.to_le_bytes()[..width].to_vec();
             if self.reading.high_first[which] {
-                [low_first[1], low_first[0]]
-            } else {
-                low_first
+                bytes.reverse();
             }
+            bytes
         };
         let records = if self.reading.sorts { self.sorted() } else { (1..=self.last()).collect() };
-        let [count, record] = self.reading.more;
-        let mut bytes = [&b"TTX"[..], &two(1, 0), &[self.number as u8], &two(self.last() + count, 1)].concat();
-        records.into_iter().for_each(|listed| bytes.extend(two(listed + record, 2)));
+        let ([more, shift], layout) = (self.reading.more, self.chosen());
+        let mut bytes = [&b"TTX"[..], &number(layout.version, 2, 0), &[self.number as u8]].concat();
+        bytes.extend(number(self.last() + more, layout.count, 1));
+        bytes.resize(layout.head, 0);
+        records.into_iter().for_each(|listed| bytes.extend(number(listed + shift, layout.record, 2)));
         bytes
     }
 }
@@ -321,8 +407,8 @@ impl Call<'_> {
 fn broken(number: usize, call: &Call) -> bool {
     match number {
         40 => !call.begins(8, b"TTX"),
-        41 => call.version() != 1,
-        42 => wrong_file(call) || wrong_count(call) || call.over() != 0,
+        41 => call.reading.layouts.iter().all(|layout| layout.version != call.version()),
+        42 => call.named() != call.chosen() || wrong_file(call) || wrong_count(call) || call.over() != 0,
         43 => !call.within(1..=call.last()),
         44 => !call.falls().is_empty(),
         45 => !call.falls_of(&call.sorted()).is_empty(),
@@ -344,8 +430,39 @@ fn wrong_file(call: &Call) -> bool {
     call.byte(5) as i32 != call.number
 }
 
+/// As many bits of the count as there are in the index are looked at.
 fn wrong_count(call: &Call) -> bool {
-    call.number_at(6, 1) != call.last() + call.reading.more[0]
+    let width = call.named().count;
+    let other_bits = call.number_at(6, width, 1) ^ (call.last() + call.reading.more[0]);
+    other_bits & ((1 << (8 * width)) - 1) != 0
+}
+
+/// Is only the count wrong, and right in its low half?
+fn low_count(call: &Call) -> bool {
+    let low_half = call.number_at(6, 4, 1) & 0xFFFF == call.last() & 0xFFFF;
+    call.named() == call.chosen() && !wrong_file(call) && low_half && call.over() == 0
+}
+
+fn cut_short(call: &Call) -> bool {
+    call.version() == TWO.version && call.case.lent.len() < TWO.head
+}
+
+fn later_if_cut_short(number: usize, call: &Call) -> Answer {
+    let number =
+        if number == 42 && !call.writes() && (RIGHT.served)(call.number) && cut_short(call) { 43 } else { number };
+    (RIGHT.refusal)(number, call)
+}
+
+/// Are all pairs that don't rise of a record that version 1 can't name?
+fn late_records(call: &Call) -> bool {
+    let records = call.records();
+    let late = |place: &usize| records[*place..place + 2].iter().any(|&record| record > MOST_OF_VERSION_1 as isize);
+    call.falls().iter().all(late)
+}
+
+/// Do all pairs that don't rise stand behind as many entries as version 1 has?
+fn late_entries(call: &Call) -> bool {
+    call.falls().iter().all(|&place| place + 1 >= MOST_OF_VERSION_1)
 }
 
 fn of_any_file(call: &Call) -> bool {
@@ -353,7 +470,8 @@ fn of_any_file(call: &Call) -> bool {
 }
 
 fn of_its_own_length(call: &Call) -> bool {
-    !wrong_file(call) && call.case.lent.len() as isize == 8 + 2 * call.number_at(6, 1)
+    let Layout { head, count, record, .. } = call.named();
+    !wrong_file(call) && call.case.lent.len() as isize == head as isize + record as isize * call.number_at(6, count, 1)
 }
 
 fn off_by(call: &Call, bytes: std::ops::RangeInclusive<isize>) -> bool {
@@ -429,7 +547,7 @@ fn with_file(number: usize, call: &Call) -> Answer {
 }
 
 fn with_need(number: usize, call: &Call) -> Answer {
-    let length = if number == 46 { 8 + 2 * call.ids.len() } else { 0 };
+    let length = if number == 46 { call.need(call.chosen()) as usize } else { 0 };
     Answer { number, length, ..Answer::default() }
 }
 
@@ -499,8 +617,8 @@ fn four_first(number: usize, file: &[u8]) -> Read {
 
 /// A file up to the last line that rule 2 allows.
 fn first_lines(number: usize, file: &[u8]) -> Read {
-    let ends = (0..file.len()).filter(|&place| file[place] == b'\n').nth(65_535);
-    right_ids(number, &file[..ends.filter(|_| line_ends(file) > 65_536).map_or(file.len(), |end| end + 1)])
+    let ends = (0..file.len()).filter(|&place| file[place] == b'\n').nth(MOST_LINES - 1);
+    right_ids(number, &file[..ends.filter(|_| line_ends(file) > MOST_LINES).map_or(file.len(), |end| end + 1)])
 }
 
 fn first_fields(number: usize, file: &[u8]) -> Read {
@@ -546,41 +664,69 @@ fn by(reading: &Reading, case: &Case, rightly: &Read) -> Outcome {
     Outcome { answer: Answer { length: (reading.length)(length, &call), ..Answer::default() }, lent }
 }
 
-/// Fails unless the right reading gives the model's outcome of every call, and each wrong one but these another of some.
-fn told_apart(cases: impl Iterator<Item = Case>, but: &[&str]) {
-    let wrong = [&ORDERS[..], &BYTES, &ENTRIES, &TURNS, &FILES, &ANSWERS].concat();
-    let mut missed = Missed::new(RIGHT, &wrong);
-    for case in cases {
-        let rightly = read_for(case.number, &case.file, right_ids);
-        missed.try_case(&case.name, &by_model(&case), |reading| by(reading, &case, &rightly));
+/// A call with what the model makes of it.
+fn with_outcome(case: Case) -> (Case, Outcome) {
+    let outcome = by_model(&case);
+    (case, outcome)
+}
+
+/// Fails unless the right reading gives the outcome wanted of every call, and each of these wrong ones but those named another of some.
+fn told_apart(cases: impl Iterator<Item = (Case, Outcome)>, wrong: &[&[(&'static str, Reading)]], but: &[&str]) {
+    let mut missed = Missed::new(RIGHT, &wrong.concat());
+    let mut read = (0, Vec::new(), Ok(Vec::new()));
+    for (case, wanted) in cases {
+        // Several calls in a row may be about one file.
+        if (read.0, &read.1) != (case.number, &case.file) {
+            read = (case.number, case.file.clone(), read_for(case.number, &case.file, right_ids));
+        }
+        let rightly = &read.2;
+        missed.try_case(&case.name, &wanted, |reading| by(reading, &case, rightly));
     }
     missed.are(but);
 }
 
-/// What the customer's calls lack: an index that is wrong in two ways of 42 to 44, or of fewer records with their own count; ids that differ
-/// in the last of 64 bytes, behind a NUL, or in characters above U+FFFF; a file of too many lines.
+const ALL: [&[(&str, Reading)]; 7] = [&ORDERS, &BYTES, &ENTRIES, &TURNS, &FILES, &ANSWERS, &VERSIONS];
+
+/// Readings of the versions that few records don't tell apart.
+const OF_MANY: [&str; 13] = [
+    "16-bit records behind 10 bytes",
+    "42 by the count's low half",
+    "44 up to entry 65,535",
+    "44 up to record 65,535",
+    "46 by version 1's length",
+    "8 bytes before 32-bit records",
+    "a 16-bit count in version 2",
+    "the low halves of records",
+    "version 1 always",
+    "version 1 beside many records",
+    "version 1 up to 65,536 records",
+    "version 2 from 65,535 records on",
+    "version 2 laid out as version 1",
+];
+
+/// What the customer's calls lack: files of many records, and of too many lines; an index that is wrong in 41 and 42; ids that differ in the
+/// last of 64 bytes, or behind a NUL.
 #[test]
 fn by_the_vectors() {
-    let but = [
-        "4 before 2",
-        "43 before 42",
-        "a mark in small letters",
-        "any number of lines",
-        "by 63 bytes",
-        "by UTF-16",
-        "its own count",
-        "up to a NUL",
-    ];
-    told_apart(vectors::indexes().into_iter().map(|(case, _)| case), &but);
+    let of_few =
+        ["4 before 2", "42 before 41", "a mark in small letters", "any number of lines", "by 63 bytes", "up to a NUL"];
+    let but = [&of_few[..], &OF_MANY].concat();
+    told_apart(vectors::indexes().into_iter(), &ALL, &but);
 }
 
 #[test]
 fn by_the_edge_cases() {
-    told_apart(edges::cases().into_iter(), &[]);
+    told_apart(edges::cases().into_iter().map(with_outcome), &ALL, &OF_MANY);
+}
+
+#[test]
+fn by_files_of_many_records() {
+    told_apart((0..versions::CALLS).map(versions::beside_many), &[&VERSIONS], &[]);
 }
 
 /// Files of too many lines are left to the edge cases.
 #[test]
 fn by_generated_calls() {
-    told_apart((0..SEEDS).map(generate::case), &["4 before 2", "any number of lines"]);
+    let but = [&["4 before 2", "any number of lines"], &OF_MANY[..]].concat();
+    told_apart((0..SEEDS).map(generate::case).map(with_outcome), &ALL, &but);
 }

@@ -1,4 +1,4 @@
-//! Likely wrong readings of E1: vectors, edge cases and generated feeds each tell every one of them from the right one.
+//! Likely wrong readings of E1: edge cases and generated feeds each tell every one of them from the right one, vectors all but two.
 
 use cases::edges::BASE;
 use cases::readings::Missed;
@@ -224,26 +224,28 @@ fn by(reading: &Reading, case: &Case) -> Outcome {
     outcome
 }
 
-/// Fails unless the right reading gives the model's outcome on every case, and each wrong one another on some.
-fn told_apart(cases: impl Iterator<Item = Case>) {
+/// Fails unless the right reading gives the model's outcome on every case, and each wrong one but these another on some.
+fn told_apart(cases: impl Iterator<Item = Case>, but: &[&str]) {
     let mut missed = Missed::new(RIGHT, &WRONG);
     for case in cases.filter(|case| case.files.iter().all(|file| file.len() < 100_000)) {
         missed.try_case(&case.name, &by_model(&case), |reading| by(reading, &case));
     }
-    missed.are(&[]);
+    missed.are(but);
 }
 
+/// What the customer's feeds lack: file 6 beside file 4 or 5, neither of which can be read.
 #[test]
 fn by_the_vectors() {
-    told_apart(vectors::customers().into_iter().map(|(case, _)| case));
+    let but = ["file 6 read before file 5", "file 6 read behind file 3"];
+    told_apart(vectors::customers().into_iter().map(|(case, _)| case), &but);
 }
 
 #[test]
 fn by_the_edge_cases() {
-    told_apart(edges::of_services().into_iter());
+    told_apart(edges::of_services().into_iter(), &[]);
 }
 
 #[test]
 fn by_generated_feeds() {
-    told_apart((0..SEEDS).map(generate::case));
+    told_apart((0..SEEDS).map(generate::case), &[]);
 }

@@ -2,7 +2,7 @@
 
 use crate::columns::{Column, COLUMNS};
 use crate::fields::{fields, line_ends, lines, Field, Line};
-use crate::reading::{leftmost, twice, Feed, Row};
+use crate::reading::{leftmost, twice, Feed, Row, MOST_BYTES, MOST_LINES};
 use crate::records::{First, KEYS};
 use crate::rules::Finding;
 use crate::trips::{by_trip, first_call, last_call, leaves_after, repeats, Call};
@@ -228,8 +228,8 @@ fn ends(feed: &Feed, own: Row) -> Facts {
 pub fn of_refusal(files: &Files, number: usize, file: usize, line: usize) -> Facts {
     let bytes = &files[file - 1];
     match number {
-        1 => return vec![("limit", count(16_777_216))],
-        2 => return vec![("lines", count(line_ends(bytes))), ("limit", count(65_536))],
+        1 => return vec![("limit", count(MOST_BYTES))],
+        2 => return vec![("lines", count(line_ends(bytes))), ("limit", count(MOST_LINES))],
         4 => {
             let clause = if bytes.is_empty() { "empty" } else { "no_line_end" };
             return vec![("clause", text(clause)), ("missing", Fact::List(Vec::new())), ("guess", utf_16(bytes))];

@@ -1,4 +1,4 @@
-//! Request E4: the sorted index of a file's ids, written and checked.
+//! Requests E4 and E9: the sorted index of a file's ids in two versions, written and checked.
 
 use crate::reading::read_alone;
 use crate::records::KEYS;
@@ -16,10 +16,47 @@ pub struct Answer {
 }
 
 const MARK: &[u8] = b"TTX";
-const VERSION: usize = 1;
 
-/// How many bytes stand before the record numbers.
-const HEAD: usize = 8;
+/// An index of fewer bytes is none.
+const FEWEST_BYTES: usize = 8;
+
+/// A version of the index: its number, how many bytes stand before the record numbers, and how many the count and each of them have.
+#[derive(Clone, Copy, Debug, PartialEq, Eq)]
+pub struct Version {
+    pub number: usize,
+    pub head: usize,
+    pub width: usize,
+}
+
+pub const VERSION_1: Version = Version { number: 1, head: 8, width: 2 };
+pub const VERSION_2: Version = Version { number: 2, head: 10, width: 4 };
+
+/// The most records that have a version 1 index; more have a version 2 index.
+const MOST_OF_VERSION_1: usize = 65_535;
+
+impl Version {
+    /// The version for so many records.
+    pub fn of(records: usize) -> Version {
+        if records <= MOST_OF_VERSION_1 {
+            VERSION_1
+        } else {
+            VERSION_2
+        }
+    }
+
+    /// How many bytes an index of so many records has.
+    pub fn length(self, records: usize) -> usize {
+        self.head + self.width * records
+    }
+
+    /// The bytes of an index that lists these records, of each number as many as there is room for.
+    pub fn bytes(self, file_number: usize, records: &[usize]) -> Vec<u8> {
+        let mut bytes = [MARK, &low_first(self.number, 2), &[file_number as u8]].concat();
+        bytes.extend(low_first(records.len(), self.width));
+        records.iter().for_each(|&record| bytes.extend(low_first(record, self.width)));
+        bytes
+    }
+}
 
 /// A refusal by 40 to 46, which names no place.
 fn refused(number: usize) -> Answer {
@@ -59,34 +96,37 @@ fn rising(records: &[usize], ids: &[Vec<u8>]) -> bool {
     records.windows(2).all(|pair| order(&ids[pair[0] - 1], &ids[pair[1] - 1]) == Ordering::Less)
 }
 
-/// A number of 16 bits, low byte first.
-fn two_bytes(number: usize) -> [u8; 2] {
-    [(number % 256) as u8, (number / 256) as u8]
+/// So many bytes of a number, low byte first.
+fn low_first(number: usize, width: usize) -> Vec<u8> {
+    number.to_le_bytes()[..width].to_vec()
 }
 
+/// The number that bytes are, low byte first.
 fn number(bytes: &[u8]) -> usize {
-    usize::from(bytes[0]) + 256 * usize::from(bytes[1])
+    bytes.iter().rev().fold(0, |number, &byte| 256 * number + usize::from(byte))
 }
 
-/// The bytes of an index that lists these records.
+/// The bytes of an index that lists these records, in the version for so many.
 pub fn bytes(file_number: usize, records: &[usize]) -> Vec<u8> {
-    let mut bytes = [MARK, &two_bytes(VERSION), &[file_number as u8], &two_bytes(records.len())].concat();
-    records.iter().for_each(|&record| bytes.extend(two_bytes(record)));
-    bytes
+    Version::of(records.len()).bytes(file_number, records)
 }
 
 /// Writes the index of a file into a buffer.
 pub fn write(file_number: i32, file: &[u8], buffer: &mut [u8]) -> Answer {
-    let ids = match ids(file_number, file) {
-        Ok(ids) => ids,
-        Err(answer) => return answer,
-    };
+    match ids(file_number, file) {
+        Ok(ids) => write_ids(file_number, &ids, buffer),
+        Err(answer) => answer,
+    }
+}
+
+/// Writes the index of a file that has these ids, by record.
+pub fn write_ids(file_number: i32, ids: &[Vec<u8>], buffer: &mut [u8]) -> Answer {
     let mut records: Vec<usize> = (1..=ids.len()).collect();
     records.sort_by(|one, other| order(&ids[one - 1], &ids[other - 1]));
-    if !rising(&records, &ids) {
+    if !rising(&records, ids) {
         return refused(45);
     }
-    let length = HEAD + 2 * ids.len();
+    let length = Version::of(ids.len()).length(ids.len());
     if buffer.len() < length {
         return refused(46);
     }
@@ -94,27 +134,34 @@ pub fn write(file_number: i32, file: &[u8], buffer: &mut [u8]) -> Answer {
     good(length)
 }
 
-/// Checks the index of a file: the lowest of 40 to 44 that is broken speaks.
+/// Checks the index of a file.
 pub fn check(file_number: i32, file: &[u8], index: &[u8]) -> Answer {
-    let ids = match ids(file_number, file) {
-        Ok(ids) => ids,
-        Err(answer) => return answer,
-    };
-    if index.len() < HEAD || &index[..3] != MARK {
+    match ids(file_number, file) {
+        Ok(ids) => check_ids(file_number, &ids, index),
+        Err(answer) => answer,
+    }
+}
+
+/// Checks the index of a file that has these ids, by record: the lowest of 40 to 44 that is broken speaks.
+pub fn check_ids(file_number: i32, ids: &[Vec<u8>], index: &[u8]) -> Answer {
+    if index.len() < FEWEST_BYTES || &index[..3] != MARK {
         return refused(40);
     }
-    if number(&index[3..]) != VERSION {
+    let named = number(&index[3..5]);
+    let Some(version) = [VERSION_1, VERSION_2].into_iter().find(|version| version.number == named) else {
         return refused(41);
-    }
+    };
     let wrong_file = i32::from(index[5]) != file_number;
-    if wrong_file || number(&index[6..]) != ids.len() || index.len() != HEAD + 2 * ids.len() {
+    let wrong_length = version != Version::of(ids.len()) || index.len() != version.length(ids.len());
+    // An index of the right length has all bytes of its count.
+    if wrong_file || wrong_length || number(&index[6..version.head]) != ids.len() {
         return refused(42);
     }
-    let records: Vec<usize> = index[HEAD..].chunks(2).map(number).collect();
+    let records: Vec<usize> = index[version.head..].chunks(version.width).map(number).collect();
     if records.iter().any(|&record| record == 0 || record > ids.len()) {
         return refused(43);
     }
-    if !rising(&records, &ids) {
+    if !rising(&records, ids) {
         return refused(44);
     }
     good(index.len())

@@ -6,6 +6,10 @@ use crate::fields::{fields, line_ends, lines, Field, Line};
 use crate::forms::number;
 use crate::{Answer, Files, FILES};
 
+/// Rules 1 and 2, by E9: the most bytes and the most LF bytes that a file may have.
+pub(crate) const MOST_BYTES: usize = 134_217_728;
+pub(crate) const MOST_LINES: usize = 1_048_576;
+
 /// The record lines of a file: line n of the file, n from 2, is row n - 2. A file not supplied has none.
 #[derive(Clone, Debug)]
 pub struct Sheet {
@@ -86,8 +90,8 @@ pub fn whole_file_breaks(number: usize, file: usize, files: &Files, room: usize)
 /// Rules 1 to 4: is this one broken by the file of this number, with room for so many numbers in its table?
 fn whole_file_broken(number: usize, file: usize, bytes: &[u8], room: usize) -> bool {
     match number {
-        1 => bytes.len() > 16_777_216,
-        2 => line_ends(bytes) > 65_536,
+        1 => bytes.len() > MOST_BYTES,
+        2 => line_ends(bytes) > MOST_LINES,
         3 => room < WIDTHS[file - 1] * line_ends(bytes),
         _ => bytes.last() != Some(&b'\n'),
     }

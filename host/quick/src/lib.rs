@@ -1,4 +1,4 @@
-//! The whole check of document 01 with E2, E1, E6, E7, E10 and E13 by hash maps, written for speed: lines are sorted only where they have to be.
+//! The whole check of document 01 with E2, E1, E6, E7, E10, E13 and E9 by hash maps, written for speed: lines are sorted only where they have to be.
 #![forbid(unsafe_code)]
 
 mod filling;

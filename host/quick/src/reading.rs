@@ -9,8 +9,8 @@ use model::{Answer, Files, FILES};
 /// How many numbers a record of each table has.
 pub const WIDTHS: [usize; FILES] = [7, 3, 5, 8, 8, 4];
 
-const MOST_BYTES: usize = 16_777_216;
-const MOST_LINES: usize = 65_536;
+const MOST_BYTES: usize = 134_217_728;
+const MOST_LINES: usize = 1_048_576;
 
 /// The six files, read; one not supplied has no records.
 pub struct Feed<'a> {

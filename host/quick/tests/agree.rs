@@ -1,6 +1,7 @@
 //! The hash-map check against the customer's cases and the model: the answer, all tables and the list, whole.
 
 use cases::large::{self, families::FAMILIES};
+use cases::limits::{MOST_BYTES, MOST_LINES};
 use cases::{agree, Case, Outcome};
 use model::fields::line_ends;
 use model::{Answer, Files, Profile};
@@ -36,12 +37,16 @@ fn on_the_benchmarks_feeds() {
     agree::on_the_benchmarks_feeds(by_quick, &[(64, 1000), (64, 10), (4096, 100_000)]).on_threads();
 }
 
-/// The model would take a minute here, so this only shows that none is refused.
+/// The families that come near a limit: with the longest lines, and the latest times and dates.
+const NEAR_A_LIMIT: [&str; 5] = ["prefix", "three-bytes", "mixed-bytes", "one-trip", "dates-rise"];
+
+/// The model would take too long here, so this only shows that none is refused; those near a limit have as many lines as there may be.
 #[test]
-fn the_benchmarks_largest_feeds_can_be_read() {
+fn the_benchmarks_large_feeds_can_be_read() {
     for family in &FAMILIES {
-        let files = (family.feed)(65_536);
-        assert_eq!(files.iter().map(|file| line_ends(file)).max(), Some(65_536), "{}", family.name);
+        let lines = if NEAR_A_LIMIT.contains(&family.name) { MOST_LINES } else { 65_536 };
+        let files = (family.feed)(lines);
+        assert_eq!(files.iter().map(|file| line_ends(file)).max(), Some(lines), "{}", family.name);
         let answer = quick::check(&files, &mut large::tables(&files, 0), &mut [], [0, 0, 0], Profile::Plain);
         assert!(!matches!(answer, Answer::Refused { .. }), "{}: {answer:?}", family.name);
     }
@@ -58,13 +63,13 @@ fn compare_files(name: &str, files: Files) {
 #[test]
 fn at_the_limits() {
     for over in [0, 1] {
-        compare_files("65,536 lines", large::feed(65_535 + over));
-        compare_files("65,536 lines of calendar_dates", large::dates(65_536 + over));
+        compare_files("all lines of stop_times", large::feed(MOST_LINES - 1 + over));
+        compare_files("all lines of calendar_dates", large::dates(MOST_LINES + over));
         let mut files = large::feed(2);
         // The name of the last stop fills the file up.
-        let more = 16_777_216 + over - files[0].len();
+        let more = MOST_BYTES + over - files[0].len();
         let last = files[0].iter().rposition(|&byte| byte == b'S').expect("a stop's name");
         files[0].splice(last..last, vec![b'x'; more]);
-        compare_files("16,777,216 bytes", files);
+        compare_files("all bytes of stops", files);
     }
 }

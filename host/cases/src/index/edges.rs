@@ -1,6 +1,8 @@
 //! Indexes at their edges: every two ids in either order, every way to be a wrong index beside every other, files that can't be read, buffers.
 
+use super::versions::beside_few;
 use super::{base_line, sorted, Asked, Case};
+use crate::limits::MOST_LINES;
 use crate::nodes;
 use model::columns::COLUMNS;
 use model::fields::value;
@@ -73,7 +75,7 @@ fn ids() -> Vec<Vec<u8>> {
 }
 
 /// How a file is written around its ids.
-struct Layout {
+pub(super) struct Layout {
     before: &'static str,
     ending: &'static str,
     /// So many columns that nobody reads stand left of the others.
@@ -81,7 +83,7 @@ struct Layout {
     backward: bool,
 }
 
-const PLAIN: Layout = Layout { before: "", ending: "\n", unread: 0, backward: false };
+pub(super) const PLAIN: Layout = Layout { before: "", ending: "\n", unread: 0, backward: false };
 
 /// The last one fills a line of calendar.txt up to 32 fields.
 const LAYOUTS: [Layout; 4] = [
@@ -92,7 +94,7 @@ const LAYOUTS: [Layout; 4] = [
 ];
 
 /// A file with these ids as raw fields, all other values being those of the base feed.
-fn file<I: AsRef<[u8]>>(number: usize, layout: &Layout, ids: &[I]) -> Vec<u8> {
+pub(super) fn file<I: AsRef<[u8]>>(number: usize, layout: &Layout, ids: &[I]) -> Vec<u8> {
     let [names, good] = base_line(number).map(|fields| fields.into_iter().map(str::as_bytes).collect::<Vec<_>>());
     let place = names.iter().position(|name| *name == KEYS[number - 1][0].as_bytes()).expect("a column of ids");
     let line = |mut fields: Vec<&[u8]>, unread: &[u8]| {
@@ -112,12 +114,12 @@ fn file<I: AsRef<[u8]>>(number: usize, layout: &Layout, ids: &[I]) -> Vec<u8> {
 }
 
 /// A call of the reader.
-fn check(number: i32, file: &[u8], index: Vec<u8>) -> Case {
+pub(super) fn check(number: i32, file: &[u8], index: Vec<u8>) -> Case {
     Case { name: String::new(), asked: Asked::Check, number, file: file.to_vec(), lent: index }
 }
 
 /// A call of the writer with a buffer of so many bytes, no two of which in a row are alike.
-fn write(number: i32, file: &[u8], length: usize) -> Case {
+pub(super) fn write(number: i32, file: &[u8], length: usize) -> Case {
     let buffer = (0..length).map(|place| (place * 7 + 1) as u8).collect();
     Case { asked: Asked::Write, ..check(number, file, buffer) }
 }
@@ -162,7 +164,7 @@ fn all_ids() -> Vec<Case> {
 }
 
 /// Ids of three records; the right order is 2, 3, 1.
-const THREE: [&str; 3] = ["B", "A", "\"AB\""];
+pub(super) const THREE: [&str; 3] = ["B", "A", "\"AB\""];
 
 /// Every version beside every other number of an index that is right or wrong, for each file by turns.
 fn every_way_at_once() -> Vec<Case> {
@@ -170,7 +172,9 @@ fn every_way_at_once() -> Vec<Case> {
     // 43 alone, 44 alone, and both, either first.
     for list in [[2, 3, 1], [2, 3, 0], [3, 2, 1], [3, 2, 4], [0, 3, 2]] {
         for (count, end) in [3, 2, 4].into_iter().flat_map(|count| [14, 13, 16].map(|end| (count, end))) {
-            for (mark, version) in [b"TTX", b"TTY"].into_iter().flat_map(|mark| [1, 2].map(|version| (mark, version))) {
+            for (mark, version) in
+                [b"TTX", b"TTY"].into_iter().flat_map(|mark| [1, 2, 3].map(|version| (mark, version)))
+            {
                 for more in [0, 1] {
                     let number = 1 + cases.len() / 3 % 4;
                     let mut index = [&mark[..], &[version, 0, number as u8 + more, count, 0]].concat();
@@ -292,7 +296,7 @@ fn states(number: usize) -> Vec<Vec<u8>> {
     states.extend([&b""[..], b"\xEF\xBB\xBF", b"\n", b"\t\n\t", &good[..good.len() - 1]].map(<[u8]>::to_vec));
     states.extend(broken_lines(number));
     // Rule 2 speaks before 4.
-    states.push([&[b'\n'; 65_537][..], b"x"].concat());
+    states.push([&[b'\n'; MOST_LINES + 1][..], b"x"].concat());
     states
 }
 
@@ -355,7 +359,7 @@ fn of_nodes() -> Vec<Case> {
 /// Every call about an index; those that tell most apart come first.
 pub fn cases() -> Vec<Case> {
     let lists = [every_list(), every_byte(), high_bytes_first(), many_records(), every_way_at_once()].concat();
-    let mut cases = [every_state(), all_ids(), lists, pairs(), of_nodes()].concat();
+    let mut cases = [every_state(), all_ids(), lists, beside_few(), pairs(), of_nodes()].concat();
     cases.iter_mut().enumerate().for_each(|(place, case)| case.name = format!("edge case {place}"));
     cases
 }

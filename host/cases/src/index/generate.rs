@@ -7,7 +7,7 @@ use crate::feeds::Grid;
 use crate::random::Random;
 use crate::render::{arrange, write};
 use model::columns::COLUMNS;
-use model::index::bytes;
+use model::index::{VERSION_1, VERSION_2};
 use model::records::KEYS;
 
 /// What ids are made of.
@@ -22,7 +22,7 @@ pub fn case(seed: u64) -> Case {
     let asked = if random.once_in(3) { Asked::Write } else { Asked::Check };
     let records = sorted(number, &file);
     let lent = match asked {
-        Asked::Write => buffer(8 + 2 * records.len(), &mut random),
+        Asked::Write => buffer(VERSION_1.length(records.len()), &mut random),
         Asked::Check => index(number, records, &mut random),
     };
     let number = if random.once_in(16) { *random.pick(&OUTSIDE) } else { number as i32 };
@@ -95,7 +95,8 @@ fn index(number: usize, mut records: Vec<usize>, random: &mut Random) -> Vec<u8>
     if random.once_in(3) {
         damage_records(&mut records, random);
     }
-    let mut index = bytes(number, &records);
+    let version = if random.once_in(12) { VERSION_2 } else { VERSION_1 };
+    let mut index = version.bytes(number, &records);
     match random.below(16) {
         0..=2 => {
             let place = random.below(index.len());
@@ -104,7 +105,7 @@ fn index(number: usize, mut records: Vec<usize>, random: &mut Random) -> Vec<u8>
         3 | 4 => index.truncate(random.below(index.len())),
         5 | 6 => index.extend(vec![0; random.between(1, 4)]),
         7 => index[6..].chunks_exact_mut(2).for_each(<[u8]>::reverse),
-        8 => index[3..5].copy_from_slice(&random.pick(&[[0, 0], [2, 0], [0, 1], [1, 1]])[..]),
+        8 => index[3..5].copy_from_slice(&random.pick(&[[0, 0], [2, 0], [3, 0], [0, 1], [1, 1], [2, 1]])[..]),
         9 => index[6] = index[6].wrapping_add(*random.pick(&[1, 255])),
         10 => index = [&index[..random.between(0, 8)], &buffer(8, random)].concat(),
         _ => {}
@@ -119,12 +120,13 @@ fn damage_records(records: &mut Vec<usize>, random: &mut Random) {
         return records.push(random.below(2));
     }
     let (one, other) = (random.below(count), random.below(count));
-    match random.below(6) {
+    match random.below(7) {
         0 => records.swap(one, other),
         1 => records.swap(one.saturating_sub(1), one),
         2 => records[one] = records[other],
-        3 => drop(records.remove(one)),
-        4 => records.insert(one, records[other]),
+        3 => records[one] = records[one.saturating_sub(1)],
+        4 => drop(records.remove(one)),
+        5 => records.insert(one, records[other]),
         _ => records[one] = *random.pick(&[0, count + 1, count + 2, 65_535]),
     }
 }

@@ -116,7 +116,7 @@ pub fn day_tangle(lines: usize) -> Files {
 }
 
 pub fn day_prefix(lines: usize) -> Files {
-    Lines { count: lines - 1, twice: false, shuffled: true }.of_one_date(prefixed).0
+    Lines { count: lines - 1, twice: false, shuffled: true }.of_one_date(prefixed::<60>).0
 }
 
 /// Each service has a trip without lines in stop_times; the trip of the service in calendar is the first.

@@ -15,6 +15,9 @@ const HEADERS: [&str; FILES] = [
     "",
 ];
 
+/// 99:59:59.
+const LAST_SECOND: usize = 359_999;
+
 const DATES_HEADER: &[u8] = b"service_id,date,exception_type\n";
 
 impl Draft {
@@ -52,13 +55,14 @@ impl Draft {
         self.line(4, format!("{route},{service},{id}\n"));
     }
 
-    /// The line of a trip with this place along it, from 0 on: five seconds after the line before.
+    /// The line of a trip with this place along it, from 0 on.
     pub fn call(&mut self, trip: &str, place: usize, stop: &str) {
-        self.timed_call(trip, place * 5, place + 1, stop);
+        self.call_with(trip, place, place + 1, stop);
     }
 
-    /// A line that arrives and departs at this second.
-    pub fn timed_call(&mut self, trip: &str, seconds: usize, sequence: usize, stop: &str) {
+    /// The same with another sequence. It arrives and departs five seconds after the line before, or at the last second that a time can be.
+    pub fn call_with(&mut self, trip: &str, place: usize, sequence: usize, stop: &str) {
+        let seconds = (place * 5).min(LAST_SECOND);
         let time = format!("{:02}:{:02}:{:02}", seconds / 3600, seconds / 60 % 60, seconds % 60);
         self.line(5, format!("{trip},{time},{time},{stop},{sequence}\n"));
     }

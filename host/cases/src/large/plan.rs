@@ -17,17 +17,17 @@ pub fn with_long_trips(letter: char, number: usize) -> String {
     }
 }
 
-/// The same 60 bytes for all, then the number in four digits or letters.
-pub fn prefixed(_: char, number: usize) -> String {
+/// So many bytes that are the same for all, then the number in four digits or letters.
+pub fn prefixed<const SAME: usize>(_: char, number: usize) -> String {
     let digit = |place: u32| (number / 36_usize.pow(place) % 36) as u32;
     let last = [3, 2, 1, 0].map(|place| char::from_digit(digit(place), 36).unwrap_or('-'));
-    format!("{:060}{}", 0, last.iter().collect::<String>())
+    format!("{:0SAME$}{}", 0, last.iter().collect::<String>())
 }
 
-/// The number in 21 digits, the last one first, and for each digit a character of three bytes.
+/// The number in 17 digits, the last one first, and for each digit a character of three bytes.
 pub fn of_three_bytes(_: char, number: usize) -> String {
     let wide = |digit: u8| char::from_u32(0x4E00 + u32::from(digit)).unwrap_or('-');
-    format!("{number:021}").bytes().rev().map(wide).collect()
+    format!("{number:017}").bytes().rev().map(wide).collect()
 }
 
 /// The stop at which a trip calls at a place along it.

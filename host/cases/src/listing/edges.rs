@@ -2,6 +2,7 @@
 
 use super::{Case, NUMBERS};
 use crate::edges::{base, odd_files, BASE, MARK};
+use crate::limits::{MOST_BYTES, MOST_LINES};
 use crate::nodes;
 use model::faults::{faults, Fault};
 use model::fields::line_ends;
@@ -196,33 +197,35 @@ fn pages() -> Vec<Case> {
     cases
 }
 
-/// Files at the limits of rules 1 and 2 and over them, with faults on their lines, ended or not, beside one with a fault of its own.
-pub fn at_the_limits(file: usize) -> Vec<Case> {
+/// How many calls are at the limits.
+pub const AT_THE_LIMITS: usize = 11;
+
+/// A file over the limit of rule 1 or 2, or then at it, with faults on its lines, ended or not, beside one with a fault of its own. Each is
+/// made when it is asked for: some take much memory.
+pub fn at_the_limits(file: usize, number: usize) -> Case {
     let lines = ended(&all_lines(file, header(file, &[])), b"\n");
-    let ends = line_ends(&lines);
-    let long = |length: usize, end: &[u8]| [&lines[..], &vec![b'x'; length - lines.len() - end.len()], end].concat();
-    let many = |count: usize, end: &[u8]| [&lines[..], &vec![b'\n'; count - ends], end].concat();
-    let both = [&lines[..], &vec![b'\n'; 16_777_217], b"\t"].concat();
-    let files = [
-        long(16_777_216, b"\t"),
-        long(16_777_217, b"\n"),
-        long(16_777_217, b"\t"),
-        many(65_536, b""),
-        many(65_536, b"\t"),
-        many(65_537, b""),
-        many(65_537, b"\t"),
-        both,
-    ];
-    let mut cases: Vec<Case> = files.into_iter().map(|bytes| with_file(file, bytes)).collect();
-    let beside = (file + 1) % FILES;
-    cases.iter_mut().for_each(|case| case.files[beside].extend(b"\t\n"));
-    // The last lines of a file with as many as there may be.
-    let last = Case { start: [file as i32 + 1, 65_530, 14], ..cases[4].clone() };
-    // Of several faults of the whole file those behind the first.
-    let behind = [1, 2].map(|number| Case { start: [file as i32 + 1, 0, number], ..cases[7].clone() });
-    cases.push(last);
-    cases.extend(behind);
-    cases
+    let (ends, bytes) = (MOST_LINES - line_ends(&lines), MOST_BYTES - lines.len());
+    let filled = |byte: u8, count: usize, end: &[u8]| [&lines[..], &vec![byte; count], end].concat();
+    let large = match number {
+        0 => filled(b'\n', ends + 1, b""),
+        1 => filled(b'\n', ends + 1, b"\t"),
+        2 => filled(b'x', bytes, b"\n"),
+        3 => filled(b'x', bytes, b"\t"),
+        4..=6 => filled(b'\n', bytes, b"\t"),
+        7 => filled(b'\n', ends, b""),
+        8 | 9 => filled(b'\n', ends, b"\t"),
+        _ => filled(b'x', bytes - 1, b"\t"),
+    };
+    let start = match number {
+        // Of several faults of the whole file those behind the first, and behind the second.
+        5 | 6 => [file as i32 + 1, 0, number as i32 - 4],
+        // The last lines of a file with as many as there may be.
+        9 => [file as i32 + 1, MOST_LINES as i32 - 6, 14],
+        _ => [0; 3],
+    };
+    let mut case = Case { start, ..with_file(file, large) };
+    case.files[(file + 1) % FILES].extend(b"\t\n");
+    case
 }
 
 /// Stops of every type on which values are empty or malformed; the list has room for all of them.

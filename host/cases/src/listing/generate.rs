@@ -4,6 +4,7 @@ use super::{Case, NUMBERS};
 use crate::damage::{break_bytes, break_values, mutate, truncate};
 use crate::feeds::{clean, Grid};
 use crate::generate;
+use crate::limits::MOST_BYTES;
 use crate::random::Random;
 use crate::render::{arrange, write};
 use model::columns::COLUMNS;
@@ -52,7 +53,7 @@ fn damaged(mut grid: Grid, file: usize, random: &mut Random) -> Vec<u8> {
     }
     match random.below(4000) {
         // Files over a limit take much memory.
-        0 | 1 => bytes.resize(16_777_217, *random.pick(b"\nx")),
+        0 | 1 => bytes.resize(MOST_BYTES + 1, *random.pick(b"\nx")),
         2..=5 => break_bytes(&mut bytes, 2, random),
         6..=900 => break_bytes(&mut bytes, 4, random),
         901..=1200 => truncate(&mut bytes, random),

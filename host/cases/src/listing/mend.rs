@@ -1,23 +1,22 @@
 //! Mends what a list of faults names, and nothing else: each line for that of a readable feed, a missing end by an end.
 
 use crate::edges::MARK;
+use crate::limits::MOST_BYTES;
 use model::columns::COLUMNS;
 use model::fields::{lines, unended_line};
 use model::reading::header;
 use model::{faults::Fault, Files, FILES};
+use std::array::from_fn;
 
 /// The lines of a file with their endings; the last one may have none.
-fn raw_lines(file: &[u8]) -> Vec<&[u8]> {
-    file.split_inclusive(|&byte| byte == b'\n').collect()
+fn raw_lines(file: &[u8]) -> impl Iterator<Item = &[u8]> {
+    file.split_inclusive(|&byte| byte == b'\n')
 }
 
 /// The feed with every fault of a list mended, by a readable feed's lines.
 pub fn mend(feed: &Files, good: &Files, faults: &[Fault]) -> Files {
-    let mut mended = feed.clone();
-    for file in 0..FILES {
-        let of_file: Vec<Fault> = faults.iter().filter(|fault| fault[0] as usize == file + 1).copied().collect();
-        mended[file] = mend_file(&feed[file], &good[file], &of_file);
-    }
+    let of_file = |file: usize| faults.iter().filter(move |fault| fault[0] as usize == file + 1).copied();
+    let mut mended: Files = from_fn(|file| mend_file(&feed[file], &good[file], &of_file(file).collect::<Vec<_>>()));
     // Of calendar and calendar_dates one is enough, and it is calendar that is named where neither is there.
     if faults.contains(&[3, 0, 4, 0]) && mended[2].is_empty() {
         mended[5].clone_from(&good[5]);
@@ -28,13 +27,12 @@ pub fn mend(feed: &Files, good: &Files, faults: &[Fault]) -> Files {
 /// A file with these faults mended.
 fn mend_file(file: &[u8], good: &[u8], faults: &[Fault]) -> Vec<u8> {
     let whole = |number: i32| faults.iter().any(|fault| fault[1] == 0 && fault[2] == number);
-    let (mut lines, good_lines) = (raw_lines(file), raw_lines(good));
+    let good_lines: Vec<&[u8]> = raw_lines(good).collect();
     let good_line = |place: usize| good_lines.get(place).copied().unwrap_or_default();
-    if whole(1) || whole(2) {
-        lines.truncate(good_lines.len());
-    }
+    let most = if whole(1) || whole(2) { good_lines.len() } else { usize::MAX };
+    let mut lines: Vec<&[u8]> = raw_lines(file).take(most).collect();
     // What is too long is one line, if it isn't the lines that are too many.
-    if whole(1) && lines.concat().len() > 16_777_216 {
+    if whole(1) && lines.iter().map(|line| line.len()).sum::<usize>() > MOST_BYTES {
         let longest = (0..lines.len()).max_by_key(|&place| lines[place].len());
         longest.into_iter().for_each(|place| lines[place] = good_line(place));
     }
@@ -57,7 +55,8 @@ fn mend_file(file: &[u8], good: &[u8], faults: &[Fault]) -> Vec<u8> {
 /// and files that the readable one doesn't supply.
 pub fn mendable([good, mut bad]: [Files; 2]) -> [Files; 2] {
     let names = |bytes: &[u8], file: usize| {
-        let first = lines(bytes).first().copied().or(unended_line(bytes))?;
+        let first = raw_lines(bytes).next()?;
+        let first = lines(first).first().copied().or(unended_line(first))?;
         header(first, COLUMNS[file]).ok()
     };
     for file in 0..FILES {
