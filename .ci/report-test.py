@@ -438,7 +438,8 @@ def long_trip(browser, case):
     holds(f"long_trip: opened in {seconds:.1f} s", seconds < 20)
     same("long_trip: findings", [[found["line"], number(found)] for found in case.findings], [[feeds.FALLS + 1, 29]])
     label = browser.value("document.querySelector('.diagram[open] svg').getAttribute('aria-label')")
-    line, before = feeds.FALLS + 1, feeds.FALLS
+    # Of the four lines that depart in the second before, the first.
+    line, before = feeds.FALLS + 1, feeds.FALLS - 3
     falls = f"line {line} arrives at {feeds.trip_time(feeds.FALLS)}, before line {before} departs at {feeds.trip_time(feeds.FALLS - 1)}"
     holds(label, label.endswith(f"with {feeds.MOST_LINES - 1} lines, line {line} marked: {falls}"))
     same("long_trip: steps that fall", browser.value("document.querySelectorAll('.diagram[open] .fall').length"), 1)
