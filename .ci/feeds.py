@@ -1,4 +1,4 @@
-# Feeds for the tests of the report: a small town with faults, one with 65,000 findings, one with a long trip, one from right to left, and hostile ones.
+# Feeds for the tests of the report: a small town with faults, one with 65,000 findings and one with a million, one with a long trip, one from right to left, and hostile ones.
 import math
 import os
 import random
@@ -14,6 +14,9 @@ def put(folder, *files):
             file.write(b"".join((line if isinstance(line, bytes) else line.encode()) + b"\n" for line in lines))
     return folder
 
+
+# Rule 2: the most lines of a file, its header among them.
+MOST_LINES = 1_048_576
 
 CALENDAR = ["service_id,monday,tuesday,wednesday,thursday,friday,saturday,sunday,start_date,end_date"]
 WEEK = "W,1,1,1,1,1,0,0,20260101,20261231"
@@ -78,16 +81,22 @@ def nowhere(folder):
     return put(folder, stops, ["route_id,route_short_name,route_type", "R,1,3"], CALENDAR + [WEEK], ["route_id,service_id,trip_id", "R,W,T"], times)
 
 
-# Every line of stop_times but the last ones has a finding: 65,000 in all, on 32,500 trips of two lines.
-def many(folder, trips=32500):
-    stops = ["stop_id,stop_name,stop_lat,stop_lon"] + [f"S{n},Stop {n},{50 + n % 256 / 100},{8 + n // 256 / 100}" for n in range(5000)]
+# Every line of stop_times has a finding: 65,000 in all, on 32,500 trips of two lines.
+def many(folder, trips=32500, count=5000):
+    wide = math.isqrt(count)
+    stops = ["stop_id,stop_name,stop_lat,stop_lon"] + [f"S{n},Stop {n},{50 + n % wide * 2.5 / wide:.6f},{8 + n // wide * 2.5 / wide:.6f}" for n in range(count)]
     names = ["route_id,service_id,trip_id"] + [f"R,W,T{n}" for n in range(trips)]
     times = ["trip_id,arrival_time,departure_time,stop_id,stop_sequence"]
     for n in range(trips):
         at = 6 * 3600 + n % 3600
         # Rule 27 on the first line, rule 29 on the second.
-        times += [f"T{n},{clock(at + 60)},{clock(at + 30)},S{n % 5000},1", f"T{n},{clock(at)},{clock(at + 90)},S{(n + 1) % 5000},2"]
+        times += [f"T{n},{clock(at + 60)},{clock(at + 30)},S{n % count},1", f"T{n},{clock(at)},{clock(at + 90)},S{(n + 1) % count},2"]
     return put(folder, stops, ["route_id,route_short_name,route_type", "R,1,3"], CALENDAR + [WEEK], names, times)
+
+
+# The same with as many lines, and as many stops, as a file may have.
+def million(folder):
+    return many(folder, (MOST_LINES - 1) // 2, MOST_LINES - 1)
 
 
 MARKUP = [
@@ -146,12 +155,15 @@ def leftward(folder):
     return put(folder, stops, ["route_id,route_long_name,route_type", "קו 5,,3"], CALENDAR + [WEEK], ["route_id,service_id,trip_id", "קו 5,ש,ת"], ["trip_id,arrival_time,departure_time,stop_id,stop_sequence", "ת,8:00:00,8:00:00,ב1,1", "ת,7:00:00,7:10:00,אין,2"])
 
 
-# One trip with as many lines as a file may have; one of them arrives an hour before the line above it departs.
-FALLS = 60_000
+# One trip with as many lines as a file may have, four a second; one of them arrives an hour before the line above it departs.
+FALLS = 1_000_000
+
+
+def trip_time(place):
+    return clock(20_000 + place // 4 - (3600 if place == FALLS else 0))
 
 
 def long_trip(folder):
-    time = lambda place: clock(20_000 + place - (3600 if place == FALLS else 0))
-    calls = [f"T,{time(place)},{time(place)},A,{place}" for place in range(1, 65_536)]
+    calls = [f"T,{trip_time(place)},{trip_time(place)},A,{place}" for place in range(1, MOST_LINES)]
     return put(folder, ["stop_id,stop_name,stop_lat,stop_lon", "A,Alder,1,2"], ["route_id,route_short_name,route_type", "R,1,3"], CALENDAR + [WEEK],
                ["route_id,service_id,trip_id", "R,W,T"], ["trip_id,arrival_time,departure_time,stop_id,stop_sequence"] + calls)

@@ -432,30 +432,65 @@ def fields_in_order(browser, case, shown):
     holds(f"{case.name}: {len(lines)} lines, {leftward} fields go left", len(lines) > 5 and leftward > 5)
 
 
-# A trip of 65,535 lines is drawn around the one that falls, without a standstill.
+# A trip of a million lines is drawn around the one that falls, without a standstill.
 def long_trip(browser, case):
     seconds = browser.open(case.page)
-    holds(f"long_trip: opened in {seconds:.1f} s", seconds < 10)
+    holds(f"long_trip: opened in {seconds:.1f} s", seconds < 20)
     same("long_trip: findings", [[found["line"], number(found)] for found in case.findings], [[feeds.FALLS + 1, 29]])
     label = browser.value("document.querySelector('.diagram[open] svg').getAttribute('aria-label')")
-    line, before = feeds.FALLS + 1, feeds.FALLS
-    falls = f"line {line} arrives at {feeds.clock(20_000 + feeds.FALLS - 3600)}, before line {before} departs at {feeds.clock(20_000 + feeds.FALLS - 1)}"
-    holds(label, label.endswith(f"with 65535 lines, line {line} marked: {falls}"))
+    # Of the four lines that depart in the second before, the first.
+    line, before = feeds.FALLS + 1, feeds.FALLS - 3
+    falls = f"line {line} arrives at {feeds.trip_time(feeds.FALLS)}, before line {before} departs at {feeds.trip_time(feeds.FALLS - 1)}"
+    holds(label, label.endswith(f"with {feeds.MOST_LINES - 1} lines, line {line} marked: {falls}"))
     same("long_trip: steps that fall", browser.value("document.querySelectorAll('.diagram[open] .fall').length"), 1)
 
 
-# 65,000 findings: few elements, no long standstill, and a text is found.
-def large(browser, case):
-    same("many: findings", len(case.findings), 65000)
-    seconds = browser.open(case.page)
-    holds(f"many: opened in {seconds:.1f} s", seconds < 20)
-    holds("many: elements", browser.value("document.querySelectorAll('main *').length") < 4000)
+# Opens a large page: soon, with few elements, and without a long standstill.
+def opened(browser, name, page, seconds):
+    took = browser.open(page)
+    holds(f"{name}: opened in {took:.1f} s", took < seconds)
+    holds(f"{name}: elements", browser.value("document.querySelectorAll('main *').length") < 4000)
     longest = browser.value("""new Promise((done) => {
       new PerformanceObserver((list) => done(Math.max(...list.getEntries().map((entry) => entry.duration)))).observe({type: 'longtask', buffered: true});
       setTimeout(() => done(0), 1000);
     })""")
-    holds(f"many: the longest standstill was {longest} ms", longest < 4000)
-    print(f"report: 65,000 findings open in {seconds:.1f} s, the longest standstill {longest:.0f} ms", flush=True)
+    holds(f"{name}: the longest standstill was {longest} ms", longest < 4000)
+    heap = browser.call("Runtime.getHeapUsage")["totalSize"] >> 20
+    holds(f"{name}: {heap} MiB", heap < 1000)
+    print(f"report: {name} opens in {took:.1f} s, the longest standstill {longest:.0f} ms, {heap} MiB", flush=True)
+
+
+# 65,000 findings, all of them in the page.
+def large(browser, case):
+    same("many: findings", len(case.findings), 65000)
+    opened(browser, "65,000 findings", case.page, 20)
+
+
+# A million findings by a million stops: the page has the first ones of each rule, says so, and has all of them in its totals. Those that it lists
+# are the document's.
+def million(browser, folder):
+    page, total, listed = os.path.join(folder, "million.html"), feeds.MOST_LINES - 2, 100_000
+    report = subprocess.Popen(PROGRAM + ["report", "million", "-o", page], cwd=folder, stdout=subprocess.PIPE)
+    ends = [[], ["--after", f"5,{listed - 49},29"]]
+    documents = [subprocess.run(PROGRAM + ["check", "--json", "million", "--room", "50"] + words, cwd=folder, stdout=subprocess.PIPE).stdout for words in ends]
+    same("million: report", (report.communicate()[0], report.returncode), (f"findings: {total}\n".encode(), 1))
+    size = os.path.getsize(page)
+    holds(f"million: {size} bytes", size < 100_000_000)
+    opened(browser, "a million findings", page, 30)
+    note = browser.value("document.getElementById('left-out').textContent")
+    same("million: what is left out", note, f"Listed here are {listed:,} of {total:,} findings, the first {listed // 2:,} of each rule. tusuchiy check --json has all of them.")
+    same("million: totals", browser.value("[...document.querySelectorAll('#totals .count')].map((cell) => cell.textContent)"), [f"{total // 2:,}"] * 2)
+    for document, last in zip(documents, [False, True]):
+        if last:
+            browser.value("document.querySelector('#pages-above button[data-to=\"1999\"]').click()")
+        case = type("Case", (), {"name": "million", "texts": {}, "findings": json.loads(document)["findings"]})
+        case.texts = {f"{found['name']}:{found['line']}": found["text"] for found in case.findings}
+        shown = f"{listed - 49:,} to {listed:,}" if last else "1 to 50"
+        same("million: status", browser.value(STATUS), f"{shown} of {listed:,} findings, of {total:,} in all")
+        compare_cards(browser, case, case.findings)
+    words = browser.value("document.getElementById('map-note').textContent")
+    # Every sixteenth stop, and those at which the listed trips call.
+    holds(words, words.endswith(f" of {feeds.MOST_LINES - 1:,} stops by their coordinates, {listed // 2 + 1:,} with findings that are listed. Choose one for its findings."))
 
 
 # The README's picture: the totals, the map, and a finding with its time diagram.
@@ -483,7 +518,7 @@ def every_page(browser, case):
 def main():
     os.makedirs(PICTURES, exist_ok=True)
     with tempfile.TemporaryDirectory() as folder:
-        for name in ["many", "long_trip", "leftward", "town", "nodes", "nowhere", "hostile_refused", "hostile_bytes", "shuffled"]:
+        for name in ["many", "million", "long_trip", "leftward", "town", "nodes", "nowhere", "hostile_refused", "hostile_bytes", "shuffled"]:
             getattr(feeds, name)(os.path.join(folder, name))
         feeds.hostile(os.path.join(folder, feeds.HOSTILE_NAME))
         large_case, long_case = [Case(folder, name, name, plain=True) for name in ["many", "long_trip"]]
@@ -543,10 +578,11 @@ def main():
             large(browser, large_case.wait())
             every_page(browser, large_case)
             filters(browser, large_case, "T3199,")
+            million(browser, folder)
             picture(browser, cases["town"])
         finally:
             browser.close()
-    print("report: six examples, the profile for boards, a town, stops without coordinates, lines from right to left, a trip of 65,535 lines, hostile feeds and 65,000 findings show in a browser what the JSON document says", flush=True)
+    print("report: six examples, the profile for boards, a town, stops without coordinates, lines from right to left, a trip of a million lines, hostile feeds, 65,000 findings and a million show in a browser what the JSON document says", flush=True)
 
 
 main()

@@ -7,8 +7,8 @@
 /* The meaning of a refusal (1 to 14, 40 to 46) or a rule (20 to 31, 60 to 62); "" for any other number. The words may change, the numbers don't. */
 static inline const char *tusuchiy_meaning(int32_t number) {
     switch (number) {
-    case 1: return "the file is longer than 16,777,216 bytes";
-    case 2: return "the file has more than 65,536 lines";
+    case 1: return "the file is longer than 134,217,728 bytes";
+    case 2: return "the file has more than 1,048,576 lines";
     case 3: return "the table lent for the file is too short";
     case 4: return "the file is empty, or its last line has no line ending";
     case 5: return "the line has a tab, or a CR that isn't part of a line ending";

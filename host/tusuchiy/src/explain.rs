@@ -1,34 +1,38 @@
 //! The clerk's page: docs/RULES.md, a section for each refusal and each rule, found by its heading.
 
+use std::collections::BTreeMap;
+use std::sync::OnceLock;
+
 const RULES: &str = include_str!("../../../docs/RULES.md");
 
 /// The headings' first words: `## Refusal 4: ..` and `## Rule 20: ..`.
 const WORDS: [&str; 2] = ["## Refusal ", "## Rule "];
 
-/// The place of a section, and its heading without number and marks.
-fn find(number: usize) -> Option<(usize, &'static str)> {
-    let mut place = 0;
-    for line in RULES.split_inclusive('\n') {
-        let heading = WORDS.iter().find_map(|word| line.strip_prefix(word));
-        if let Some(meaning) = heading.and_then(|rest| rest.strip_prefix(&format!("{number}: "))) {
-            return Some((place, meaning.trim_end()));
-        }
-        place += line.len();
-    }
-    None
+/// The place of a section.
+fn find(number: usize) -> Option<usize> {
+    WORDS.iter().find_map(|word| RULES.find(&format!("\n{word}{number}: "))).map(|place| place + 1)
 }
 
 /// What a refusal or a rule means, in one line.
 #[must_use]
 pub fn meaning(number: usize) -> &'static str {
-    find(number).map_or("a rule that docs/RULES.md doesn't know", |(_, meaning)| meaning)
+    meanings().get(&number).unwrap_or(&"a rule that docs/RULES.md doesn't know")
+}
+
+/// All meanings by their numbers, looked up once: a list may ask a million times.
+fn meanings() -> &'static BTreeMap<usize, &'static str> {
+    static MEANINGS: OnceLock<BTreeMap<usize, &str>> = OnceLock::new();
+    let meaning = |line: &'static str| {
+        let (number, meaning) = WORDS.iter().find_map(|word| line.strip_prefix(word))?.split_once(": ")?;
+        Some((number.parse().ok()?, meaning.trim_end()))
+    };
+    MEANINGS.get_or_init(|| RULES.lines().filter_map(meaning).collect())
 }
 
 /// The section of a refusal or a rule, from its heading to the next one.
 #[must_use]
 pub fn page(number: usize) -> Option<&'static str> {
-    let (start, _) = find(number)?;
-    let body = &RULES[start..];
+    let body = &RULES[find(number)?..];
     let end = ["\n# ", "\n## "].iter().filter_map(|heading| body.find(heading)).min();
     Some(body[..end.unwrap_or(body.len())].trim_end())
 }

@@ -10,6 +10,8 @@ use crate::safe;
 use crate::value::{Members, Value};
 use std::borrow::Cow;
 use std::cell::OnceCell;
+use std::collections::hash_map::RandomState;
+use std::hash::{BuildHasher, Hash};
 use tusuchiy::{File, WIDTHS};
 
 /// What a finding or a refusal is about: in words, and the same as members.
@@ -123,19 +125,10 @@ impl<'a> Facts<'a> {
         (id, (file == DATE.0).then(|| self.number(DATE, line)))
     }
 
-    /// For each line of a file the first line with its key; lines are sorted, since a map of a million keys would take more than their file.
+    /// For each line of a file the first line with its key.
     fn firsts(&self, file: usize) -> &[u32] {
-        let key = |line: &u32| self.key(file, *line as usize);
-        self.firsts[file - 1].get_or_init(|| {
-            let lines = self.feed.line_count(file);
-            let mut order = memory::list((2..=lines).map(|line| line as u32), lines);
-            order.sort_unstable_by(|one, other| key(one).cmp(&key(other)).then(one.cmp(other)));
-            let mut firsts = memory::list((0..=lines).map(|_| 0), lines + 1);
-            for same in order.chunk_by(|one, other| key(one) == key(other)) {
-                same.iter().for_each(|line| firsts[*line as usize] = same[0]);
-            }
-            firsts
-        })
+        let key = |line| self.key(file, line);
+        self.firsts[file - 1].get_or_init(|| first_lines(self.feed.line_count(file), key))
     }
 
     fn repeated_id(&self, file: usize, line: usize) -> About {
@@ -268,41 +261,29 @@ impl<'a> Facts<'a> {
         About { words: format!("{}, wanted: before {TWO_DAYS}", late.join(" and ")), members: time_members(&times) }
     }
 
-    /// The lines of stop_times.txt by trip, stop_sequence and line, each after a number for its trip_id.
+    /// The lines of stop_times.txt by trip, stop_sequence and line, each after the first line of its trip.
     fn in_trip_order(&self) -> Vec<(u32, u32)> {
         let lines = self.feed.line_count(5);
-        let mut order = self.numbered_unknown();
-        let known = |line: &usize| self.named(TRIP, *line).map(|trip| (trip as u32, *line as u32));
-        order.extend((2..=lines).filter_map(|line| known(&line)));
+        // Where an id stands is looked up once, and not for each comparison: a line may be long.
+        let places = memory::list((0..=lines).map(|line| self.unknown_trip(line)), lines + 1);
+        let firsts = first_lines(lines, |line| {
+            let [start, end] = places[line].map(|place| place as usize);
+            (self.number(TRIP, line), value(&self.feed.slices()[4][start..end]))
+        });
+        drop(places);
+        let mut order = memory::list((2..=lines).map(|line| (firsts[line], line as u32)), lines);
         order.sort_unstable_by_key(|&(trip, line)| (trip, self.number(SEQUENCE, line as usize), line));
         order
     }
 
-    /// The lines of stop_times.txt whose trip_id stands in no line of trips.txt, each after a number for it that no line there has; there is room for
-    /// all other lines.
-    fn numbered_unknown(&self) -> Vec<(u32, u32)> {
-        let lines = self.feed.line_count(5);
-        let place = self.names.place(5, "trip_id").unwrap_or(0);
-        let raw = |line: usize| {
-            let text = self.feed.line(5, line).unwrap_or(&[]);
-            let field = field(text, place + 1).unwrap_or(0..0);
-            (line as u32, field.start as u32, field.len() as u32)
+    /// Where the trip_id of a line of stop_times.txt stands in the file, if no line of trips.txt has it; else nowhere.
+    fn unknown_trip(&self, line: usize) -> [u32; 2] {
+        let id = || {
+            let (place, text) = (self.names.place(5, "trip_id")?, self.feed.line(5, line)?);
+            let (field, start) = (field(text, place + 1)?, self.feed.start(5, line)?);
+            Some([start + field.start, start + field.end].map(|place| place as u32))
         };
-        let unknown = |line: &usize| self.number(TRIP, *line) == 0;
-        // Where each id stands is looked up once, and not for each comparison: a line may be long.
-        let mut ids = memory::list((2..=lines).filter(unknown).map(raw), lines);
-        let id = |&(line, start, length): &(u32, u32, u32)| {
-            let text = self.feed.line(5, line as usize).unwrap_or(&[]);
-            value(&text[start as usize..(start + length) as usize])
-        };
-        ids.sort_unstable_by(|one, other| id(one).cmp(&id(other)));
-        let mut numbered = memory::list([].into_iter(), lines);
-        let mut number = self.feed.line_count(4) as u32;
-        for same in ids.chunk_by(|one, other| id(one) == id(other)) {
-            number += 1;
-            numbered.extend(same.iter().map(|&(line, ..)| (number, line)));
-        }
-        numbered
+        Some(line).filter(|line| *line > 1 && self.number(TRIP, *line) == 0).and_then(|_| id()).unwrap_or_default()
     }
 
     /// The line of the same trip that has this line's stop_sequence already, and the one that departs too late.
@@ -423,6 +404,25 @@ impl<'a> Facts<'a> {
             ],
         }
     }
+}
+
+/// For each line below a header the first line with its key. Lines are found by their keys' hashes in a table of line numbers: a map of a
+/// million keys would take more than their file.
+fn first_lines<Key: Hash + Eq>(lines: usize, key: impl Fn(usize) -> Key) -> Vec<u32> {
+    let (slots, hashes) = ((2 * lines).next_power_of_two(), RandomState::new());
+    let mut table = memory::list((0..slots).map(|_| 0), slots);
+    let mut first = |line: usize| {
+        let own = key(line);
+        let hash = hashes.hash_one(&own) as usize;
+        let mut places = (0..slots).map(|more| hash.wrapping_add(more) % slots);
+        // Half of the slots stay empty.
+        let slot = places.find(|slot| table[*slot] == 0 || key(table[*slot] as usize) == own).unwrap_or(0);
+        if table[slot] == 0 {
+            table[slot] = line as u32;
+        }
+        table[slot]
+    };
+    memory::list((0..=lines).map(|line| if line < 2 { 0 } else { first(line) }), lines + 1)
 }
 
 /// An id, perhaps with a date, that stands on an earlier line.

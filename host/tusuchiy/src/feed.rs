@@ -3,6 +3,7 @@
 use crate::folder::Folder;
 use crate::memory;
 use crate::safe;
+use std::cell::OnceCell;
 use std::collections::BTreeSet;
 use std::os::unix::ffi::OsStrExt;
 use std::path::{Path, PathBuf};
@@ -73,8 +74,9 @@ pub struct Feed {
     /// The folder that it was read from, if it was one.
     pub opened: Option<Folder>,
     files: [Option<Vec<u8>>; FILES],
-    ends: [Vec<u32>; FILES],
     counts: [usize; FILES],
+    /// Where lines end, looked up once it is asked for: after the check, which has returned its memory by then.
+    ends: [OnceCell<Vec<u32>>; FILES],
 }
 
 impl Feed {
@@ -82,12 +84,14 @@ impl Feed {
     pub fn new(place: Place, files: [Option<Vec<u8>>; FILES], unread: Unread) -> Self {
         let bytes = files.each_ref().map(|file| file.as_deref().unwrap_or(&[]));
         let counts = bytes.map(|file| line_ends(file).count());
-        let ends = std::array::from_fn(|file| {
-            // A file with more lines is refused, and no line of it is named.
-            let kept = counts[file].min(MOST_LINES);
-            memory::list(line_ends(bytes[file]).take(kept).map(|place| place as u32), kept)
-        });
-        Feed { place, unread, opened: None, files, ends, counts }
+        Feed { place, unread, opened: None, files, counts, ends: Default::default() }
+    }
+
+    /// Where the lines of a file end; of one with too many, which is refused, no line is named.
+    fn ends(&self, file: usize) -> &[u32] {
+        let kept = self.line_count(file).min(MOST_LINES);
+        let ends = || memory::list(line_ends(self.slices()[file - 1]).take(kept).map(|place| place as u32), kept);
+        self.ends[file - 1].get_or_init(ends)
     }
 
     /// The six files as the check takes them: one that isn't there has no bytes.
@@ -137,18 +141,22 @@ impl Feed {
         self.slices().iter().map(|file| file.len()).sum()
     }
 
+    /// Where a line starts in its file, behind the mark that a file may begin with; none where no line ends before.
+    pub fn start(&self, file: usize, line: usize) -> Option<usize> {
+        let bytes = *self.slices().get(file.checked_sub(1)?)?;
+        match line.checked_sub(2) {
+            Some(before) => Some(*self.ends(file).get(before)? as usize + 1),
+            None if bytes.starts_with(b"\xEF\xBB\xBF") => Some(3),
+            None => Some(0),
+        }
+    }
+
     /// The text of a line without its ending; none where there is no such line, line 0 among them. Bytes behind the last LF
     /// are a line as they stand, as the list of faults has it.
     pub fn line(&self, file: usize, line: usize) -> Option<&[u8]> {
-        let (bytes, ends) = (*self.slices().get(file.checked_sub(1)?)?, &self.ends[file - 1]);
-        let start = match line.checked_sub(2) {
-            Some(before) => *ends.get(before)? as usize + 1,
-            None => 0,
-        };
-        let end = ends.get(line.checked_sub(1)?).map(|end| *end as usize);
+        let (start, bytes) = (self.start(file, line)?, self.slices()[file - 1]);
+        let end = self.ends(file).get(line.checked_sub(1)?).map(|end| *end as usize);
         let text = &bytes[start..end.unwrap_or(bytes.len())];
-        let marked = line == 1 && text.starts_with(b"\xEF\xBB\xBF");
-        let text = if marked { &text[3..] } else { text };
         match end {
             Some(_) => Some(text.strip_suffix(b"\r").unwrap_or(text)),
             None => Some(text).filter(|text| !text.is_empty()),

@@ -1,4 +1,4 @@
-//! Reads a feed from a folder, which is opened once: each file at most one byte past what rule 1 allows, and nothing but regular files.
+//! Reads a feed from a folder, which is opened once: each file at most one byte past what it may have, and nothing but regular files.
 
 use crate::feed::{Feed, Place, Unread, MOST_BYTES, NAMES};
 use crate::memory;
@@ -16,7 +16,7 @@ use std::path::{Path, PathBuf};
 /// Reads the six files, or says of each that can't be read what is in the way, a line each.
 pub fn read(path: &Path, follow_links: bool) -> Result<Feed, String> {
     let folder = Folder::open(path).map_err(|error| cannot(path, &error.to_string()))?;
-    let files = folder.read_files(NAMES, follow_links)?;
+    let files = folder.read_files(NAMES, MOST_BYTES, follow_links)?;
     let mut unread = Unread::default();
     system::each_name(&folder.handle, |name| unread.add(name));
     let mut feed = Feed::new(Place::at(path), files, unread);
@@ -90,16 +90,18 @@ impl Folder {
         system::open_in(&self.handle, OsStr::new("."), O_RDONLY | O_DIRECTORY)?.sync_all()
     }
 
-    /// Reads the files of these names, or says that they changed meanwhile: half of an old feed and half of a new one are no feed.
+    /// Reads the files of these names, each at most one byte past so many, or says that they changed meanwhile: half of an old feed and half of
+    /// a new one are no feed.
     pub fn read_files<const COUNT: usize>(
         &self,
         names: [&str; COUNT],
+        most: usize,
         follow_links: bool,
     ) -> Result<Files<COUNT>, String> {
         let mut stamps = Vec::new();
         let files = all(names.map(|name| {
             progress::step(|| format!("reading {name}"));
-            let read = self.read_file(name, follow_links).map_err(|why| cannot(&self.path_of(name), &why))?;
+            let read = self.read_file(name, most, follow_links).map_err(|why| cannot(&self.path_of(name), &why))?;
             let (stamp, bytes) = read.unzip();
             stamps.push(stamp);
             Ok(bytes)
@@ -120,7 +122,7 @@ impl Folder {
     }
 
     /// The bytes of a file with its stamp, or none where nothing has its name.
-    fn read_file(&self, name: &str, follow_links: bool) -> Result<Option<(Stamp, Vec<u8>)>, String> {
+    fn read_file(&self, name: &str, most: usize, follow_links: bool) -> Result<Option<(Stamp, Vec<u8>)>, String> {
         let name = OsStr::new(name);
         let Some(about) = self.about(name, false).map_err(|error| error.to_string())? else { return Ok(None) };
         if about.is_symlink() && !follow_links {
@@ -133,7 +135,7 @@ impl Folder {
         }
         let flags = if follow_links { O_RDONLY | O_NONBLOCK } else { O_RDONLY | O_NONBLOCK | O_NOFOLLOW };
         let opened = system::open_in(&self.handle, name, flags).and_then(regular);
-        let read = opened.and_then(|(file, about)| Ok((Stamp::of(&about), limited(file, about.len())?)));
+        let read = opened.and_then(|(file, about)| Ok((Stamp::of(&about), limited(file, about.len(), most)?)));
         read.map(Some).map_err(|error| error.to_string())
     }
 }
@@ -166,9 +168,9 @@ pub fn open(path: &Path, follow_links: bool) -> io::Result<(File, u64)> {
     Ok((file, about.len()))
 }
 
-/// Reads to the end, but at most one byte past what rule 1 allows: the check refuses such a file whatever follows.
-pub fn limited(mut from: impl Read, expected: u64) -> io::Result<Vec<u8>> {
-    let most = MOST_BYTES + 1;
+/// Reads to the end, but at most one byte past so many, which are all that a file may have: it is refused whatever follows.
+pub fn limited(mut from: impl Read, expected: u64, all: usize) -> io::Result<Vec<u8>> {
+    let most = all + 1;
     let mut bytes = Vec::new();
     memory::told(|| {
         bytes.try_reserve_exact(usize::try_from(expected).map_or(most, |size| size.min(most)))?;
@@ -176,7 +178,7 @@ pub fn limited(mut from: impl Read, expected: u64) -> io::Result<Vec<u8>> {
     })?;
     // Whatever hinders reading on, there is more. Nobody has seen the last line, so nobody may say that its ending is missing.
     if bytes.len() == most && !matches!(from.take(1).read_to_end(&mut Vec::new()), Ok(0)) {
-        bytes[MOST_BYTES] = b'\n';
+        bytes[all] = b'\n';
     }
     Ok(bytes)
 }
@@ -206,7 +208,7 @@ mod tests {
             [&path, &other].iter().for_each(|folder| fs::write(folder.join("stops.txt"), b"A").expect("a file"));
             symlink("feed", &at).expect("a link");
             let folder = Folder::open(&at).expect("a folder");
-            let stamps = names.map(|name| folder.read_file(name, false).expect("a file").map(|(stamp, _)| stamp));
+            let stamps = names.map(|name| folder.read_file(name, 9, false).expect("a file").map(|(stamp, _)| stamp));
             change().expect("a change");
             folder.is_as_read(&names, &stamps, false)
         };

@@ -35,6 +35,9 @@ pub fn write(out: &mut dyn Write, feed: &Feed, report: &Report) -> io::Result<()
     writeln!(out, "\"folder\": {folder}, \"records\": {}, \"unread\": {}}}", records(feed, report), unread(feed))
 }
 
+/// After how many elements it is told how far a list is.
+const TOLD_EACH: usize = 1 << 14;
+
 /// A list, element by element: all of them at once would take memory for each.
 fn write_list<Element>(
     out: &mut dyn Write,
@@ -43,13 +46,18 @@ fn write_list<Element>(
     value: impl Fn(Element) -> Value,
 ) -> io::Result<()> {
     progress::step(|| "writing the list".to_string());
-    out.write_all(b"[")?;
+    let mut written = b"[".to_vec();
     for (place, element) in list.enumerate() {
-        progress::far("writing the list", place, length);
-        let comma = if place == 0 { "" } else { ", " };
-        write!(out, "{comma}{}", value(element))?;
+        if place % TOLD_EACH == 0 {
+            progress::far("writing the list", place, length);
+        }
+        written.extend(if place == 0 { &b""[..] } else { b", " });
+        value(element).write(&mut written);
+        out.write_all(&written)?;
+        written.clear();
     }
-    out.write_all(b"]")
+    written.push(b']');
+    out.write_all(&written)
 }
 
 /// What the verdict names, how many faults there are, and the list of them; null, 0 and none for a feed that can be read.

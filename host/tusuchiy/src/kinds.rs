@@ -260,7 +260,7 @@ mod tests {
         let finding = Finding { file: File::Trips, line: 3, rule: Rule(21) };
         assert_eq!(finding.to_string(), "trips.txt:3: rule 21: a reference names no line");
         let fault = Fault { file: File::Stops, line: 0, column: None, refusal: Refusal(2) };
-        assert_eq!(fault.to_string(), "stops.txt: refusal 2: the file has more than 65,536 lines");
+        assert_eq!(fault.to_string(), "stops.txt: refusal 2: the file has more than 1,048,576 lines");
         let fault = Fault { file: File::Trips, line: 7, column: None, refusal: Refusal(6) };
         assert_eq!(fault.to_string(), "trips.txt:7: refusal 6: quotation marks are misplaced");
         let fault = Fault { file: File::Trips, line: 7, column: NonZeroU32::new(3), refusal: Refusal(12) };

@@ -1,6 +1,6 @@
 //! The words of the command line, in one table: the help, the manual page and what shells complete are made from it.
 
-use tusuchiy::Profile;
+use tusuchiy::{Profile, MOST_BYTES, MOST_LINES};
 
 /// An option.
 pub struct Flag {
@@ -73,7 +73,7 @@ pub const VERBS: &[Verb] = &[
     Verb {
         name: "report",
         operand: "FEED",
-        help: "checks a feed and writes one page about it, for a browser: all findings or faults with filters, a map, time diagrams",
+        help: "checks a feed and writes one page about it, for a browser: findings or faults with filters, up to 100000, a map, time diagrams",
         flags: &[
             Flag { short: Some('o'), ..valued("output", "FILE", "the file to write, as report.html, whole or not at all and never over the feed; standard output if not given") },
             PROFILE,
@@ -142,7 +142,13 @@ const EXAMPLES: [(&str, &str); 8] = [
 const TITLE: &str = "checks the six files of GTFS feeds, and writes indexes beside them";
 const MANY: &str = "With several feeds there is one verdict a line, and the exit status is the highest of theirs.";
 const PLACE: &str = "A place is FILE:LINE, or FILE:LINE:COLUMN where one field is refused; columns count from 1.";
+const PROGRESS: &str = "On a terminal one line on standard error says where a run is that takes a while.";
 const REFUSED: &str = "Of a refused feed every fault is named: mend all of them, then check again for findings.";
+
+/// What rules 1 and 2 allow.
+fn limits() -> String {
+    format!("A file may have {MOST_BYTES} bytes and {MOST_LINES} lines.")
+}
 
 impl Flag {
     /// The option as it is typed: `-q, --quiet` or `--room N`.
@@ -169,7 +175,7 @@ pub fn help() -> String {
     FLAGS.iter().for_each(|flag| page += &entry(&format!("  tusuchiy {}", flag.typed()), flag.help));
     page += "\nExit status:\n";
     STATUSES.iter().for_each(|(status, words)| page += &format!("  {status}  {words}\n"));
-    page += &format!("{REFUSED}\n{MANY}\n{PLACE}\n\nExamples:\n");
+    page += &format!("{REFUSED}\n{MANY}\n{PLACE}\n{}\n{PROGRESS}\n\nExamples:\n", limits());
     EXAMPLES.iter().for_each(|(line, words)| page += &format!("  {line}\n      {words}\n"));
     page
 }
@@ -213,7 +219,7 @@ pub fn man() -> String {
     );
     page += ".SH DESCRIPTION\nThe check is proved: a feed is accepted exactly when no rule is broken.\n";
     page += "So is the index: it is accepted exactly when it lists every record once, its ids rising.\n";
-    page += &format!("{}\n{}\n{}\n", roff(REFUSED), roff(MANY), roff(PLACE));
+    page.extend([REFUSED, MANY, PLACE, &limits(), PROGRESS].map(|sentence| roff(sentence) + "\n"));
     let item = |flag: &Flag| format!(".TP\n.B {}\n{}\n", roff(&flag.typed()), roff(flag.help));
     page.extend(VERBS.iter().map(|verb| {
         let heading = format!("\"{} {}\"", verb.name.to_uppercase(), roff(verb.operand));
@@ -226,7 +232,8 @@ pub fn man() -> String {
     page.extend(STATUSES.iter().map(|(status, words)| format!(".TP\n.B {status}\n{}\n", roff(words))));
     page += ".SH EXAMPLES\n";
     page.extend(EXAMPLES.iter().map(|(line, words)| format!(".TP\n.B {}\n{}\n", roff(line), roff(words))));
-    page + ".SH ENVIRONMENT\n.TP\n.B NO_COLOR\nIf set and not empty, no colours unless they are asked for.\n"
+    page += ".SH ENVIRONMENT\n.TP\n.B NO_COLOR\nIf set and not empty, no colours unless they are asked for.\n";
+    page + ".TP\n.B TERM\nIf dumb or not set, neither colours nor progress.\n"
 }
 
 /// What bash completes.

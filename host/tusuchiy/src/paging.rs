@@ -3,10 +3,10 @@
 use crate::feed::{Feed, FILES, MOST_LINES};
 use crate::memory;
 use crate::progress;
-use tusuchiy::{faults, Check, Error, Fault, Place, Profile, Verdict};
+use tusuchiy::{faults, table_sizes, try_check, Error, Fault, Place, Profile, Verdict};
 
-/// The most findings that one call hands out: 40 MiB while it lasts. Each further call is a whole check.
-const MOST_ROOM: usize = 1 << 21;
+/// The most findings that one call hands out: a list of 72 MiB. Each further call is a whole check.
+const MOST_ROOM: usize = 6 << 20;
 
 /// More findings than any feed can have: on a line of files 1 to 6 at most 3, 2, 2, 3, 7 and 1 rules are broken, two of the seven by a profile.
 pub const MOST_FINDINGS: usize = (3 + 2 + 2 + 3 + 7 + 1) * MOST_LINES;
@@ -49,20 +49,22 @@ impl From<Fault> for Refusal {
 #[derive(Clone, Debug, Default, PartialEq, Eq)]
 pub struct Findings(Vec<u32>);
 
-/// How many bits a rule's number and a line take; what is left is the file's.
+/// How many bits a rule's number, a line and a file take.
 const RULE_BITS: u32 = 6;
 const LINE_BITS: u32 = 21;
-const _: () = assert!(MOST_LINES < 1 << LINE_BITS && FILES < 1 << (u32::BITS - LINE_BITS - RULE_BITS));
+const FILE_BITS: u32 = 3;
+const _: () = assert!(MOST_LINES < 1 << LINE_BITS && FILES < 1 << FILE_BITS);
 
 impl Findings {
-    /// Adds what a call handed out.
-    fn add(&mut self, found: &[tusuchiy::Finding]) {
-        let packed = |found: &tusuchiy::Finding| {
-            (found.file.number() as u32) << (LINE_BITS + RULE_BITS)
-                | found.line << RULE_BITS
-                | found.rule.number() as u32
-        };
-        self.0.extend(found.iter().map(packed));
+    /// Adds what a call handed out, three numbers each; none where a number is one that no finding has.
+    fn add(&mut self, numbers: &[i32]) -> Option<()> {
+        let fits = |number: i32, bits: u32| u32::try_from(number).ok().filter(|number| *number < 1 << bits);
+        for found in numbers.chunks_exact(3) {
+            let (file, line, rule) =
+                (fits(found[0], FILE_BITS)?, fits(found[1], LINE_BITS)?, fits(found[2], RULE_BITS)?);
+            self.0.push(file << (LINE_BITS + RULE_BITS) | line << RULE_BITS | rule);
+        }
+        Some(())
     }
 
     pub fn len(&self) -> usize {
@@ -135,52 +137,84 @@ pub fn check(feed: &Feed, page: Option<Page>, profile: Profile) -> Result<Report
 
 /// The same with this room for the first page and for each further one, where no other is asked for.
 fn check_by(feed: &Feed, page: Option<Page>, profile: Profile, rooms: [usize; 2]) -> Result<Report, String> {
-    progress::step(|| format!("checking {} bytes", feed.size()));
-    let mut lent = Check::new(feed.slices()).map_err(|error| error.to_string())?.with_profile(profile);
-    let start = Place(page.map_or([0, 0, 0], |page| page.after));
+    let mut lent = Lent::new(feed, profile)?;
+    let start = page.map_or([0, 0, 0], |page| page.after);
     let asked = page.and_then(|page| page.room);
     let room = asked.map_or(rooms[0], |asked| asked.min(rooms[1]));
-    let first = lent.page(start, room).map_err(|error| error.to_string())?;
-    let (outcome, tables) = match first.verdict {
-        Verdict::Accepted => (Outcome::Accepted, lent.into_tables()),
+    let (outcome, tables) = match lent.call(start, room)? {
+        Verdict::Accepted => (Outcome::Accepted, lent.tables),
         Verdict::Refused(fault) => {
             // The list of faults may take as much memory as the tables did.
             drop(lent);
             (refused(feed, fault, page)?, Default::default())
         }
-        Verdict::Findings { total, .. } => {
-            let most = asked.map_or(total, |asked| asked.min(total));
-            let list = gather(&mut lent, first.findings, most, [room, rooms[1]])?;
+        Verdict::Findings { total, written } => {
+            let list = gather(&mut lent, written, asked.map_or(total, |asked| asked.min(total)), [room, rooms[1]])?;
             if page.is_none() && total != list.len() {
                 return Err(format!("the check handed out {} findings and counts {total}", list.len()));
             }
-            (Outcome::Findings { list, total }, lent.into_tables())
+            (Outcome::Findings { list, total }, lent.tables)
         }
     };
     Ok(Report { outcome, profile, page, tables })
 }
 
-/// The findings of a page that had the first room, and those behind it up to so many in all, by pages of the other.
-fn gather(
-    lent: &mut Check,
-    mut page: Vec<tusuchiy::Finding>,
-    most: usize,
-    [mut room, further]: [usize; 2],
-) -> Result<Findings, String> {
-    let mut list = Findings::default();
-    list.0.try_reserve_exact(most).map_err(|error| error.to_string())?;
-    list.add(&page);
-    // A page that isn't full is the last one.
-    while let Some(last) = page.last().filter(|_| page.len() >= room && list.len() < most) {
-        progress::step(|| format!("checking for more, {} of {most} findings", list.len()));
-        let after = Place::from(*last);
-        // Two pages at a time would take twice the room.
-        drop(page);
-        room = further.min(most - list.len());
-        page = lent.page(after, room).map_err(|error| error.to_string())?.findings;
-        list.add(&page);
+/// What is lent to the check of a feed: tables that are long enough, and a list with room for a page.
+struct Lent<'f> {
+    feed: &'f Feed,
+    profile: Profile,
+    tables: [Vec<i32>; FILES],
+    list: Vec<i32>,
+}
+
+impl<'f> Lent<'f> {
+    fn new(feed: &'f Feed, profile: Profile) -> Result<Self, String> {
+        progress::step(|| format!("checking {} bytes", feed.size()));
+        let mut tables: [Vec<i32>; FILES] = Default::default();
+        for (table, size) in tables.iter_mut().zip(table_sizes(feed.slices())) {
+            *table = zeros(size)?;
+        }
+        Ok(Lent { feed, profile, tables, list: Vec::new() })
     }
-    Ok(list)
+
+    /// One call of the check: the verdict, and in the list the findings after a place, as many as there is room for.
+    fn call(&mut self, after: [i32; 3], room: usize) -> Result<Verdict, String> {
+        // Two lists at a time would take twice the room.
+        self.list = Vec::new();
+        self.list = zeros(3 * room)?;
+        let tables = self.tables.each_mut().map(|table| &mut table[..]);
+        let answer = try_check(self.feed.slices(), tables, &mut self.list, after, self.profile);
+        let answer = answer.map_err(|error| Error::Thread(error).to_string())?;
+        answer.verdict().ok_or_else(|| Error::Unknown(answer).to_string())
+    }
+}
+
+fn zeros(length: usize) -> Result<Vec<i32>, String> {
+    let mut numbers = Vec::new();
+    numbers.try_reserve_exact(length).map_err(|error| error.to_string())?;
+    numbers.resize(length, 0);
+    Ok(numbers)
+}
+
+/// The findings that a call with the first room wrote, and those behind them up to so many in all, by pages of the other.
+fn gather(lent: &mut Lent, written: usize, most: usize, rooms: [usize; 2]) -> Result<Findings, String> {
+    let (mut list, mut written, [mut room, further]) = (Findings::default(), written, rooms);
+    list.0.try_reserve_exact(most).map_err(|error| error.to_string())?;
+    loop {
+        let page = lent.list.get(..3 * written).and_then(|page| list.add(page).map(|()| page));
+        let page = page.ok_or("the check handed out findings that nobody knows")?;
+        // A page that isn't full is the last one.
+        let Some(&[file, line, rule]) = page.last_chunk().filter(|_| written >= room && list.len() < most) else {
+            lent.list = Vec::new();
+            return Ok(list);
+        };
+        progress::step(|| format!("checking for more, {} of {most} findings", list.len()));
+        room = further.min(most - list.len());
+        written = match lent.call([file, line, rule], room)? {
+            Verdict::Findings { written, .. } => written,
+            _ => 0,
+        };
+    }
 }
 
 /// As many faults as the files of a feed have room for: one on each line, on one more without an ending, and one of the whole.
@@ -206,7 +240,6 @@ fn refused(feed: &Feed, fault: Fault, page: Option<Page>) -> Result<Outcome, Str
 mod tests {
     use super::*;
     use crate::feed::{Place, Unread};
-    use tusuchiy::{File, Rule};
 
     /// The feed of document 01.
     fn feed() -> Feed {
@@ -254,11 +287,13 @@ mod tests {
             [1, 6].into_iter().flat_map(|file| [2, MOST_LINES].map(|line| [20, 62].map(|rule| (file, line, rule))));
         let all: Vec<Finding> = numbers.flatten().map(|(file, line, rule)| Finding { file, line, rule }).collect();
         for Finding { file, line, rule } in all.iter().copied() {
-            let (file, rule) = (File::new(file).expect("a file"), Rule::new(rule).expect("a rule"));
-            list.add(&[tusuchiy::Finding { file, line: line as u32, rule }]);
+            assert_eq!(list.add(&[file, line, rule].map(|number| number as i32)), Some(()));
         }
         assert_eq!(list.iter().collect::<Vec<_>>(), all);
         assert_eq!((list.len(), list.get(7), list.get(8)), (8, Some(all[7]), None));
+        for unknown in [[8, 2, 20], [1, 1 << 21, 20], [1, 2, 64], [-1, 2, 20], [1, -2, 20], [1, 2, i32::MIN]] {
+            assert_eq!(list.add(&unknown), None, "{unknown:?}");
+        }
     }
 
     /// The same feed with three faults: a stop without a name, a route that ends the file without a line ending and lacks its type.

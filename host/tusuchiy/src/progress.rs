@@ -66,11 +66,15 @@ impl Drop for Watch {
 
 /// Draws the line at each tick until there is none any more, and takes it away then.
 fn draw_all() {
-    let mut shown = line();
+    let (mut shown, mut last) = (line(), String::new());
     while shown.is_some() {
         shown = OVER.wait_timeout(shown, TICK).unwrap_or_else(PoisonError::into_inner).0;
         if let Some(line) = shown.as_ref().filter(|line| line.hidden == 0) {
-            put(&format!("{WIPE}tusuchiy: {}, {} s", line.step, line.since.elapsed().as_secs()), true);
+            let text = format!("{WIPE}tusuchiy: {}, {} s", line.step, line.since.elapsed().as_secs());
+            if !is_drawn() || text != last {
+                put(&text, true);
+            }
+            last = text;
         }
     }
     wipe();
@@ -116,10 +120,9 @@ fn tell(words: impl FnOnce() -> String, many: bool) {
     }
 }
 
-/// How far a step is, of so many: told now and then, and without a new time.
+/// How far a step is, of so many, without a new time; whoever has millions says it now and then.
 pub fn far(words: &str, done: usize, all: usize) {
-    const OFTEN: usize = 1 << 14;
-    if done % OFTEN == 0 && WATCHED.load(Ordering::Relaxed) {
+    if WATCHED.load(Ordering::Relaxed) {
         if let Some(line) = line().as_mut().filter(|line| !line.many) {
             line.step = format!("{words}, {done} of {all}");
         }

@@ -16,7 +16,7 @@ use tusuchiy::File;
 const MOST_ID_BYTES: usize = 64;
 
 /// What the refusals of a feed are about. What is asked of a file for each of its lines is looked up once: a header, or a whole
-/// file, may have 16 MB, and each of 65,536 lines a fault.
+/// file, may have 128 MiB, and each of a million lines a fault.
 pub struct Reasons<'a> {
     feed: &'a Feed,
     names: Names<'a>,

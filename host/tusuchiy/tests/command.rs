@@ -2,6 +2,7 @@
 
 mod common;
 
+use cases::limits::MOST_LINES;
 use common::json::Json;
 use common::{
     assert_cannot, command, command_after, document, example, json, out, program, run, said, status, Folder, RUNNER,
@@ -515,21 +516,94 @@ fn on_a_terminal(words: &[&str], term: &str, no_color: &str) -> String {
     String::from_utf8_lossy(&output.stdout).into_owned()
 }
 
-/// Colours and progress go to a terminal that can show them, and nothing of it to others or with --quiet.
+/// Colours go to a terminal that can show them, and nothing of it to others or with --quiet.
 #[test]
-fn escapes_go_to_able_terminals_only() {
-    let large = Folder::new("large");
-    let note = "x".repeat(1_100_000);
-    large.put("routes.txt", format!("route_id,route_short_name,route_type,note\nB7,7,3,{note}\n").as_bytes());
-    let check = ["check", large.path()];
-    let quiet = ["check", "--quiet", large.path()];
-    let able = on_a_terminal(&check, "xterm", "");
-    assert!(able.contains("\u{1b}[K") && able.contains("\u{1b}[1;32maccepted"), "{able:?}");
-    let no_color = on_a_terminal(&check, "xterm", "1");
-    assert!(no_color.contains("\u{1b}[K") && !no_color.contains("[1;32m"), "{no_color:?}");
-    assert!(!on_a_terminal(&check, "dumb", "").contains('\u{1b}'));
-    assert!(!on_a_terminal(&quiet, "xterm", "").contains('\u{1b}'));
-    assert!(!on_a_terminal(&quiet, "dumb", "").contains('\u{1b}'));
+fn colours_go_to_able_terminals_only() {
+    let feed = example("feed");
+    let check = ["check", &feed];
+    let quiet = ["check", "--quiet", &feed];
+    assert!(on_a_terminal(&check, "xterm", "").starts_with("\u{1b}[1;32maccepted"));
+    for (words, term, no_color) in [(check, "xterm", "1"), (check, "dumb", "")] {
+        assert!(!on_a_terminal(&words, term, no_color).contains('\u{1b}'), "{term} {no_color}");
+    }
+    for term in ["xterm", "dumb"] {
+        assert!(!on_a_terminal(&quiet, term, "").contains('\u{1b}'), "{term}");
+    }
+}
+
+/// What takes the line of progress away.
+const WIPE: &str = "\r\u{1b}[K";
+
+/// A feed whose check takes a while, with a finding on every line of stop_times.txt.
+fn slow(name: &str) -> Folder {
+    let folder = Folder::new(name);
+    let calls: String =
+        (2..=MOST_LINES).map(|line| format!("T{},8:00:00,8:00:00,HILL,{line}\n", line * 7 % 1000)).collect();
+    let header = "trip_id,arrival_time,departure_time,stop_id,stop_sequence\n";
+    folder.put("stop_times.txt", format!("{header}{calls}").as_bytes());
+    folder
+}
+
+/// Fails unless the line of progress told these steps, each time in its own place, and is gone where all is said.
+fn assert_progress(terminal: &str, steps: &[&str], last: &str) {
+    let lines: Vec<&str> = terminal.split(WIPE).collect();
+    for step in steps {
+        assert!(lines.iter().any(|line| line.starts_with(&format!("tusuchiy: {step}"))), "{step}: {terminal:?}");
+    }
+    let [first, shown @ .., end] = &lines[..] else { panic!("{terminal:?}") };
+    assert_eq!((*first, end.starts_with(last)), ("", true), "{terminal:?}");
+    let in_place = |line: &&str| line.is_empty() || line.starts_with("tusuchiy: ") && line.ends_with(" s");
+    assert!(shown.iter().all(|line| in_place(&line) && !line.contains('\n') && line.len() < 80), "{terminal:?}");
+}
+
+/// One line on a terminal says where the run is, and nothing on any other, nor in a file or a pipe.
+#[test]
+fn progress_is_one_line_on_a_terminal() {
+    let slow = slow("slow");
+    let feed = slow.path();
+    assert_progress(&on_a_terminal(&["check", feed], "xterm", "1"), &["checking "], "findings: ");
+    let colored = on_a_terminal(&["check", feed], "xterm", "");
+    assert!(colored.contains(&format!("{WIPE}\u{1b}[1;31mfindings: ")), "{colored:?}");
+    // The list goes to a file, and the terminal is told how far it is.
+    let to_file = format!("{feed}' --json > '{}", slow.at("list"));
+    assert_progress(&on_a_terminal(&["check", &to_file], "xterm", ""), &["checking ", "writing the list, "], "");
+    let report = ["report", feed, "-o", &slow.at("report.html")];
+    assert_progress(&on_a_terminal(&report, "xterm", "1"), &["checking ", "writing the report"], "findings: ");
+    for (words, term) in [(&["check", feed][..], "dumb"), (&["check", "--quiet", feed], "xterm")] {
+        assert!(!on_a_terminal(words, term, "1").contains('\u{1b}'), "{words:?}");
+    }
+    let output = command().env("TERM", "xterm").args(["check", feed]).output().expect("the command runs");
+    assert_eq!((status(&output), said(&output)), (1, ""));
+    assert!(!out(&output).contains('\u{1b}'));
+}
+
+/// Of many feeds it says how many are done, and is gone wherever a verdict or a complaint is printed.
+#[test]
+fn progress_of_many_feeds() {
+    let slow = slow("slow-many");
+    let (feed, nowhere) = (slow.path(), slow.at("nowhere"));
+    let terminal = on_a_terminal(&["check", "--jobs", "1", feed, &nowhere, feed], "xterm", "1");
+    let lines: Vec<&str> = terminal.split(WIPE).collect();
+    for told in ["tusuchiy: 0 of 3 feeds, ", "tusuchiy: 2 of 3 feeds, "] {
+        assert!(lines.iter().any(|line| line.starts_with(told)), "{told}: {terminal:?}");
+    }
+    let printed: String = lines.into_iter().filter(|line| !line.contains(" of 3 feeds, ")).collect();
+    let [one, complaint, other] = printed.lines().collect::<Vec<_>>()[..] else { panic!("{printed:?}") };
+    assert!(one == other && one.starts_with(&format!("{feed}: findings: ")), "{printed:?}");
+    assert!(complaint.starts_with("tusuchiy: can't read ") && complaint.contains("nowhere: "), "{printed:?}");
+}
+
+/// Whoever ends the command gets the line back empty.
+#[test]
+fn progress_is_gone_after_an_interrupt() {
+    let slow = slow("slow-end");
+    let to_file = format!("{}' --json > '{}", slow.path(), slow.at("list"));
+    let quoted: Vec<String> =
+        program().iter().chain([&"check".to_string(), &to_file]).map(|word| format!("'{word}'")).collect();
+    let mut script = Command::new("script");
+    script.args(["-qec", &format!("timeout --foreground -s INT 1 {}", quoted.join(" ")), "/dev/null"]);
+    let output = script.env("TERM", "xterm").stdin(Stdio::null()).output().expect("script, which Debian always has");
+    assert_progress(&String::from_utf8_lossy(&output.stdout), &[""], "");
 }
 
 #[test]

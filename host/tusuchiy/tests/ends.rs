@@ -2,7 +2,7 @@
 
 mod common;
 
-use common::memory::{own, within, FEED};
+use common::memory::{own, within};
 use common::zip::{feed, write};
 use common::{command, command_after, example, example_files, out, program, run, said, status, Folder, FAULT, RUNNER};
 use std::fs;
@@ -120,7 +120,7 @@ fn many_faults_with_little_memory() {
     assert_windows(&["report", folder.path()], 2, 2_000, 250);
 }
 
-/// One trip of as many lines as there can be, each before the one before it: its picture takes little, and a report no more than a check.
+/// One trip of many lines, each before the one before it: its picture takes little, and a report no more than a check.
 #[test]
 fn a_report_takes_no_more_than_a_check() {
     if emulated() {
@@ -132,7 +132,7 @@ fn a_report_takes_no_more_than_a_check() {
     let calls: String = (1..65_536).map(call).collect();
     let header = "trip_id,arrival_time,departure_time,stop_id,stop_sequence,note\n";
     folder.put("stop_times.txt", format!("{header}{calls}").as_bytes());
-    let limit = (1..FEED / 2).map(|step| own() + 2 * step).find(|most| {
+    let limit = (1..96).map(|step| own() + 2 * step).find(|most| {
         let output = within(*most, &["check", "--json", folder.path()]);
         output.status.code() == Some(1)
     });

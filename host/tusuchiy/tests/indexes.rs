@@ -2,7 +2,7 @@
 
 mod common;
 
-use cases::limits::{MOST_BYTES, MOST_LINES, MOST_OF_VERSION_1};
+use cases::limits::{MOST_LINES, MOST_OF_VERSION_1};
 use common::json::Json;
 use common::zip::{feed, member, write};
 use common::{
@@ -11,6 +11,9 @@ use common::{
 use std::fs;
 use std::os::unix::fs::{symlink, PermissionsExt};
 use std::process::{Command, Stdio};
+
+/// The most bytes that an index may have: 10, and 4 for each record that rule 2 allows.
+const MOST_INDEX_BYTES: usize = 4_194_310;
 
 const INDEXES: [&str; 4] = ["stops.ttx", "routes.ttx", "calendar.ttx", "trips.ttx"];
 
@@ -640,7 +643,7 @@ fn wide_numbers_are_told_whole() {
     }
 }
 
-/// An index of any length is read as far as a file is.
+/// An index of any length is read as far as one may be long.
 #[test]
 fn an_index_that_is_too_long() {
     let folder = Folder::new("index-long");
@@ -653,8 +656,10 @@ fn an_index_that_is_too_long() {
     };
     assert!(hole(b"", 2 << 30).contains("/routes.ttx: refusal 40: "));
     let begins = b"TTX\x01\x00\x02\x01\x00\x01\x00";
-    let told = hole(begins, MOST_BYTES + 9);
-    assert!(told.contains(&format!(": its length is more than {MOST_BYTES}, wanted 10\n")), "{told}");
+    let told = hole(begins, MOST_INDEX_BYTES + 9);
+    assert!(told.contains(&format!(": its length is more than {MOST_INDEX_BYTES}, wanted 10\n")), "{told}");
+    let told = hole(begins, MOST_INDEX_BYTES);
+    assert!(told.contains(&format!(": its length is {MOST_INDEX_BYTES}, wanted 10\n")), "{told}");
     assert!(hole(begins, 1_000_010).contains(": its length is 1000010, wanted 10\n"));
 }
 

@@ -2,8 +2,9 @@
 
 mod common;
 
+use cases::limits::{MOST_BYTES, MOST_LINES};
 use common::json::Json;
-use common::memory::{own, starts, within, FEED};
+use common::memory::{allowed, own, starts, within, BESIDE};
 use common::zip::{feed, member, write, Member};
 use common::{
     assert_cannot, command_after, document, example_files, json, out, program, run, said, status, Folder, NAMES, RUNNER,
@@ -136,7 +137,7 @@ fn a_feed_without_services() {
 fn rules_1_to_3_speak_before_a_missing_file() {
     let folder = Folder::new("missing-large");
     folder.take("stops.txt");
-    folder.put("routes.txt", &[b'\n'; 65_537]);
+    folder.put("routes.txt", &vec![b'\n'; MOST_LINES + 1]);
     let report = document(&[folder.path()]);
     assert_eq!(["number", "file"].map(|name| report.get("refusal").get(name).number()), [2, 2]);
 }
@@ -268,22 +269,33 @@ fn huge(name: &str) -> Folder {
     folder
 }
 
-/// Six files much longer than rule 1 allows, of nothing or of line ends, take no more memory than those that it allows.
+/// The number of the refusal that the document of a feed names, which was made within this memory.
+fn refused_within(most: usize, feed: &str) -> i64 {
+    let output = within(most, &["check", "--json", feed]);
+    assert_eq!(status(&output), 2, "{}", said(&output));
+    json::read(out(&output)).get("refusal").get("number").number()
+}
+
+/// A small feed takes little of the memory that the limits allow, and the README has the figure for others.
+#[test]
+fn a_small_feed_takes_little() {
+    assert!(include_str!("../../../README.md").contains(&format!("twice its bytes and {BESIDE} MiB")));
+    assert!(own() <= allowed(0) - BESIDE + 32, "{} MiB", own());
+}
+
+/// Files as long as rule 1 allows and much longer, of nothing or of line ends, take as much memory as what is read of them, and those of as
+/// many line ends as rule 2 allows what is lent for their lines.
 #[test]
 fn memory_has_a_bound() {
-    assert!(include_str!("../../../README.md").contains(&format!("at most {FEED} MiB for each feed")));
-    let own = own();
     let folder = huge("huge");
-    let output = within(own + FEED, &["check", "--json", folder.path()]);
-    assert_eq!(status(&output), 2, "{}", said(&output));
-    assert!(out(&output).contains("\"number\": 1,"), "{}", out(&output));
-    for length in [16_777_216, 60_000_000] {
-        NAMES.iter().for_each(|name| folder.put(name, &vec![b'\n'; length]));
-        let output = within(own + FEED, &["check", "--json", folder.path()]);
-        assert_eq!(status(&output), 2, "{}", said(&output));
-        let number = if length > 16_777_216 { 1 } else { 2 };
-        assert!(out(&output).contains(&format!("\"number\": {number},")), "{}", out(&output));
+    assert_eq!(refused_within(allowed(6 * MOST_BYTES / 2), folder.path()), 1);
+    NAMES.iter().for_each(|name| folder.put(name, b""));
+    for (number, length) in [(1, MOST_BYTES + 9), (2, MOST_BYTES)] {
+        folder.put("stop_times.txt", &vec![b'\n'; length]);
+        assert_eq!(refused_within(allowed(MOST_BYTES / 2), folder.path()), number);
     }
+    NAMES.iter().for_each(|name| folder.put(name, &vec![b'\n'; MOST_LINES]));
+    assert_eq!(refused_within(allowed(6 * MOST_LINES), folder.path()), 9);
 }
 
 /// From the least with which the program starts up to more than enough: the verdict, or status 3 and why, never an abort.
@@ -306,52 +318,68 @@ fn want_of_memory_is_no_abort() {
     assert!(told > 0, "no run had too little");
 }
 
-/// A readable feed as long as rule 1 allows, with more findings than one call hands out.
+/// A feed that breaks as many rules as there can be on every line, by lines as short as that takes.
+fn all_findings(name: &str) -> (Folder, usize) {
+    let lines = [
+        ("stop_id,stop_name,stop_lat,stop_lon,location_type,parent_station", "A,n,1,2,1,X"),
+        ("route_id,route_type", "R,3"),
+        (
+            "service_id,monday,tuesday,wednesday,thursday,friday,saturday,sunday,start_date,end_date",
+            "W,1,1,1,1,1,1,1,20240102,20240101",
+        ),
+        ("route_id,service_id,trip_id", "X,Y,T"),
+        (
+            "trip_id,arrival_time,departure_time,stop_id,stop_sequence,pickup_type,drop_off_type",
+            "X,61:00:00,60:00:00,A,1,2,3",
+        ),
+        ("service_id,date,exception_type", "W,20240101,1"),
+    ];
+    let folder = Folder::empty(name);
+    let mut bytes = 0;
+    for (name, (header, line)) in NAMES.iter().zip(lines) {
+        let mut file = format!("{header}\n{}", format!("{line}\n").repeat(MOST_LINES - 1));
+        if *name == "stop_times.txt" {
+            // The first line departs after all others arrive, with a smaller sequence.
+            file = file.replacen("X,61:00:00,60:00:00,A,1", "X,62:00:00,62:00:00,A,0", 1);
+        }
+        folder.put(name, file.as_bytes());
+        bytes += file.len();
+    }
+    (folder, bytes)
+}
+
+/// As many findings as there can be: of rules 20, 21 and 22 on each stop, 20 and 25 on each route, 20 and 24 on each service, 20 and 21 on
+/// each trip, 21, 23, 27, 28, 29, 61 and 62 on each line of stop_times.txt, 20 on each date. First lines repeat nothing, and the first of stop_times.txt
+/// has neither 27, 28 nor 29, nor the second 28; the first trip has 30.
 #[test]
 fn memory_has_a_bound_with_many_findings() {
-    let own = own();
-    let folder = Folder::new("long-lines");
-    let line = format!("B7,3,{}\n", "x".repeat(248));
-    let routes = format!("route_id,route_type,note\n{}", line.repeat(65_535));
-    assert!((16_500_000..16_777_216).contains(&routes.len()));
-    folder.put("routes.txt", routes.as_bytes());
-    let output = within(own + FEED, &["check", folder.path()]);
+    let (folder, bytes) = all_findings("all-findings");
+    let total = 17 * (MOST_LINES - 1) - 5 - 4 + 1;
+    let output = within(allowed(bytes), &["check", "--profile", "boards", folder.path()]);
     assert_eq!(status(&output), 1, "{}", said(&output));
-    assert!(out(&output).starts_with("findings: 131069\n"));
+    assert!(out(&output).starts_with(&format!("findings: {total} (profile boards)\n")), "{}", out(&output));
+    let page = folder.at("report.html");
+    let output = within(allowed(bytes), &["report", "--profile", "boards", "-o", &page, folder.path()]);
+    assert_eq!(status(&output), 1, "{}", said(&output));
+    // A page that a browser opens, and what it leaves out is said.
+    assert!(fs::metadata(&page).expect("a page").len() < 100_000_000);
+    let text = fs::read_to_string(&page).expect("a page");
+    // Twelve rules share 100,000, and one of them is broken once.
+    assert!(text.contains(">Listed here are 91,664 of 17,825,767 findings, the first 8,333 of each rule."), "{total}");
 }
 
-/// The same with the profile for boards, whose three rules each line of stop_times breaks beside 21, 26 and 28; only the first has no line before
-/// it with its sequence. The two trips have no line at all.
-#[test]
-fn memory_has_a_bound_with_many_findings_for_boards() {
-    let own = own();
-    let folder = Folder::new("long-calls");
-    let line = format!("X,,60:00:00,nowhere,9,2,3,{}\n", "x".repeat(228));
-    let header = "trip_id,arrival_time,departure_time,stop_id,stop_sequence,pickup_type,drop_off_type,note\n";
-    let calls = format!("{header}{}", line.repeat(65_535));
-    assert!((16_500_000..16_777_216).contains(&calls.len()));
-    folder.put("stop_times.txt", calls.as_bytes());
-    let output = within(own + FEED, &["check", "--profile", "boards", folder.path()]);
-    assert_eq!(status(&output), 1, "{}", said(&output));
-    assert!(out(&output).starts_with("findings: 393211 (profile boards)\n"), "{}", out(&output));
-    let output = within(own + FEED, &["report", "--profile", "boards", "-o", &folder.at("report.html"), folder.path()]);
-    assert_eq!(status(&output), 1, "{}", said(&output));
-}
-
-/// Six files as long as rule 1 allows, with as many faults as there can be: one on each line, on one more without an ending,
-/// and that it has none.
+/// As many faults as there can be: one on each line, on one more without an ending, and that it has none.
 #[test]
 fn memory_has_a_bound_with_many_faults() {
-    let own = own();
     let folder = Folder::empty("many-faults");
-    let line = format!("\t{}\n", "x".repeat(252));
-    let file = format!("{}\t", line.repeat(65_536));
-    assert!((16_500_000..16_777_216).contains(&file.len()));
+    let file = format!("{}\t", "\t\n".repeat(MOST_LINES));
     NAMES.iter().for_each(|name| folder.put(name, file.as_bytes()));
-    let output = within(own + FEED, &["check", folder.path()]);
+    let total = 6 * (MOST_LINES + 2);
+    let most = allowed(6 * file.len());
+    let output = within(most, &["check", folder.path()]);
     assert_eq!(status(&output), 2, "{}", said(&output));
-    assert!(out(&output).contains("\nfaults: 393228, this one among them\n"), "{}", out(&output));
-    let output = within(own + FEED, &["report", "-o", &folder.at("report.html"), folder.path()]);
+    assert!(out(&output).contains(&format!("\nfaults: {total}, this one among them\n")), "{}", out(&output));
+    let output = within(most, &["report", "-o", &folder.at("report.html"), folder.path()]);
     assert_eq!(status(&output), 2, "{}", said(&output));
 }
 
@@ -421,10 +449,9 @@ fn missing_members_are_refused() {
     assert_eq!(document(&[&zip]).get("refusal").get("about").get("missing").list().len(), 6);
 }
 
-/// A megabyte that unpacks to a thousand: refusal 1, with the memory of any other feed, and nothing on disk.
+/// A megabyte that unpacks to a thousand: refusal 1, with the memory of a file that is as long as one may be, and nothing on disk.
 #[test]
 fn a_bomb_is_refusal_1() {
-    let own = own();
     let mut members = feed("", &example_files("feed"));
     (members[4].bytes, members[4].times) = (vec![0; 1 << 20], 1000);
     let (_folder, zip) = zipped("bomb", &members);
@@ -432,12 +459,64 @@ fn a_bomb_is_refusal_1() {
     let temporary = Folder::empty("bomb-temporary");
     // An emulator has files of its own.
     let no_files = if std::env::var_os(RUNNER).is_some() { "" } else { "-f 0" };
-    let mut command = command_after(&format!("ulimit -v {} {no_files}", (own + FEED) << 10));
+    let mut command = command_after(&format!("ulimit -v {} {no_files}", allowed(MOST_BYTES / 2) << 10));
     let output = command.env("TMPDIR", &temporary.0).current_dir(&temporary.0).args(["check", "--json", &zip]).output();
     let output = output.expect("the command runs");
     assert_eq!(status(&output), 2, "{}", said(&output));
     assert!(out(&output).contains("\"number\": 1, "), "{}", out(&output));
     assert_eq!(fs::read_dir(&temporary.0).expect("a folder").count(), 0);
+}
+
+/// Members that claim as much as a file may have and hold a few bytes, or claim a few and hold as much: the zip file is damaged, and memory is
+/// asked for neither.
+#[test]
+fn claims_get_no_memory() {
+    let few = |member: &mut Member| (member.bytes, member.claimed) = (vec![0; 100], Some(MOST_BYTES));
+    let many = |member: &mut Member| {
+        (member.bytes, member.times, member.claimed) = (vec![0; 1 << 20], MOST_BYTES >> 20, Some(100));
+    };
+    for change in [&few as &dyn Fn(&mut Member), &many] {
+        let mut members = feed("", &example_files("feed"));
+        members.iter_mut().for_each(change);
+        let (_folder, zip) = zipped("claims", &members);
+        let output = within(allowed(0) - BESIDE + 48, &["check", &zip]);
+        assert_eq!((status(&output), out(&output)), (3, ""));
+        assert_eq!(
+            said(&output).matches(".txt: it is damaged: size or checksum is wrong\n").count(),
+            6,
+            "{}",
+            said(&output)
+        );
+    }
+}
+
+/// Files at the limits, one byte and one line past them, are judged as in a folder.
+#[test]
+fn zip_files_at_the_limits() {
+    let header = b"trip_id,arrival_time,departure_time,stop_id,stop_sequence,note\n";
+    let calls = |lines: usize| [&header[..], &b"B7-out-1,,,HILL,1,x\n".repeat(lines - 1)].concat();
+    let long = |length: usize| {
+        let mut file = [&header[..], b"B7-out-1,,,HILL,1,"].concat();
+        file.resize(length - 1, b'x');
+        file.push(b'\n');
+        file
+    };
+    let cases = [
+        (calls(MOST_LINES), "findings", None),
+        (calls(MOST_LINES + 1), "refused", Some(2)),
+        (long(MOST_BYTES), "findings", None),
+        (long(MOST_BYTES + 1), "refused", Some(1)),
+    ];
+    for (calls, verdict, number) in cases {
+        let mut members = feed("", &example_files("feed"));
+        members[4].bytes = calls;
+        let (_folder, zip) = zipped("limits", &members);
+        let output = run(&["check", "--json", "--room", "0", &zip]);
+        let report = json::read(out(&output));
+        let told = Some(report.get("refusal")).filter(|refusal| **refusal != Json::Null);
+        let told = told.map(|refusal| refusal.get("number").number());
+        assert_eq!((report.get("verdict").text(), told), (verdict, number));
+    }
 }
 
 /// Zip files that say two things at once, or can't be read: status 3, and why.

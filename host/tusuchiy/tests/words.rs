@@ -3,6 +3,7 @@
 mod common;
 
 use cases::generate;
+use cases::limits::{MOST_BYTES, MOST_LINES};
 use common::json::Json;
 use common::{document, example_files, json, out, run, status, Folder};
 use model::columns::{Column, COLUMNS};
@@ -577,10 +578,10 @@ fn words_about_refusals() {
     let id = "i".repeat(65);
     let wanted = format!("2:11: route_id \"{id}\" has 65 bytes");
     assert_eq!(words_of("routes.txt", &format!("{header}{id},1,3\n")), [wanted]);
-    let many = "\n".repeat(65_537);
-    assert_eq!(words_of("routes.txt", &many), ["0:2: it has 65537 lines"]);
-    let long = "\n".repeat(16_777_217);
-    assert_eq!(words_of("routes.txt", &long), ["0:1: it has more than 16777216 bytes"]);
+    let many = "\n".repeat(MOST_LINES + 1);
+    assert_eq!(words_of("routes.txt", &many), [format!("0:2: it has {} lines", MOST_LINES + 1)]);
+    let long = "x".repeat(MOST_BYTES + 1);
+    assert_eq!(words_of("routes.txt", &long), [format!("0:1: it has more than {MOST_BYTES} bytes")]);
 }
 
 /// The words about stops that lack a name or a coordinate, which some types may.

@@ -1,8 +1,9 @@
 //! What a refusal of an index is about, from the bytes of the index and the ids of its file.
 
+use super::MOST_BYTES;
 use crate::columns::IDS;
 use crate::facts::{repeated_id, shown, shown_text, value_at, About};
-use crate::feed::{Feed, MOST_BYTES};
+use crate::feed::Feed;
 use crate::memory;
 use crate::names::Names;
 use crate::value::{Members, Value};
@@ -132,7 +133,7 @@ fn other_size(feed: &Feed, file: File, bytes: &[u8]) -> About {
 fn in_words(part: &Part) -> String {
     let Part { names: [name, _], found, wanted } = part;
     let found = match *name {
-        // No more of a file is read than rule 1 allows, and one byte.
+        // No more is read than an index may have, and one byte.
         "length" if *found > MOST_BYTES => format!("more than {MOST_BYTES}"),
         _ => found.to_string(),
     };

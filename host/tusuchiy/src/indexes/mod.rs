@@ -6,7 +6,7 @@ mod text;
 
 use crate::arguments::Form;
 use crate::facts::About;
-use crate::feed::Feed;
+use crate::feed::{Feed, MOST_LINES};
 use crate::folder::{Files, Folder};
 use crate::memory;
 use crate::paging::Refusal;
@@ -19,6 +19,9 @@ use std::os::unix::ffi::OsStrExt;
 use std::path::{Path, PathBuf};
 use tusuchiy::index::{self, Refused, Version, FILES};
 use tusuchiy::{Error, File};
+
+/// The most bytes that an index may have: one of as many records as rule 2 allows.
+const MOST_BYTES: usize = Version::of(MOST_LINES - 1).length(MOST_LINES - 1);
 
 /// What `index` is asked for.
 #[derive(Debug, Default, PartialEq, Eq)]
@@ -101,8 +104,8 @@ fn judge_all(asked: &Asked, feed: &Feed, folder: Option<&Folder>) -> Result<[Out
 fn read(asked: &Asked, feed: &Feed, folder: Option<&Folder>) -> Result<Files<{ FILES.len() }>, String> {
     let names = FILES.map(name);
     match folder {
-        None => zip::read_beside(&feed.place, names),
-        Some(folder) => folder.read_files(names, asked.follow_links),
+        None => zip::read_beside(&feed.place, names, MOST_BYTES),
+        Some(folder) => folder.read_files(names, MOST_BYTES, asked.follow_links),
     }
 }
 

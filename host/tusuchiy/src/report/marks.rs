@@ -38,7 +38,7 @@ pub enum Piece {
     Comma,
 }
 
-/// A line longer than this is split once, however many findings name it: one of 16 MB may be named by 65,535.
+/// A line longer than this is split once, however many findings name it: one of 100 MB may be named by 100,000.
 const LONG: usize = 4096;
 
 /// Where the fields of a line stand.

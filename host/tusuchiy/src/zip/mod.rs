@@ -31,7 +31,7 @@ pub fn read(path: &Path) -> Result<Feed, String> {
     let in_it = |error: io::Error| cannot(path, &error.to_string());
     let folder = choose(&members).map_err(in_it)?;
     let found = sought(&members, folder, NAMES);
-    let files = unpack_all(path, &file, found)?;
+    let files = unpack_all(path, &file, found, MOST_BYTES)?;
     // With a file that is too long the feed is refused, whatever the other members are.
     if !files.iter().flatten().any(|file| file.len() > MOST_BYTES) {
         pass_others(&file, &members, found).map_err(in_it)?;
@@ -42,10 +42,14 @@ pub fn read(path: &Path) -> Result<Feed, String> {
     Ok(Feed::new(Place { path: path.to_path_buf(), is_zip: true, folder: folder.to_vec() }, files, unread))
 }
 
-/// Reads the files of these names that stand beside a feed's.
-pub fn read_beside<const COUNT: usize>(place: &Place, names: [&str; COUNT]) -> Result<Files<COUNT>, String> {
+/// Reads the files of these names that stand beside a feed's, each at most one byte past so many.
+pub fn read_beside<const COUNT: usize>(
+    place: &Place,
+    names: [&str; COUNT],
+    most: usize,
+) -> Result<Files<COUNT>, String> {
     let (file, members) = opened(&place.path)?;
-    unpack_all(&place.path, &file, sought(&members, &place.folder, names))
+    unpack_all(&place.path, &file, sought(&members, &place.folder, names), most)
 }
 
 fn opened(path: &Path) -> Result<(File, Vec<Member>), String> {
@@ -80,21 +84,26 @@ fn sought<'a, const COUNT: usize>(members: &'a [Member], folder: &[u8], names: [
 }
 
 /// The bytes of members, or of each that can't be read what is in the way, a line each.
-fn unpack_all<const COUNT: usize>(path: &Path, file: &File, found: Found<COUNT>) -> Result<Files<COUNT>, String> {
+fn unpack_all<const COUNT: usize>(
+    path: &Path,
+    file: &File,
+    found: Found<COUNT>,
+    most: usize,
+) -> Result<Files<COUNT>, String> {
     all(found.map(|member| {
         member.inspect(|member| progress::step(|| format!("unpacking {}", safe::name(names::parts(&member.name).1))));
-        let bytes = member.map(|member| unpack(file, member).map_err(|error| named(&member.name, &error)));
+        let bytes = member.map(|member| unpack(file, member, most).map_err(|error| named(&member.name, &error)));
         bytes.transpose().map_err(|error| cannot(path, &error.to_string()))
     }))
 }
 
-/// The bytes of a member, at most one past what rule 1 allows, or past the size that it claims. A longer one is refused, whatever follows.
-fn unpack(file: &File, member: &Member) -> io::Result<Vec<u8>> {
+/// The bytes of a member, at most one past so many, or past the size that it claims. A longer one is refused, whatever follows.
+fn unpack(file: &File, member: &Member, most: usize) -> io::Result<Vec<u8>> {
     let mut data = Data::of(file, member);
     // No memory is asked for that nothing in the file could fill.
     let expected = member.size.min(member.packed.saturating_mul(MOST_FROM_BYTE));
-    let bytes = limited(data.by_ref().take(member.size + 1), expected + 1)?;
-    if member.size.min(bytes.len() as u64) <= MOST_BYTES as u64 {
+    let bytes = limited(data.by_ref().take(member.size + 1), expected + 1, most)?;
+    if member.size.min(bytes.len() as u64) <= most as u64 {
         data.check()?;
     }
     Ok(bytes)

@@ -19,12 +19,25 @@ pub struct Member {
     pub wrong: u32,
     /// How often the bytes stand in it, one after the other.
     pub times: usize,
+    /// The size that both records say; none is the true one.
+    pub claimed: Option<usize>,
 }
 
 /// A member with these bytes, deflated.
 pub fn member(name: &str, bytes: &[u8]) -> Member {
     let (name, local_name, bytes) = (name.into(), name.into(), bytes.to_vec());
-    Member { name, local_name, bytes, packed: true, flags: 0, mode: 0o100_644, large: false, wrong: 0, times: 1 }
+    Member {
+        name,
+        local_name,
+        bytes,
+        packed: true,
+        flags: 0,
+        mode: 0o100_644,
+        large: false,
+        wrong: 0,
+        times: 1,
+        claimed: None,
+    }
 }
 
 /// The six files of a feed in a folder.
@@ -35,8 +48,8 @@ pub fn feed(folder: &str, files: &[Vec<u8>; 6]) -> Vec<Member> {
 /// A member's two records and its data, which begin at this place. Bytes that stand in it many times are packed but once: each time ends between
 /// two bytes, and an empty last block follows.
 fn made(member: &Member, place: usize) -> zips::Member {
-    let Member { name, local_name, bytes, packed, flags, mode, large, wrong, times } = member;
-    let size = (bytes.len() * times) as u64;
+    let Member { name, local_name, bytes, packed, flags, mode, large, wrong, times, claimed } = member;
+    let size = claimed.unwrap_or(bytes.len() * times) as u64;
     let data = if *packed { [unfinished(bytes).repeat(*times), vec![3, 0]].concat() } else { bytes.clone() };
     let short = |number: u64| if *large { u32::MAX } else { number as u32 };
     let record = Record {
