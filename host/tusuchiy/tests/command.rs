@@ -551,7 +551,7 @@ fn assert_progress(terminal: &str, steps: &[&str], last: &str) {
         assert!(lines.iter().any(|line| line.starts_with(&format!("tusuchiy: {step}"))), "{step}: {terminal:?}");
     }
     let [first, shown @ .., end] = &lines[..] else { panic!("{terminal:?}") };
-    assert_eq!((*first, end.starts_with(last)), ("", true), "{terminal:?}");
+    assert!(first.is_empty() && end.starts_with(last) && end.is_empty() == last.is_empty(), "{terminal:?}");
     let in_place = |line: &&str| line.is_empty() || line.starts_with("tusuchiy: ") && line.ends_with(" s");
     assert!(shown.iter().all(|line| in_place(&line) && !line.contains('\n') && line.len() < 80), "{terminal:?}");
 }
