@@ -2,11 +2,13 @@
 //! or by processes that have one thread each ([`crate::processes`]).
 
 use crate::index::versions;
-use crate::large::{self, families::FAMILIES};
+use crate::large;
+use crate::large::families::FAMILIES;
+use crate::large::limits::{around_16_bits, at_the_limits, AROUND, FEEDS};
 use crate::listing::mend::{mendable, only_what_was_hidden, rounds};
 use crate::{by_model, difference, edges, generate, index, listing, vectors, Case, Outcome};
 use model::faults::{faults, Fault};
-use model::{Files, Profile};
+use model::{Answer, Files, Profile};
 use std::{panic, thread};
 
 /// So many cases, each compared by its number.
@@ -99,6 +101,39 @@ pub fn on_the_benchmarks_feeds(check: Checks, sizes: &[(usize, usize)]) -> Compa
     })
 }
 
+/// Feeds at the limits of rules 1 and 2, and over them, where everything stays as lent; with the profile and without it by turns.
+pub fn on_feeds_at_the_limits(check: Checks) -> Comparison<'static> {
+    Comparison::new(FEEDS, move |number| {
+        let (files, refusal) = at_the_limits(number);
+        let profile = [Profile::Plain, Profile::Boards][number % 2];
+        let tables = large::tables(&files, 5);
+        let name = format!("feed {number} at a limit");
+        let case = Case { name, files, tables, list: vec![3; 10], profile, ..Case::default() };
+        let wanted = match refusal {
+            None => by_model(&case),
+            Some([number, file]) => {
+                let answer = Answer::Refused { number, file, line: 0, column: 0 };
+                Outcome { answer, tables: case.tables.clone(), list: case.list.clone() }
+            }
+        };
+        assert_eq!(wanted.answer == Answer::Accepted, refusal.is_none(), "{}", case.name);
+        with_outcome(check, &case, &wanted);
+    })
+}
+
+/// Feeds of as many lines and records as 16 bits count, and more; one list has room for all findings, the others for a few.
+pub fn on_feeds_around_16_bits(check: Checks) -> Comparison<'static> {
+    Comparison::new(AROUND, move |number| {
+        let files = around_16_bits(number);
+        let list = vec![3; if number == 1 { 1 << 18 } else { 10 }];
+        let tables = large::tables(&files, 5);
+        with_model(
+            check,
+            &Case { name: format!("feed {number} around 16 bits"), files, tables, list, ..Case::default() },
+        );
+    })
+}
+
 /// What writer and reader make of a call about an index.
 pub type Indexes = fn(&index::Case) -> index::Outcome;
 
@@ -128,6 +163,14 @@ pub fn on_both_versions_of_an_index(indexes: Indexes) -> Comparison<'static> {
     })
 }
 
+/// Files at the limits of rules 1 and 2, and over them.
+pub fn on_indexes_at_the_limits(indexes: Indexes) -> Comparison<'static> {
+    Comparison::new(index::large::CALLS, move |number| {
+        let (case, wanted) = index::large::at_the_limits(number);
+        with_index_outcome(indexes, &case, &wanted);
+    })
+}
+
 pub fn on_generated_calls_about_an_index(indexes: Indexes, seeds: usize) -> Comparison<'static> {
     Comparison::new(seeds, move |seed| {
         let case = index::generate::case(seed as u64);
@@ -148,6 +191,13 @@ pub fn with_list_outcome(lists: Lists, case: &listing::Case, wanted: &listing::O
 /// Fails where the outcome of a call for the list of faults is not the model's.
 pub fn with_model_list(lists: Lists, case: &listing::Case) {
     with_list_outcome(lists, case, &listing::by_model(case));
+}
+
+/// Files at the limits of rules 1 and 2, and over them.
+pub fn on_faults_at_the_limits(lists: Lists) -> Comparison<'static> {
+    Comparison::new(listing::edges::AT_THE_LIMITS, move |number| {
+        with_model_list(lists, &listing::edges::at_the_limits(5, number));
+    })
 }
 
 pub fn on_every_edge_case_about_faults(lists: Lists) -> Comparison<'static> {
@@ -189,7 +239,6 @@ pub fn on_mended_feeds(lists: Lists, readable: fn(&Files) -> bool) -> Comparison
 #[cfg(test)]
 mod tests {
     use super::*;
-    use model::Answer;
     use std::sync::Mutex;
 
     #[test]

@@ -2,6 +2,7 @@
 
 pub mod edges;
 pub mod generate;
+pub mod large;
 pub mod versions;
 
 use crate::edges::BASE;

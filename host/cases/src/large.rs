@@ -3,6 +3,7 @@
 mod dated;
 mod draft;
 pub mod families;
+pub mod limits;
 mod plan;
 
 use crate::limits::MOST_LINES;

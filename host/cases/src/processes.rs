@@ -14,7 +14,7 @@ pub type Test = (&'static str, fn() -> Comparison<'static>);
 /// The word before a process's number, the number of processes and the names of its tests.
 const PART: &str = "--part";
 
-/// The stack of a process in KiB, whatever the caller's: four times what the archive asks for.
+/// The stack of a process in KiB, whatever the caller's: three times what the archive asks for, and more.
 const STACK: usize = 16 << 10;
 
 /// The most processes: each holds all cases.

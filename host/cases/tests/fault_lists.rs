@@ -56,9 +56,8 @@ fn the_list_beside_the_verdict() {
     vectors::customers().iter().for_each(|(case, _)| beside_the_verdict(&case.name, &case.files));
     cases::edges::cases().iter().step_by(4).for_each(|case| beside_the_verdict(&case.name, &case.files));
     cases().iter().for_each(|case| beside_the_verdict(&case.name, &case.files));
-    // The others have the same files.
-    let numbers = [0, 1, 2, 3, 4, 7, 8, 10].into_iter();
-    numbers.for_each(|number| beside_the_verdict("at a limit", &at_the_limits(4, number).files));
+    // Over the limits, and then at that of lines.
+    [0, 2, 4, 8].iter().for_each(|&number| beside_the_verdict("at a limit", &at_the_limits(4, number).files));
     (0..SEEDS).map(case).for_each(|case| beside_the_verdict(&case.name, &case.files));
 }
 
@@ -197,8 +196,7 @@ fn a_second_round_where_a_header_is_refused() {
 #[test]
 fn a_third_round_where_a_file_is_too_large() {
     let [good, bad] = broken_everywhere(&[9]);
-    let sizes: [(u8, usize, &[u8]); 4] =
-        [(b'\n', MOST_LINES, b""), (b'\n', MOST_LINES, b"x"), (b'x', MOST_BYTES, b""), (b'x', MOST_BYTES, b"\n")];
+    let sizes: [(u8, usize, &[u8]); 3] = [(b'\n', MOST_LINES, b""), (b'\n', MOST_LINES, b"x"), (b'x', MOST_BYTES, b"")];
     for (byte, most, end) in sizes {
         let file = [&bad[5][..], &vec![byte; most], end].concat();
         let whole = faults(&feed(&[(5, &file)])).len();

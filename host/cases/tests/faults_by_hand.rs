@@ -240,10 +240,8 @@ fn files_that_are_too_large() {
     let filled = |byte: u8, count: usize, end: &[u8]| [&lines[..], &vec![byte; count], end].concat();
     let behind = |numbers: &[i32]| numbers.iter().map(|&number| [6, 0, number, 0]).collect::<Vec<Fault>>();
     listed(&[(6, &filled(b'x', MOST_BYTES, b"\n"))], &behind(&[1]));
-    listed(&[(6, &filled(b'x', MOST_BYTES, b""))], &behind(&[1, 4]));
     listed(&[(6, &filled(b'\n', MOST_LINES, b""))], &behind(&[2]));
     listed(&[(6, &filled(b'\n', MOST_LINES, b"\t"))], &behind(&[2, 4]));
-    listed(&[(6, &filled(b'\n', MOST_BYTES, b""))], &behind(&[1, 2]));
     listed(&[(6, &filled(b'\n', MOST_BYTES, b"\t"))], &behind(&[1, 2, 4]));
     // Files before and behind it speak as they would alone.
     let wanted = [[1, 1, 9, 0], [2, 0, 2, 0], [3, 0, 4, 0], [4, 1, 9, 0], [4, 2, 6, 0]];
@@ -257,7 +255,6 @@ fn files_that_are_as_large_as_they_may_be() {
     let behind = MOST_LINES as i32 + 1;
     listed(&[(6, &good)], &[]);
     listed(&[(6, &[&good[..], b"W,2024070,2"].concat())], &[[6, 0, 4, 0], [6, behind, 13, 2]]);
-    listed(&[(6, &[&good[..], b"\r"].concat())], &[[6, 0, 4, 0], [6, behind, 5, 0]]);
     listed(&[(6, &[&good[..], b"\n"].concat())], &[[6, 0, 2, 0]]);
     let mut long = of_lines(&[DATES, b"W", b"W"]);
     long.resize(MOST_BYTES, b'x');

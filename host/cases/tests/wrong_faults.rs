@@ -2,7 +2,7 @@
 
 use cases::edges::MARK;
 use cases::limits::{MOST_BYTES, MOST_LINES};
-use cases::listing::edges::{at_the_limits, cases, AT_THE_LIMITS};
+use cases::listing::edges::{at_the_limits, cases, OVER_THE_LIMITS};
 use cases::listing::generate::case;
 use cases::listing::{by_model, Case, Outcome, NUMBERS};
 use cases::readings::Missed;
@@ -433,7 +433,7 @@ fn by_the_edge_cases() {
 
 #[test]
 fn by_large_files() {
-    told_apart((0..AT_THE_LIMITS).map(|number| at_the_limits(5, number)), &[&LIMITS], &[]);
+    told_apart((0..=OVER_THE_LIMITS).map(|number| at_the_limits(5, number)), &[&LIMITS], &[]);
 }
 
 #[test]

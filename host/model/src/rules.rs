@@ -2,7 +2,7 @@
 
 use crate::reading::{Feed, Row};
 use crate::records::{First, Named, KEYS};
-use crate::trips::{by_trip, first_call, last_call, leaves_after, repeats};
+use crate::trips::{by_trip, first_call, last_call, leaves_after, repeats, Calls};
 use crate::{Profile, FILES};
 
 /// A finding: file, line, rule.
@@ -11,13 +11,14 @@ pub type Finding = [i32; 3];
 /// All findings of a feed, ordered by file, line and rule.
 pub fn findings(feed: &Feed, profile: Profile) -> Vec<Finding> {
     let named = Named::new(feed);
+    let calls = by_trip(feed);
     let mut findings = Vec::new();
     repeated_keys(feed, &mut findings);
     stops(feed, &named, &mut findings);
     routes_and_services(feed, &mut findings);
-    trips(feed, &named, &mut findings);
+    trips(feed, &named, &calls, &mut findings);
     stop_times(feed, &named, &mut findings);
-    trip_order(feed, &mut findings);
+    trip_order(&calls, &mut findings);
     if profile == Profile::Boards {
         boards(feed, &mut findings);
     }
@@ -92,8 +93,7 @@ fn timed(row: Row) -> bool {
 }
 
 /// Rules 21, 30 and 31 on trips; 30 and 31 concern only the first line of each trip_id.
-fn trips(feed: &Feed, named: &Named, findings: &mut Vec<Finding>) {
-    let trips = by_trip(feed);
+fn trips(feed: &Feed, named: &Named, calls: &Calls, findings: &mut Vec<Finding>) {
     for (place, row) in feed[3].rows().enumerate() {
         let no_route = unresolved(row, "route_id", &[&named.routes]);
         let no_service = unresolved(row, "service_id", &[&named.services, &named.dated_services]);
@@ -101,7 +101,7 @@ fn trips(feed: &Feed, named: &Named, findings: &mut Vec<Finding>) {
         if named.trips.record(row.value("trip_id")) != place + 1 {
             continue;
         }
-        let own = trips.get(row.value("trip_id")).map_or(&[][..], |calls| calls);
+        let own = calls.get(row.value("trip_id")).map_or(&[][..], |calls| calls);
         add(findings, 4, place, 30, own.len() < 2);
         let ends = [first_call(own), last_call(own)];
         add(findings, 4, place, 31, ends.into_iter().flatten().any(|end| !end.timed()));
@@ -126,9 +126,9 @@ fn stop_times(feed: &Feed, named: &Named, findings: &mut Vec<Finding>) {
 }
 
 /// Rules 28 and 29 on stop_times: each line beside all lines of the same trip, wherever they stand.
-fn trip_order(feed: &Feed, findings: &mut Vec<Finding>) {
-    for calls in by_trip(feed).into_values() {
-        for call in &calls {
+fn trip_order(calls: &Calls, findings: &mut Vec<Finding>) {
+    for calls in calls.values() {
+        for call in calls {
             add(findings, 5, call.place, 28, calls.iter().any(|other| repeats(call, other)));
             add(findings, 5, call.place, 29, calls.iter().any(|other| leaves_after(other, call)));
         }

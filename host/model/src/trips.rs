@@ -26,9 +26,12 @@ impl Call {
     }
 }
 
-/// The lines of each trip_id value, in file order, whether trips.txt has it or not.
-pub fn by_trip(feed: &Feed) -> HashMap<&[u8], Vec<Call>> {
-    let mut trips: HashMap<&[u8], Vec<Call>> = HashMap::new();
+/// The lines of each trip_id value, in file order.
+pub type Calls<'a> = HashMap<&'a [u8], Vec<Call>>;
+
+/// The lines of all trips, whether trips.txt has them or not.
+pub fn by_trip(feed: &Feed) -> Calls<'_> {
+    let mut trips = Calls::new();
     for (place, row) in feed[4].rows().enumerate() {
         trips.entry(row.value("trip_id")).or_default().push(Call::new(place, row));
     }

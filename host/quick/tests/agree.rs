@@ -1,10 +1,12 @@
 //! The hash-map check against the customer's cases and the model: the answer, all tables and the list, whole.
 
-use cases::large::{self, families::FAMILIES};
-use cases::limits::{MOST_BYTES, MOST_LINES};
+use cases::large;
+use cases::large::families::FAMILIES;
+use cases::large::limits::{self, FEEDS};
+use cases::limits::MOST_LINES;
 use cases::{agree, Case, Outcome};
 use model::fields::line_ends;
-use model::{Answer, Files, Profile};
+use model::{Answer, Profile};
 
 /// How many seeds it is compared with the model on.
 const SEEDS: usize = 4000;
@@ -38,7 +40,7 @@ fn on_the_benchmarks_feeds() {
 }
 
 /// The families that come near a limit: with the longest lines, and the latest times and dates.
-const NEAR_A_LIMIT: [&str; 5] = ["prefix", "three-bytes", "mixed-bytes", "one-trip", "dates-rise"];
+const NEAR_A_LIMIT: [&str; 4] = ["prefix", "mixed-bytes", "one-trip", "dates-rise"];
 
 /// The model would take too long here, so this only shows that none is refused; those near a limit have as many lines as there may be.
 #[test]
@@ -52,24 +54,18 @@ fn the_benchmarks_large_feeds_can_be_read() {
     }
 }
 
-/// A feed with tables of just the length that rule 3 asks for, compared with the model.
-fn compare_files(name: &str, files: Files) {
-    let tables = large::tables(&files, -1);
-    let case = Case { name: name.to_string(), files, tables, list: vec![-1; 10], ..Case::default() };
-    agree::with_model(by_quick, &case);
+#[test]
+fn on_feeds_around_16_bits() {
+    agree::on_feeds_around_16_bits(by_quick).on_threads();
 }
 
-/// Rules 1 and 2, at the limit and one over it.
+/// Rules 1 and 2, at their limits and over them: the answer alone, since tables of smaller feeds are compared.
 #[test]
 fn at_the_limits() {
-    for over in [0, 1] {
-        compare_files("all lines of stop_times", large::feed(MOST_LINES - 1 + over));
-        compare_files("all lines of calendar_dates", large::dates(MOST_LINES + over));
-        let mut files = large::feed(2);
-        // The name of the last stop fills the file up.
-        let more = MOST_BYTES + over - files[0].len();
-        let last = files[0].iter().rposition(|&byte| byte == b'S').expect("a stop's name");
-        files[0].splice(last..last, vec![b'x'; more]);
-        compare_files("all bytes of stops", files);
+    for number in 0..FEEDS {
+        let (files, refusal) = limits::at_the_limits(number);
+        let refused = |[number, file]: [usize; 2]| Answer::Refused { number, file, line: 0, column: 0 };
+        let answer = quick::check(&files, &mut large::tables(&files, 0), &mut [], [0, 0, 0], Profile::Plain);
+        assert_eq!(answer, refusal.map_or(Answer::Accepted, refused), "feed {number}");
     }
 }

@@ -3,8 +3,9 @@
 
 use cases::agree::{self, Comparison};
 use cases::boards::HEADER;
+use cases::limits::{MOST_BYTES, MOST_LINES};
 use cases::{by_model, generate, processes, Case, Outcome};
-use model::{Files, Profile};
+use model::Profile;
 use std::process::ExitCode;
 use tusuchiy::{Answer, Verdict};
 
@@ -15,8 +16,8 @@ fn main() -> ExitCode {
         ("on_generated_feeds", || agree::on_generated_feeds(by_archive, SEEDS)),
         ("on_the_benchmarks_feeds", || agree::on_the_benchmarks_feeds(by_archive, &[(64, 12_000), (1024, 12_000)])),
         ("pages_join", pages_join),
-        ("rule_2_at_its_edge_and_over_it", rule_2_at_its_edge_and_over_it),
-        ("rule_1_at_its_edge_and_over_it", rule_1_at_its_edge_and_over_it),
+        ("on_feeds_around_16_bits", || agree::on_feeds_around_16_bits(by_archive)),
+        ("on_feeds_at_the_limits", || agree::on_feeds_at_the_limits(by_archive)),
         ("the_limits_speak_in_their_order", || Comparison::once(the_limits_speak_in_their_order)),
         ("as_many_findings_as_there_can_be", as_many_findings_as_there_can_be),
     ])
@@ -127,54 +128,24 @@ fn joined(case: &Case, room: usize, total: usize) -> Vec<i32> {
     panic!("pages without end")
 }
 
-/// A large feed for the limits: stop_times has this many LF bytes.
-fn case_of_lines(lines: usize) -> Case {
-    case_of(format!("{lines} lines"), cases::large::feed(lines - 1))
-}
-
-/// A large feed whose calendar_dates has this many LF bytes.
-fn case_of_dates(lines: usize) -> Case {
-    case_of(format!("{lines} lines of calendar_dates"), cases::large::dates(lines))
-}
-
-/// A feed with tables of the exact length.
-fn case_of(name: String, files: Files) -> Case {
-    let tables = cases::large::tables(&files, 5);
-    Case { name, files, tables, list: vec![3; 10], ..Case::default() }
-}
-
-/// The feeds at the limit, then those over it, which this rule refuses, each without the profile and with it.
-fn rule_2_at_its_edge_and_over_it() -> Comparison<'static> {
-    Comparison::new(8, |number| {
-        let (file, of) = [(5, case_of_lines as fn(usize) -> Case), (6, case_of_dates)][number % 2];
-        let profile = [Profile::Plain, Profile::Boards][number / 2 % 2];
-        if number < 4 {
-            accepted(&Case { profile, ..of(65_536) });
-        } else {
-            refused(&Case { profile, ..of(65_537) }, 2, file);
-        }
-    })
-}
-
-/// At the limit of lines nearly every line of stop_times breaks six rules, three of them the profile's: the whole list with the profile and
-/// without it, and the end of the former.
+/// Nearly every line of stop_times breaks six rules, three of them the profile's: the whole list with the profile and without it, and the end of
+/// the former.
 fn as_many_findings_as_there_can_be() -> Comparison<'static> {
-    let asked = [(Profile::Boards, [0, 0, 0]), (Profile::Plain, [0, 0, 0]), (Profile::Boards, [5, 65_530, 61])];
+    // A quarter of what there may be; then as many as had been enough before E9.
+    let asked = [
+        (MOST_LINES / 4, Profile::Boards, [0, 0, 0]),
+        (65_536, Profile::Plain, [0, 0, 0]),
+        (65_536, Profile::Boards, [5, 65_530, 61]),
+    ];
     Comparison::new(asked.len(), move |number| {
-        let (profile, start) = asked[number];
-        let mut files = cases::large::feed(65_535);
-        let lines = (0..65_535).map(|line| format!("nowhere-{},,48:00:00,stop-0,1,2,3,1\n", line / 20));
-        files[4] = (HEADER.to_string() + &lines.collect::<String>()).into_bytes();
-        let case = case_of(format!("65,536 lines from {start:?}, {profile:?}"), files);
-        agree::with_model(by_archive, &Case { list: vec![3; 1_200_000], start, profile, ..case });
+        let (lines, profile, start) = asked[number];
+        let mut files = cases::large::feed(lines - 1);
+        let calls = (0..lines - 1).map(|line| format!("nowhere-{},,48:00:00,stop-0,1,2,3,1\n", line / 20));
+        files[4] = (HEADER.to_string() + &calls.collect::<String>()).into_bytes();
+        let tables = cases::large::tables(&files, 5);
+        let name = format!("{lines} lines from {start:?}, {profile:?}");
+        agree::with_model(by_archive, &Case { name, files, tables, list: vec![3; lines * 19], start, profile });
     })
-}
-
-/// Fails unless the archive accepts a feed, as the model does.
-fn accepted(case: &Case) {
-    let wanted = by_model(case);
-    assert_eq!(wanted.answer, model::Answer::Accepted, "{}", case.name);
-    compare(case, &wanted);
 }
 
 /// Fails unless a rule of whole files refuses a feed, and everything stays as lent.
@@ -183,52 +154,16 @@ fn refused(case: &Case, number: usize, file: usize) {
     compare(case, &Outcome { answer, tables: case.tables.clone(), list: case.list.clone() });
 }
 
-/// A small feed whose file is filled up to this many bytes by an unread column of its last line.
-fn case_of_bytes(file: usize, bytes: usize) -> Case {
-    let mut files = cases::large::feed(2);
-    let header_end = files[file].iter().position(|&byte| byte == b'\n').expect("a header");
-    files[file].splice(header_end..header_end, *b",note");
-    let lines = files[file].iter().filter(|&&byte| byte == b'\n').count();
-    let mut seen = 0;
-    let mut filled: Vec<u8> = Vec::new();
-    let have = files[file].len() + lines - 1;
-    for &byte in &files[file] {
-        seen += usize::from(byte == b'\n');
-        if byte == b'\n' && seen > 1 {
-            filled.push(b',');
-            filled.extend(vec![b'x'; if seen == lines { bytes - have } else { 0 }]);
-        }
-        filled.push(byte);
-    }
-    files[file] = filled;
-    case_of(format!("file {} of {bytes} bytes", file + 1), files)
-}
-
-/// The feeds at the limit, then those over it, which this rule refuses.
-fn rule_1_at_its_edge_and_over_it() -> Comparison<'static> {
-    Comparison::new(6, |number| {
-        let file = [0, 4, 5][number % 3];
-        let bytes = if number < 3 { 16_777_216 } else { 16_777_217 };
-        let case = case_of_bytes(file, bytes);
-        assert_eq!(case.files[file].len(), bytes);
-        if number < 3 {
-            accepted(&case);
-        } else {
-            refused(&case, 1, file + 1);
-        }
-    })
-}
-
 /// Rule 1 speaks before rule 2 whatever the files, and rule 2 before 3 and 4.
 fn the_limits_speak_in_their_order() {
     let mut case = Case { list: vec![1; 7], ..Case::default() };
-    case.files[0] = vec![b'\n'; 65_537];
-    case.files[4] = vec![b'x'; 16_777_217];
+    case.files[0] = vec![b'\n'; MOST_LINES + 1];
+    case.files[4] = vec![b'x'; MOST_BYTES + 1];
     refused(&case, 1, 5);
     case.files[4].pop();
     refused(&case, 2, 1);
     case.files[0].pop();
     refused(&case, 3, 1);
-    case.tables[0] = vec![9; 65_536 * 7];
+    case.tables[0] = vec![9; MOST_LINES * 7];
     refused(&case, 4, 2);
 }

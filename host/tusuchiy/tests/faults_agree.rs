@@ -3,7 +3,8 @@
 
 use cases::agree::{self, with_model_list, Comparison};
 use cases::large::tables;
-use cases::listing::edges::{at_the_limits, several};
+use cases::limits::MOST_LINES;
+use cases::listing::edges::several;
 use cases::listing::generate::pair;
 use cases::listing::mend::{only_what_was_hidden, rounds};
 use cases::listing::{whole, Case, Outcome};
@@ -20,7 +21,7 @@ fn main() -> ExitCode {
     processes::main(&[
         ("on_every_edge_case", || agree::on_every_edge_case_about_faults(by_archive)),
         ("on_generated_calls", || agree::on_generated_calls_about_faults(by_archive, SEEDS)),
-        ("at_the_limits_and_over_them", at_the_limits_and_over_them),
+        ("at_the_limits_and_over_them", || agree::on_faults_at_the_limits(by_archive)),
         ("pages_join", || Comparison::new(61, pages_join)),
         ("as_many_faults_as_there_can_be", || Comparison::once(as_many_faults_as_there_can_be)),
         ("the_list_beside_the_verdict", || Comparison::new(400, the_list_beside_the_verdict)),
@@ -62,12 +63,6 @@ fn readable(files: &Files) -> bool {
     refusal(files).is_none()
 }
 
-/// Rules 1 and 2 at their edges and over them, and the line behind as many as there may be.
-fn at_the_limits_and_over_them() -> Comparison<'static> {
-    let cases = at_the_limits(5);
-    Comparison::new(cases.len(), move |place| with_model_list(by_archive, &cases[place]))
-}
-
 /// Pages of one and of two faults, each from the last one handed out, join to the whole list.
 fn pages_join(seed: usize) {
     // The last one is no seed.
@@ -97,9 +92,10 @@ fn joined(files: &Files, room: usize, total: usize) -> Vec<i32> {
 /// Every line of a file with as many as there may be has a fault: below a refused header those behind the last LF, below a good one all.
 fn as_many_faults_as_there_can_be() {
     let mut files = several();
-    files[4] = vec![b'\n'; 65_536];
+    files[4] = vec![b'\n'; MOST_LINES];
     files[4].push(b'\t');
-    let mut case = Case { name: "65,537 lines".to_string(), files, list: vec![5; 4 * 65_600 + 3], start: [0, 0, 0] };
+    let list = vec![5; 4 * (MOST_LINES + 64) + 3];
+    let mut case = Case { name: "all lines of stop_times".to_string(), files, list, start: [0, 0, 0] };
     with_model_list(by_archive, &case);
     case.files[4].splice(0..0, *b"trip_id,arrival_time,departure_time,stop_id,stop_sequence");
     with_model_list(by_archive, &case);

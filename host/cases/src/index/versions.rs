@@ -1,7 +1,7 @@
 //! Both versions of an index: beside few records, and on both sides of as many as version 1 counts.
 
 use super::edges::{check, file, write, PLAIN, THREE};
-use super::{by_model_of, sorted, Case, Outcome};
+use super::{by_model, by_model_of, sorted, Case, Outcome};
 use crate::limits::{MOST_LINES, MOST_OF_VERSION_1};
 use model::index::{bytes, Version, VERSION_1, VERSION_2};
 
@@ -53,14 +53,18 @@ struct Many {
     records: Vec<usize>,
 }
 
-/// An id of its own for each record that rule 2 allows.
-pub fn scattered(record: usize) -> String {
-    format!("{:x}", record * 40_503 % MOST_LINES)
+/// A number of its own below as many as there may be lines for each record, in no order.
+pub(super) fn scattered(record: usize) -> usize {
+    record * 40_503 % MOST_LINES
 }
 
 impl Many {
-    fn new(number: usize, count: usize) -> Self {
-        let ids: Vec<Vec<u8>> = (1..=count).map(|record| scattered(record).into_bytes()).collect();
+    /// With the first record's id for the last one's too, if that is asked for.
+    fn new(number: usize, count: usize, repeated: bool) -> Self {
+        let mut ids: Vec<Vec<u8>> = (1..=count).map(|record| format!("{:x}", scattered(record)).into_bytes()).collect();
+        if repeated {
+            ids[count - 1] = ids[0].clone();
+        }
         let mut records: Vec<usize> = (1..=count).collect();
         records.sort_by_key(|record| &ids[record - 1]);
         Many { number, file: file(number, &PLAIN, &ids), ids, records }
@@ -101,11 +105,14 @@ impl Many {
     }
 }
 
-/// What is lent beside many records: a buffer of so many bytes more than the need or less, or an index.
+/// What is lent beside many records: a buffer of so many bytes more than the need or less, or, where an id repeats, of the need; or an index,
+/// or the right one where the last line is broken.
 #[derive(Clone, Copy)]
 enum Lent {
     Buffer(isize),
+    BufferInVain,
     Index(Index),
+    IndexInVain,
 }
 
 type Index = fn(&Many) -> Vec<u8>;
@@ -116,13 +123,16 @@ fn swap_last(records: &mut [usize]) {
     records.swap(last - 1, last);
 }
 
-/// What every count is tried with: buffers that are short by a byte and long, the right index, the other version's, and half of version 2.
-const AT_EVERY_COUNT: [Lent; 5] = [
+/// What every count is tried with: buffers that are short by a byte, long and in vain; the right index, the other version's, one of which half is
+/// version 2's, and one in vain.
+const AT_EVERY_COUNT: [Lent; 7] = [
     Lent::Buffer(-1),
     Lent::Buffer(3),
+    Lent::BufferInVain,
     Lent::Index(Many::right),
     Lent::Index(Many::other),
     Lent::Index(|many| half_wide(many.number, &many.records)[many.records.len() % 2].clone()),
+    Lent::IndexInVain,
 ];
 
 const COUNTS: [usize; 4] = [MOST_OF_VERSION_1 - 1, MOST_OF_VERSION_1, MOST_OF_VERSION_1 + 1, WIDE];
@@ -198,14 +208,22 @@ pub fn beside_many(place: usize) -> (Case, Outcome) {
     let everywhere = COUNTS.into_iter().flat_map(|count| AT_EVERY_COUNT.map(|lent| (count, lent)));
     let narrow = NARROW.map(|index| (MOST_OF_VERSION_1, Lent::Index(index)));
     let wide = WIDE_HEADS.iter().chain(&WIDE_RECORDS).map(|&index| (WIDE, Lent::Index(index)));
-    let (count, lent) = everywhere.chain(narrow).chain(wide).nth(place).expect("a place below the number of calls");
-    let many = Many::new(1 + count % 4, count);
+    let (count, lent) = wide.chain(narrow).chain(everywhere).nth(place).expect("a place below the number of calls");
+    let many = Many::new(1 + count % 4, count, matches!(lent, Lent::BufferInVain));
+    let need = Version::of(count).length(count);
     let case = match lent {
-        Lent::Buffer(more) => write(many.number as i32, &many.file, many.right().len().saturating_add_signed(more)),
+        Lent::Buffer(more) => write(many.number as i32, &many.file, need.saturating_add_signed(more)),
+        Lent::BufferInVain => write(many.number as i32, &many.file, need),
         Lent::Index(index) => check(many.number as i32, &many.file, index(&many)),
+        Lent::IndexInVain => {
+            check(many.number as i32, &[&many.file[..many.file.len() - 1], b"\t\n"].concat(), many.right())
+        }
     };
     let case = Case { name: format!("call {place} about {count} records"), ..case };
-    let outcome = by_model_of(&case, &many.ids);
+    let outcome = match lent {
+        Lent::IndexInVain => by_model(&case),
+        _ => by_model_of(&case, &many.ids),
+    };
     (case, outcome)
 }
 
@@ -218,7 +236,7 @@ mod tests {
     #[test]
     fn the_ids_of_many_records_are_those_of_their_file() {
         for number in 1..=4 {
-            let many = Many::new(number, WIDE);
+            let many = Many::new(number, WIDE, false);
             assert!(ids(number as i32, &many.file).as_ref() == Ok(&many.ids), "file {number}");
         }
     }

@@ -197,7 +197,8 @@ fn pages() -> Vec<Case> {
     cases
 }
 
-/// How many calls are at the limits.
+/// How many calls are over the limits, and how many at them or over them.
+pub const OVER_THE_LIMITS: usize = 7;
 pub const AT_THE_LIMITS: usize = 11;
 
 /// A file over the limit of rule 1 or 2, or then at it, with faults on its lines, ended or not, beside one with a fault of its own. Each is
