@@ -24,7 +24,7 @@
 use crate::check::{lines, zeros, Place};
 use crate::kinds::{Fault, FILES};
 use crate::pages::{Pages, PAGE};
-use crate::{on_stack, Error, THREAD_STACK};
+use crate::{on_large_stack, Error};
 use std::io;
 
 /// How many numbers a fault has in the list: file, line, number, column.
@@ -78,7 +78,7 @@ mod archive {
 /// One call: files, the list of faults, four numbers each, and the place (file, line, number) after which they are handed out.
 /// It runs in a thread with a stack of its own size, whatever the caller's; an error says that there is no such thread.
 pub fn try_faults(files: [&[u8]; FILES], list: &mut [i32], after: [i32; 3]) -> io::Result<FaultsAnswer> {
-    on_stack(THREAD_STACK, move || archive::faults(files, list, after))
+    on_large_stack(move || archive::faults(files, list, after))
 }
 
 /// The same for those who can't go on without a thread.
@@ -164,7 +164,7 @@ impl std::iter::FusedIterator for Faults<'_> {}
 mod tests {
     use super::*;
     use crate::tests::in_header;
-    use crate::STACK;
+    use crate::{on_stack, STACK};
     use cases::limits::MOST_LINES;
 
     #[test]

@@ -13,7 +13,7 @@
 
 use crate::check::{lines, zeros};
 use crate::kinds::{Fault, File, IndexRefusal};
-use crate::{on_stack, Error, THREAD_STACK};
+use crate::{on_large_stack, Error};
 use std::fmt::{self, Display, Formatter};
 use std::io;
 
@@ -121,12 +121,12 @@ mod archive {
 /// Writes the index of a file to the beginning of a buffer; the rest of it, and all of it where there is a refusal, stays as
 /// it was. The call runs in a thread with a stack of its own size; an error says that there is no such thread.
 pub fn try_write(file_number: i32, file: &[u8], buffer: &mut [u8]) -> io::Result<IndexAnswer> {
-    on_stack(THREAD_STACK, move || archive::write(file_number, file, buffer))
+    on_large_stack(move || archive::write(file_number, file, buffer))
 }
 
 /// Is this the index of a file? The call runs as that of [`try_write`].
 pub fn try_check(file_number: i32, file: &[u8], index: &[u8]) -> io::Result<IndexAnswer> {
-    on_stack(THREAD_STACK, move || archive::check(file_number, file, index))
+    on_large_stack(move || archive::check(file_number, file, index))
 }
 
 /// [`try_write`] for those who can't go on without a thread.
@@ -198,7 +198,7 @@ pub fn judge(file: File, bytes: &[u8], index: &[u8]) -> Result<Result<(), Refuse
 mod tests {
     use super::*;
     use crate::tests::in_header;
-    use crate::STACK;
+    use crate::{on_stack, STACK};
     use cases::limits::MOST_LINES;
 
     #[test]

@@ -67,7 +67,9 @@ pub use faults::{try_faults, Faults, FaultsAnswer};
 pub use index::IndexAnswer;
 pub use kinds::{Fault, File, Finding, IndexRefusal, Profile, Refusal, Rule, FILES};
 
+use std::cell::Cell;
 use std::io;
+use std::panic;
 use std::thread;
 
 /// How much stack a call of one of the archive's functions uses at most, in bytes; include/tusuchiy.h has the same figure.
@@ -179,7 +181,7 @@ pub fn try_check(
     after: [i32; 3],
     profile: Profile,
 ) -> io::Result<Answer> {
-    on_stack(THREAD_STACK, move || archive::check(files, tables, list, after, profile))
+    on_large_stack(move || archive::check(files, tables, list, after, profile))
 }
 
 /// The same on the stack that the caller has, in no other thread. [`STACK`] bytes of it must be left: where there are fewer the system may end
@@ -194,12 +196,39 @@ pub fn check_here(
     archive::check(files, tables, list, after, profile)
 }
 
-/// Makes a call in a thread with so much stack.
-fn on_stack<Told: Send>(size: usize, call: impl FnOnce() -> Told + Send) -> io::Result<Told> {
+/// Does some work in a thread with so much stack.
+fn on_stack<Done: Send>(size: usize, work: impl FnOnce() -> Done + Send) -> io::Result<Done> {
     thread::scope(|scope| {
-        let thread = thread::Builder::new().stack_size(size).spawn_scoped(scope, call)?;
-        thread.join().map_err(|_| io::Error::other("the check's thread died"))
+        let thread = thread::Builder::new().stack_size(size).spawn_scoped(scope, work)?;
+        Ok(thread.join().unwrap_or_else(|fault| panic::resume_unwind(fault)))
     })
+}
+
+thread_local! {
+    /// Was this thread made with a stack that is large enough for every call?
+    static IS_LARGE: Cell<bool> = const { Cell::new(false) };
+}
+
+/// Does work that makes several calls in one thread, whose stack is large enough for each: none of them makes a thread of its own, as calls elsewhere do.
+/// Besides a call's stack the work has [`STACK`] bytes.
+///
+/// # Errors
+///
+/// Where the system gives no thread.
+pub fn in_one_thread<Done: Send>(work: impl FnOnce() -> Done + Send) -> io::Result<Done> {
+    on_stack(THREAD_STACK, || {
+        IS_LARGE.set(true);
+        work()
+    })
+}
+
+/// Makes a call where the stack is large enough.
+fn on_large_stack<Told: Send>(call: impl FnOnce() -> Told + Send) -> io::Result<Told> {
+    if IS_LARGE.get() {
+        Ok(call())
+    } else {
+        in_one_thread(call)
+    }
 }
 
 /// The same for those who can't go on without a thread.
@@ -221,6 +250,7 @@ pub fn check(
 mod tests {
     use super::*;
     use cases::large;
+    use std::hint::black_box;
 
     /// One call on no more stack than the header asks for; the verdict.
     fn verdict_on_stack(files: [&[u8]; FILES]) -> Option<Verdict> {
@@ -248,6 +278,35 @@ mod tests {
             assert_eq!(lines, Some(MOST_LINES));
             assert_eq!(verdict_on_stack(files.each_ref().map(|file| &file[..])), Some(Verdict::Accepted));
         }
+    }
+
+    /// A call makes a thread of its own, but none in a thread that was made for several calls.
+    #[test]
+    fn one_thread_for_several_calls() {
+        let here = || thread::current().id();
+        let of_call = || on_large_stack(here).expect("a thread");
+        assert_ne!(of_call(), here());
+        let [work, first, second] = in_one_thread(|| [here(), of_call(), of_call()]).expect("a thread");
+        assert_eq!([work, work], [first, second]);
+        assert!(work != here() && of_call() != here(), "the thread that waits is none of these");
+    }
+
+    /// Calls work under as much stack of the work's own as it may have.
+    fn under_a_large_frame<Done>(work: impl FnOnce() -> Done) -> Done {
+        let frame = black_box([1_u8; STACK - (64 << 10)]);
+        let done = work();
+        black_box(&frame);
+        done
+    }
+
+    /// More records than version 1 lists: the index's calls then use the most stack of all.
+    #[test]
+    fn the_work_has_stack_besides() {
+        let lines: String = (0..70_000).map(|number| format!("{number:05},3\n")).collect();
+        let routes = format!("route_id,route_type\n{lines}").into_bytes();
+        let work =
+            || under_a_large_frame(|| index::of(File::Routes, &routes).expect("an answer").map(|index| index.len()));
+        assert_eq!(in_one_thread(work).expect("a thread"), Ok(280_010));
     }
 
     /// The header has the version of this package.

@@ -131,7 +131,8 @@ pub struct Report {
 pub fn check(feed: &Feed, page: Option<Page>, profile: Profile) -> Result<Report, String> {
     // Most feeds have less than a finding a line, so that one call is enough.
     let room = (1..=FILES).map(|file| feed.line_count(file)).sum::<usize>().clamp(1, MOST_ROOM);
-    memory::told(|| check_by(feed, page, profile, [room, MOST_ROOM]))
+    let check = || memory::told(|| check_by(feed, page, profile, [room, MOST_ROOM]));
+    tusuchiy::in_one_thread(check).map_err(|error| Error::Thread(error).to_string())?
 }
 
 /// The same with this room for the first page and for each further one, where no other is asked for.

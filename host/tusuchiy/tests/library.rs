@@ -314,7 +314,7 @@ fn with_routes(routes: &[u8]) -> (Option<Verdict>, i32, [i32; 4], [IndexAnswer; 
     files[1] = routes;
     let mut tables = table_sizes(files).map(|size| vec![0; size]);
     let lent = tables.each_mut().map(|table| &mut table[..]);
-    let verdict = tusuchiy::check(files, lent, &mut [0; 30], [0, 0, 0], Profile::Boards).verdict();
+    let verdict = tusuchiy::check(files, lent, &mut [0; 30], [0, 0, 0], Profile::Plain).verdict();
     let mut list = [0; 4];
     let faults = faults::faults(files, &mut list, [0, 0, 0]);
     let mut index = vec![77; index::length(routes)];

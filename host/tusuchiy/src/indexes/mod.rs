@@ -18,7 +18,7 @@ use std::io::Write;
 use std::os::unix::ffi::OsStrExt;
 use std::path::{Path, PathBuf};
 use tusuchiy::index::{self, Refused, Version, FILES};
-use tusuchiy::File;
+use tusuchiy::{Error, File};
 
 /// The most bytes that an index may have: one of as many records as rule 2 allows.
 const MOST_BYTES: usize = Version::of(MOST_LINES - 1).length(MOST_LINES - 1);
@@ -63,7 +63,8 @@ fn done<'a>(asked: &'a Asked, path: &Path) -> Result<Done<'a>, String> {
     let output = asked.output.as_ref().map(|folder| must_be_folder(folder)).transpose()?;
     let feed = source::read(path, asked.follow_links)?;
     let folder = output.as_ref().or(feed.opened.as_ref());
-    let outcomes = if asked.check { judge_all(asked, &feed, folder)? } else { write_all(&feed, folder)? };
+    let all = || if asked.check { judge_all(asked, &feed, folder) } else { write_all(&feed, folder) };
+    let outcomes = tusuchiy::in_one_thread(all).map_err(|error| Error::Thread(error).to_string())??;
     Ok(Done { asked, feed, outcomes })
 }
 
