@@ -11,7 +11,7 @@ extern "C" {
 #endif
 
 /* The version of the check, as a text and as a number: 10000 for each major, 100 for each minor step. */
-#define TUSUCHIY_VERSION "0.9.1"
+#define TUSUCHIY_VERSION "0.10.0"
 #define TUSUCHIY_VERSION_NUMBER 901
 
 /* The six files have numbers: in `file` of an answer, of a finding and of a fault. */

@@ -183,37 +183,37 @@ fn returns() {
 }
 
 // As many line endings as rule 2 allows.
-fn most() -> [u8; 65536] {
-    [10; 65536]
+fn most() -> [u8; 1048576] {
+    [10; 1048576]
 }
 
 // One more.
-fn too_many() -> [u8; 65537] {
-    [10; 65537]
+fn too_many() -> [u8; 1048577] {
+    [10; 1048577]
 }
 
 // The most, and a tab after them.
-fn most_and_tab() -> [u8; 65537] {
+fn most_and_tab() -> [u8; 1048577] {
     let mut s = too_many();
-    s[65536] = 9;
+    s[1048576] = 9;
     s
 }
 
 // One more than rule 2 allows, and a tab after them.
-fn too_many_and_tab() -> [u8; 65538] {
-    let mut s = [10; 65538];
-    s[65537] = 9;
+fn too_many_and_tab() -> [u8; 1048578] {
+    let mut s = [10; 1048578];
+    s[1048577] = 9;
     s
 }
 
 // Rule 2 hides every line of its file, and of no other.
 fn limits() {
-    routes(b"65,536 lines", &most());
-    routes(b"65,536 lines, unended", &most_and_tab());
-    routes(b"65,537 lines", &too_many());
-    routes(b"65,537 lines, unended", &too_many_and_tab());
+    routes(b"1,048,576 lines", &most());
+    routes(b"1,048,576 lines, unended", &most_and_tab());
+    routes(b"1,048,577 lines", &too_many());
+    routes(b"1,048,577 lines, unended", &too_many_and_tab());
     feed(
-        b"65,537 lines, and a file after",
+        b"1,048,577 lines, and a file after",
         &too_many(),
         b"route_id,route_type\nR,x\n",
         &CALENDAR,

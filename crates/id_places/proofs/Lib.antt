@@ -1,4 +1,5 @@
 -- The laws that the proofs apply, and that the crates above cite.
+pub mod Zeros
 pub mod Ends
 pub mod Starts
 pub mod Walk

@@ -8,6 +8,7 @@ ghost use Rattle.meaning.specs.Promises.{noLine};
 ghost use Rattle.meaning.specs.Refusals.{maxBytes};
 ghost use Rattle.ordering.specs.Cells.{cellAt};
 ghost use Rattle.id_places.specs.Places.{startIn, Ids};
+use meaning::FEW_LINES;
 use meaning::MAX_LINES;
 use text::LineStep;
 
@@ -16,6 +17,13 @@ pub fn blank() -> [i32; MAX_LINES]
     ensures { λ r. ⌜ ((k : ℕ) → getD r k (pos 0) ≡ pos 0) ⌝ }
 {
     [0i32; MAX_LINES]
+}
+
+// The same for a file of few lines.
+pub fn blank_few() -> [i32; FEW_LINES]
+    ensures { λ r. ⌜ ((k : ℕ) → getD r k (pos 0) ≡ pos 0) ⌝ }
+{
+    [0i32; FEW_LINES]
 }
 
 // The lines from `at` on, the first of which has record 1, by their fields in column p; how many records there are.

@@ -1,4 +1,4 @@
-// Writes what the index's writer and reader answer, and what the writer leaves in its buffer; the file `stdout` has what document 02's E4 says.
+// Writes what the index's writer and reader answer, and what the writer leaves in its buffer; the file `stdout` has what document 02's E4 and E9 say.
 use indexes::IndexAnswer;
 use libc::STDOUT_FILENO;
 
@@ -237,6 +237,156 @@ fn entries() {
     );
 }
 
+// The reader takes versions 1 and 2, and version 2 of no three records.
+fn versions() {
+    judge(
+        b"version 0",
+        b"TTX\x00\x00\x02\x03\x00\x02\x00\x03\x00\x01\x00",
+    );
+    judge(
+        b"version 3",
+        b"TTX\x03\x00\x02\x03\x00\x02\x00\x03\x00\x01\x00",
+    );
+    judge(
+        b"version 2, whole",
+        b"TTX\x02\x00\x02\x03\x00\x00\x00\x02\x00\x00\x00\x03\x00\x00\x00\x01\x00\x00\x00",
+    );
+    judge(b"version 2, 8 bytes", b"TTX\x02\x00\x02\x03\x00");
+    judge(b"version 2, 9 bytes", b"TTX\x02\x00\x02\x03\x00\x00");
+    read(
+        b"version 2, no records",
+        2,
+        b"route_id,route_type\n",
+        b"TTX\x02\x00\x02\x00\x00\x00\x00",
+    );
+}
+
+// As many routes as have an index of version 2 at the least.
+const MANY: usize = 65536;
+
+// What stands before them.
+const HEADER: [u8; 20] = *b"route_id,route_type\n";
+
+// One of the letters a to p.
+fn letter(n: usize) -> u8 {
+    (97 + n % 16) as u8
+}
+
+// Byte p of the route whose id is number k in four letters.
+fn route_byte(k: usize, p: usize) -> u8 {
+    if p == 0 {
+        return letter(k / 4096);
+    }
+    if p == 1 {
+        return letter(k / 256);
+    }
+    if p == 2 {
+        return letter(k / 16);
+    }
+    if p == 3 {
+        return letter(k);
+    }
+    if p == 4 {
+        return b',';
+    }
+    if p == 5 {
+        return b'3';
+    }
+    b'\n'
+}
+
+// Byte i of the file: the ids fall.
+fn file_byte(i: usize) -> u8 {
+    if i < 20 {
+        return HEADER[i];
+    }
+    route_byte(MANY - 1 - (i - 20) / 7 % MANY, (i - 20) % 7)
+}
+
+// The files' bytes and the buffers for their indexes, as lent.
+fn blank_few() -> [u8; 458765] {
+    [LENT; 458765]
+}
+
+fn blank_many() -> [u8; 458772] {
+    [LENT; 458772]
+}
+
+fn room_of_few() -> [u8; 131078] {
+    [LENT; 131078]
+}
+
+fn room_of_many() -> [u8; 262154] {
+    [LENT; 262154]
+}
+
+fn short_room() -> [u8; 262153] {
+    [LENT; 262153]
+}
+
+// 65,535 routes.
+fn few_routes() -> [u8; 458765] {
+    let mut s = blank_few();
+    let mut i: usize = 0;
+    while i < 458765 {
+        s[i] = file_byte(i);
+        i += 1;
+    }
+    s
+}
+
+// 65,536 routes.
+fn many_routes() -> [u8; 458772] {
+    let mut s = blank_many();
+    let mut i: usize = 0;
+    while i < 458772 {
+        s[i] = file_byte(i);
+        i += 1;
+    }
+    s
+}
+
+// Writes how bytes begin, and how they end.
+fn tell_ends(b: &[u8]) {
+    if b.len() < 18 {
+        return;
+    }
+    tell_bytes(&b[..18]);
+    say(b" ..");
+    tell_bytes(&b[b.len() - 8..]);
+}
+
+// The writer: its answer, and how the buffer that it leaves begins and ends.
+fn write_long(name: &[u8], s: &[u8], b: &mut [u8]) {
+    say(name);
+    tell_answer(index_write::write_index(2, s, b));
+    say(b":");
+    tell_ends(b);
+    say(b"\n");
+}
+
+// Version 1 up to 65,535 records.
+fn first() {
+    let s = few_routes();
+    let mut b = room_of_few();
+    write_long(b"65,535 routes", &s, &mut b);
+    read(b"  read back", 2, &s, &b);
+    read(b"  beside 65,536", 2, &many_routes(), &b);
+}
+
+// Version 2 above.
+fn second() {
+    let s = many_routes();
+    let mut short = short_room();
+    write_long(b"65,536 routes, a byte short", &s, &mut short);
+    let mut b = room_of_many();
+    write_long(b"65,536 routes", &s, &mut b);
+    read(b"  read back", 2, &s, &b);
+    read(b"  beside 65,535", 2, &few_routes(), &b);
+    b[8] = 0;
+    read(b"  its count in 16 bits", 2, &s, &b);
+}
+
 // The reader answers of the file first.
 fn files() {
     read(b"of file 0", 0, &ROUTES, b"");
@@ -257,5 +407,8 @@ fn main() {
     refusals();
     heads();
     entries();
+    versions();
+    first();
+    second();
     files();
 }

@@ -1,8 +1,9 @@
 -- The tests of an index, one by one, as the reader makes them.
 use mathlib.Core.Path.{_≡_, refl, sym, ap, _∙_}
-use mathlib.Core.Bool.{Bool, true, false, not}
+use mathlib.Core.Bool.{Bool, true, false, cond, not, _||_}
 use mathlib.Core.List.{List}
-use Prim.Native.Nat.{ℕ, _+_, _*_, _-_, _≤_, _<_}
+use Prim.Native.Nat.{ℕ, _+_, _*_, _-_, _^_, _≤_, _<_}
+use native.Mathlib.Nat.{mul-le-mul-right}
 use native.Mathlib.Omega.{arith}
 use lib.Dec.{eqb, ltb}
 use lib.IntN.{ℤ}
@@ -22,7 +23,8 @@ use Rattle.ordering.specs.Ids.{valueOn}
 use Rattle.indexes.specs.declared.IndexAnswer.{IndexAnswer}
 use Rattle.indexes.specs.declared.IndexAnswer.the-variants.{Whole, Unread, Barred}
 use Rattle.indexes.specs.Order.{idsOf, idOf}
-use Rattle.indexes.specs.Index.{numberAt, version1, mark, indexLength, entry, rule40, rule41, rule42, strays, rule43, rule44, indexTests, spoken, indexed, loneVerdict, barredOr, checked}
+use Rattle.indexes.specs.declared.Version.{Version}
+use Rattle.indexes.specs.Index.{numberAt, versionOf, mark, indexLength, entry, rule40, otherVersion, rule41, misfits, rule42, strays, rule43, rule44, indexTests, spoken, indexed, loneVerdict, barredOr, checked}
 use Rattle.meaning.proofs.FirstBroken.{said-readable}
 use Rattle.meaning.proofs.Tests.{or-neither}
 use Rattle.indexes.specs.Promises.{Reads}
@@ -47,26 +49,53 @@ module _ (b : List ℕ) where
   unfolding rule40
   head-long e = ltb-false (length b) 8 (or-neither _ _ e .0)
 
-  module _ (f n : ℕ) where
-    pub other-file : (getD b 5 0 ≡ f → ⊥) → true ≡ rule42 version1 f n b
-    unfolding rule42
-    other-file h = rw (ne-eqb _ _ h)
+  pub first-known : (k : ℕ) → k ≡ numberAt 2 b 3 → k ≡ 1 → not (eqb k 1) ≡ rule41 b
+  unfolding otherVersion rule41
+  first-known k e h = rw (← e, h)
 
-    module _ (file : getD b 5 0 ≡ f) where
-      pub other-count : (numberAt 2 b 6 ≡ n → ⊥) → true ≡ rule42 version1 f n b
-      unfolding rule42
-      other-count h = rw (eq-eqb _ _ file, ne-eqb _ _ h)
+  pub second-known : (k : ℕ) → k ≡ numberAt 2 b 3 → (k ≡ 1 → ⊥) → not (eqb k 2) ≡ rule41 b
+  unfolding otherVersion rule41
+  second-known k e h = rw (← e, ne-eqb k 1 h)
 
-      pub other-length : numberAt 2 b 6 ≡ n → not (eqb (length b) (8 + 2 * n)) ≡ rule42 version1 f n b
-      unfolding rule42 indexLength
-      other-length h = let z : 8 + n * 2 ≡ 8 + 2 * n = omega arith in rw (eq-eqb _ _ file, eq-eqb _ _ h, z)
+  module _ (v : Version) (f n : ℕ) where
+    pub other-version : (numberAt 2 b 3 ≡ v .number → ⊥) → true ≡ rule42 v f n b
+    unfolding otherVersion rule42
+    other-version h = rw (ne-eqb _ _ h)
 
-    pub size-is : rule42 version1 f n b ≡ false → length b ≡ 8 + 2 * n
-    unfolding rule42 indexLength
+    module _ (version : numberAt 2 b 3 ≡ v .number) where
+      pub other-file : (getD b 5 0 ≡ f → ⊥) → true ≡ rule42 v f n b
+      unfolding otherVersion misfits rule42
+      other-file h = rw (eq-eqb _ _ version, ne-eqb _ _ h)
+
+      module _ (file : getD b 5 0 ≡ f) where
+        pub other-length : (length b ≡ 6 + v .width + n * v .width → ⊥) → true ≡ rule42 v f n b
+        unfolding otherVersion misfits rule42 indexLength
+        other-length h = rw (eq-eqb _ _ version, eq-eqb _ _ file, ne-eqb _ _ h) (go (not (eqb (numberAt (v .width) b 6) n)))
+          where
+            go : (t : Bool) → true ≡ (t || true)
+            go true = refl
+            go false = refl
+
+        pub other-count : length b ≡ 6 + v .width + n * v .width → (k : ℕ) → k ≡ numberAt (v .width) b 6 → not (eqb k n) ≡ rule42 v f n b
+        unfolding otherVersion misfits rule42 indexLength
+        other-count h k e = rw (eq-eqb _ _ version, eq-eqb _ _ file, eq-eqb _ _ h, e) (go (not (eqb (numberAt (v .width) b 6) n)))
+          where
+            go : (t : Bool) → t ≡ (t || false)
+            go true = refl
+            go false = refl
+
+    pub size-is : rule42 v f n b ≡ false → length b ≡ indexLength v n
+    unfolding otherVersion misfits rule42
     size-is e =
-        let k = or-neither (not (eqb (getD b 5 0) f)) _ e .1 in
-        let z : length b ≡ 8 + n * 2 = eqb-true _ _ (not-false _ (or-neither (not (eqb (numberAt 2 b 6) n)) _ k .1)) in
-        omega arith
+        let j = or-neither (not (eqb (numberAt 2 b 3) (v .number))) _ e .1 in
+        let k = or-neither (not (eqb (getD b 5 0) f)) _ j .1 in
+        eqb-true _ _ (not-false _ (or-neither (not (eqb (numberAt (v .width) b 6) n)) _ k .1))
+
+-- ---- the entries of an index
+
+pub entry-fits : (v : Version) (b : List ℕ) (n i : ℕ) → length b ≡ indexLength v n → i < n → indexLength v (i + 1) ≤ length b
+unfolding indexLength
+entry-fits v b n i e h = omega (arith, e, mul-le-mul-right {m = i + 1} {n = n} (v .width) (omega arith))
 
 -- ---- the records that are listed
 
@@ -78,8 +107,8 @@ pub stray-past : (n r x : ℕ) → r ≡ x → (r ≡ 0 → ⊥) → ltb n r ≡
 unfolding strays
 stray-past n r x e z = rw (← e, ne-eqb _ _ z)
 
-pub entries-as : (m n k : ℕ) (b : List ℕ) → m + 1 ≡ k → n + 1 ≡ k → Entries n b → Entries m b
-entries-as m n k b p q e = let z : m ≡ n = omega arith in rw z e
+pub entries-as : (v : Version) (m n k : ℕ) (b : List ℕ) → m + 1 ≡ k → n + 1 ≡ k → Entries v n b → Entries v m b
+entries-as v m n k b p q e = let z : m ≡ n = omega arith in rw z e
 
 -- ---- the ids of two records
 
@@ -101,61 +130,64 @@ module _ (s : List ℕ) (x y p q : ℕ) (a b : List ℕ) (o : Order) where
       go false false = refl
 
 -- do the ids of an entry and of the next not rise
-abbrev pub falling : List (List ℕ) → List ℕ → ℕ → Bool
-falling ids b i = not (before (idOf ids (entry version1 b i)) (idOf ids (entry version1 b (i + 1))))
+abbrev pub falling : Version → List (List ℕ) → List ℕ → ℕ → Bool
+falling v ids b i = not (before (idOf ids (entry v b i)) (idOf ids (entry v b (i + 1))))
 
-pub falls-first : (f : ℕ) (s b : List ℕ) (n : ℕ) → n + 1 ≡ countLf s → some (falling (idsOf f s) b) 0 (n - 1 - 0) ≡ rule44 version1 (idsOf f s) b
+pub falls-first : (v : Version) (f : ℕ) (s b : List ℕ) (n : ℕ) → n + 1 ≡ countLf s → some (falling v (idsOf f s) b) 0 (n - 1 - 0) ≡ rule44 v (idsOf f s) b
 unfolding rule44
-falls-first f s b n h = let z : n - 1 - 0 ≡ length (idsOf f s) - 1 = omega (arith, ids-count f s n h) in rw z
+falls-first v f s b n h = let z : n - 1 - 0 ≡ length (idsOf f s) - 1 = omega (arith, ids-count f s n h) in rw z
 
 -- a table of where ids begin tells the ids that an index lists
 module _ (f : ℕ) (s : List ℕ) (n : ℕ) (t : List ℤ) (reads : Reads f s) (placed : Ids f s n t) where
   id-at : (x : ℕ) → 1 ≤ x → x ≤ n → valueOn s (cellAt 0 t 1 x) ≡ idOf (idsOf f s) x
   id-at x h g = rw (placed .starts x h g) (value-of f s reads n (placed .count) x h g)
 
-  module _ (b : List ℕ) (listed : Entries n b) (i : ℕ) (more : i < n) (x : ℕ) (p : x ≡ entry version1 b i) where
+  module _ (v : Version) (b : List ℕ) (listed : Entries v n b) (i : ℕ) (more : i < n) (x : ℕ) (p : x ≡ entry v b i) where
     pub listed-fits : countLf s ≤ length t → x < length t
-    listed-fits h = omega (arith, known-entry version1 n b (listed .known) i more, placed .count)
+    listed-fits h = omega (arith, known-entry v n b (listed .known) i more, placed .count)
 
-    listed-id : valueOn s (cellAt 0 t 1 x) ≡ idOf (idsOf f s) (entry version1 b i)
-    listed-id = let k = known-entry version1 n b (listed .known) i more in id-at x (omega (arith, k)) (omega (arith, k)) ∙ ap (idOf (idsOf f s)) p
+    listed-id : valueOn s (cellAt 0 t 1 x) ≡ idOf (idsOf f s) (entry v b i)
+    listed-id = let k = known-entry v n b (listed .known) i more in id-at x (omega (arith, k)) (omega (arith, k)) ∙ ap (idOf (idsOf f s)) p
 
-  pub falls-at : (b : List ℕ) → Entries n b → (i : ℕ) → i + 1 < n → (x y : ℕ) → x ≡ entry version1 b i → y ≡ entry version1 b (i + 1)
-      → (r : Bool) → r ≡ before (valueOn s (cellAt 0 t 1 x)) (valueOn s (cellAt 0 t 1 y)) → not r ≡ falling (idsOf f s) b i
-  falls-at b listed i more x y p q r e = rw (← listed-id b listed i (omega arith) x p, ← listed-id b listed (i + 1) more y q, e)
+  pub falls-at : (v : Version) (b : List ℕ) → Entries v n b → (i : ℕ) → i + 1 < n → (x y : ℕ) → x ≡ entry v b i → y ≡ entry v b (i + 1)
+      → (r : Bool) → r ≡ before (valueOn s (cellAt 0 t 1 x)) (valueOn s (cellAt 0 t 1 y)) → not r ≡ falling v (idsOf f s) b i
+  falls-at v b listed i more x y p q r e = rw (← listed-id v b listed i (omega arith) x p, ← listed-id v b listed (i + 1) more y q, e)
 
 -- ---- the lowest number that speaks
 
 module _ (f : ℕ) (s b : List ℕ) (n : ℕ) (count : n + 1 ≡ countLf s) where
-  pub told-40 : rule40 b ≡ true → 40 ≡ spoken (indexTests version1 f (idsOf f s) b)
+  abbrev Speaks : ℕ → Type 0
+  Speaks k = k ≡ spoken (indexTests (versionOf (length (idsOf f s))) f (idsOf f s) b)
+
+  pub told-40 : rule40 b ≡ true → Speaks 40
   unfolding spoken indexTests
   told-40 h = rw h
 
   module _ (marked : rule40 b ≡ false) where
-    pub told-41 : (numberAt 2 b 3 ≡ 1 → ⊥) → 41 ≡ spoken (indexTests version1 f (idsOf f s) b)
-    unfolding spoken indexTests rule41
-    told-41 h = rw (marked, ne-eqb _ _ h)
+    pub told-41 : rule41 b ≡ true → Speaks 41
+    unfolding spoken indexTests
+    told-41 h = rw (marked, h)
 
-    module _ (version : numberAt 2 b 3 ≡ 1) where
-      pub told-42 : rule42 version1 f n b ≡ true → 42 ≡ spoken (indexTests version1 f (idsOf f s) b)
-      unfolding spoken indexTests rule41
-      told-42 h = rw (marked, eq-eqb _ _ version, ids-count f s n count, h)
+    module _ (version : rule41 b ≡ false) (v : Version) (is : v ≡ versionOf n) where
+      pub told-42 : rule42 v f n b ≡ true → Speaks 42
+      unfolding spoken indexTests
+      told-42 h = rw (marked, version, ids-count f s n count, ← is, h)
 
-      module _ (own : rule42 version1 f n b ≡ false) where
-        pub told-43 : rule43 version1 n b ≡ true → 43 ≡ spoken (indexTests version1 f (idsOf f s) b)
-        unfolding spoken indexTests rule41
-        told-43 h = rw (marked, eq-eqb _ _ version, ids-count f s n count, own, h)
+      module _ (own : rule42 v f n b ≡ false) where
+        pub told-43 : rule43 v n b ≡ true → Speaks 43
+        unfolding spoken indexTests
+        told-43 h = rw (marked, version, ids-count f s n count, ← is, own, h)
 
-        module _ (known : rule43 version1 n b ≡ false) where
-          pub told-44 : rule44 version1 (idsOf f s) b ≡ true → 44 ≡ spoken (indexTests version1 f (idsOf f s) b)
-          unfolding spoken indexTests rule41
-          told-44 h = rw (marked, eq-eqb _ _ version, ids-count f s n count, own, known, h)
+        module _ (known : rule43 v n b ≡ false) where
+          pub told-44 : rule44 v (idsOf f s) b ≡ true → Speaks 44
+          unfolding spoken indexTests
+          told-44 h = rw (marked, version, ids-count f s n count, ← is, own, known, h)
 
-          pub told-none : rule44 version1 (idsOf f s) b ≡ false → 0 ≡ spoken (indexTests version1 f (idsOf f s) b)
-          unfolding spoken indexTests rule41
-          told-none h = rw (marked, eq-eqb _ _ version, ids-count f s n count, own, known, h)
+          pub told-none : rule44 v (idsOf f s) b ≡ false → Speaks 0
+          unfolding spoken indexTests
+          told-none h = rw (marked, version, ids-count f s n count, ← is, own, known, h)
 
-pub fewer : (f : ℕ) (s : List ℕ) (n : ℕ) → Reads f s → n + 1 ≡ countLf s → n < 65536
+pub fewer : (f : ℕ) (s : List ℕ) (n : ℕ) → Reads f s → n + 1 ≡ countLf s → n < 2 ^ 32
 fewer f s n reads count = omega (arith, sized f s reads .few)
 
 -- ---- the answer
@@ -184,6 +216,6 @@ module _ (f : ℕ) (s b : List ℕ) where
     unfolding checked
     unread r e = sym (asked-refused f s file r (sym e) _)
 
-    pub read : (a : IndexAnswer) → Readable ≡ loneVerdict f s → a ≡ barredOr (spoken (indexTests version1 f (idsOf f s) b)) (length b) → a ≡ checked f s b
+    pub read : (a : IndexAnswer) → Readable ≡ loneVerdict f s → a ≡ barredOr (spoken (indexTests (versionOf (length (idsOf f s))) f (idsOf f s) b)) (length b) → a ≡ checked f s b
     unfolding checked
     read a e h = h ∙ sym (asked-read f s (reads-it e) _)

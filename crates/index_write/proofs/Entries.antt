@@ -13,7 +13,8 @@ use Rattle.text.proofs.Walk.{line-here}
 use Rattle.ordering.specs.Cells.{cellAt}
 use Rattle.ordering.specs.Ids.{Apart, Stands}
 use Rattle.ordering.proofs.Laws.{Alike, yes, no, alike}
-use Rattle.indexes.specs.Index.{version1, entry}
+use Rattle.indexes.specs.declared.Version.{Version}
+use Rattle.indexes.specs.Index.{entry}
 use Rattle.indexes.specs.Promises.{Reads}
 use Rattle.id_places.specs.Places.{startIn, ownColumn, idStart}
 use Rattle.id_places.proofs.Own.{starts-rise}
@@ -38,11 +39,11 @@ one-cell g n apart j k a b x y e = go (alike j k)
         side (yes q) = absurd (apart j k a (omega (arith, p)) y e)
         side (no q) = absurd (apart k j x (omega (arith, q)) b (sym e))
 
-module _ (f : ℕ) (s : List ℕ) (reads : Reads f s) (n : ℕ) (t : List ℤ) (ranked : Ranked f s n t) where
-  pub entered-turn : (r : ℕ) → 0 < r → r ≤ n → (b b′ : List ℕ) → Entered f s n r t b → Entry n (idStart f s r) r t b b′ → Entered f s n (r + 1) t b′
+module _ (v : Version) (f : ℕ) (s : List ℕ) (reads : Reads f s) (n : ℕ) (t : List ℤ) (ranked : Ranked f s n t) where
+  pub entered-turn : (r : ℕ) → 0 < r → r ≤ n → (b b′ : List ℕ) → Entered v f s n r t b → Entry v n (idStart f s r) r t b b′ → Entered v f s n (r + 1) t b′
   entered-turn r low high b b′ before put j k a c x y e = go (alike j r)
     where
-      go : Alike j r → entry version1 b′ (k - 1) ≡ j
+      go : Alike j r → entry v b′ (k - 1) ≡ j
       go (yes p) =
           let q : k ≡ put .at = one-cell (cellAt 0 t 1) n (ranked .apart) k (put .at) x y (put .low) (put .high) (e ∙ ap (idStart f s) p ∙ sym (put .is)) in
           rw (q, p) (put .here)
@@ -51,5 +52,5 @@ module _ (f : ℕ) (s : List ℕ) (reads : Reads f s) (n : ℕ) (t : List ℤ) (
           away : k ≡ put .at → ⊥
           away q = let z : idStart f s j ≡ idStart f s r = sym e ∙ ap (cellAt 0 t 1) q ∙ put .is in omega (arith, z, starts-rise f s reads n (ranked .count) j r a (omega (arith, c, p)) high)
 
-pub entered-none : (f : ℕ) (s : List ℕ) (n : ℕ) (t : List ℤ) (b : List ℕ) → Entered f s n 1 t b
-entered-none f s n t b j k a c x y e = absurd (omega arith)
+pub entered-none : (v : Version) (f : ℕ) (s : List ℕ) (n : ℕ) (t : List ℤ) (b : List ℕ) → Entered v f s n 1 t b
+entered-none v f s n t b j k a c x y e = absurd (omega arith)

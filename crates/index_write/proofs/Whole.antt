@@ -2,9 +2,9 @@
 use mathlib.Core.Path.{_≡_, refl, sym, ap, _∙_}
 use mathlib.Core.Bool.{Bool, true, false}
 use mathlib.Core.List.{List, [], _∷_, _++_}
-use Prim.Native.Nat.{ℕ, zero, suc, _+_, _*_, _-_, _/_, _%_, _^_, _≤_, _<_}
+use Prim.Native.Nat.{ℕ, zero, suc, _+_, _*_, _-_, _^_, _≤_, _<_}
 use native.Mathlib.Omega.{arith}
-use native.Mathlib.Nat.{div-add-mod'}
+use native.Mathlib.Nat.{suc-mul, mul-le-mul-right}
 use lib.IntN.{ℤ}
 use lib.ListN.{length, getD, take, drop, length-drop, take-append-drop, List·getD-eq-default}
 use lib.Dec.{ltb}
@@ -21,14 +21,17 @@ use Rattle.ordering.specs.declared.By.the-variants.{Field}
 use Rattle.ordering.proofs.Laws.{room-kept, moved-all, moved-stands, moved-apart, kept-order}
 use Rattle.ordering.proofs.Alikes.{alike-between}
 use Rattle.indexes.specs.Order.{idsOf, idOf, ranked, repeats}
-use Rattle.indexes.specs.Index.{numberAt, version1, mark, indexOf, indexLength, entry}
+use Rattle.indexes.specs.declared.Version.{Version}
+use Rattle.indexes.specs.Index.{numberAt, versionOf, mark, indexOf, headLength, indexLength, entry}
 use Rattle.indexes.specs.Promises.{Reads, Bytes}
 use Rattle.indexes.proofs.Order.{no-repeat, repeat-none}
 use Rattle.indexes.proofs.Accepted.{Sound, sound, accepted-is}
+use Rattle.indexes.proofs.Versions.{known-of}
 use Rattle.id_places.specs.Places.{idStart, Ids}
 use Rattle.id_places.proofs.Own.{ids-count, value-of, starts-rise}
-use Rattle.index_write.specs.Writing.{Begins, Ranked, headOf, Within, Entered}
+use Rattle.index_write.specs.Writing.{Begins, Ranked, startOf, Put, Within, Entered}
 use Rattle.index_write.proofs.Cells.{order-before}
+use Rattle.index_write.proofs.Bytes.{number-as}
 
 -- do two neighbouring cells hold one value
 abbrev pub twins : List ℕ → List ℤ → ℕ → Bool
@@ -112,55 +115,62 @@ module _ (f : ℕ) (s : List ℕ) (reads : Reads f s) where
 
     -- ---- an index whose head and entries are written
 
-    module _ (none : some (twins s t) 1 (n - 1) ≡ false) (lent h b : List ℕ) (headed : h ≡ take 8 (headOf f n) ++ drop 8 lent)
-        (entered : Entered f s n (n + 1) t b) (within : Within n h b) (room : 8 + 2 * n ≤ length lent) where
+    module _ (none : some (twins s t) 1 (n - 1) ≡ false) (v : Version) (is : v ≡ versionOf n) (lent g h b : List ℕ) (started : g ≡ take 6 (startOf v f) ++ drop 6 lent) (counted : Put (v .width) 6 n g h)
+        (entered : Entered v f s n (n + 1) t b) (within : Within v n h b) (room : indexLength v n ≤ length lent) where
+      abbrev size : ℕ
+      size = indexLength v n
+
+      size-is : size ≡ 6 + v .width + n * v .width
+      unfolding indexLength
+      size-is = refl
+
       head-length : length h ≡ length lent
-      head-length = ap length headed ∙ omega (arith, length-drop 8 lent)
+      head-length = counted .size ∙ ap length started ∙ omega (arith, length-drop 6 lent, size-is)
 
       abbrev index : List ℕ
-      index = take (8 + 2 * n) b
+      index = take size b
 
-      index-long : length index ≡ 8 + 2 * n
-      index-long = length-take-le (8 + 2 * n) b (omega (arith, within .size, head-length))
+      index-long : length index ≡ size
+      index-long = length-take-le size b (omega (arith, within .size, head-length))
 
-      index-at : (i : ℕ) → i < 8 + 2 * n → getD index i 0 ≡ getD b i 0
-      index-at i l = getD-take (8 + 2 * n) b i 0 l
+      index-at : (i : ℕ) → i < size → getD index i 0 ≡ getD b i 0
+      index-at i l = getD-take size b i 0 l
 
-      head-at : (i : ℕ) → i < 8 → getD index i 0 ≡ getD (take 8 (headOf f n) ++ drop 8 lent) i 0
-      head-at i l = index-at i (omega arith) ∙ within .head i l ∙ ap (λ x. getD x i 0) headed
+      start-at : (i : ℕ) → i < 6 → getD index i 0 ≡ getD (take 6 (startOf v f) ++ drop 6 lent) i 0
+      start-at i l = index-at i (omega (arith, size-is)) ∙ within .head i (omega arith) ∙ counted .below i l ∙ ap (λ x. getD x i 0) started
 
-      entry-at : (i : ℕ) → i < n → entry version1 index i ≡ entry version1 b i
-      unfolding entry numberAt
-      entry-at i l = rw (index-at (8 + i * 2) (omega arith), index-at (8 + i * 2 + 1) (omega arith))
+      entry-at : (i : ℕ) → i < n → entry v index i ≡ entry v b i
+      unfolding entry
+      entry-at i l =
+          number-as (v .width) index b (headLength v + i * v .width) (λ j x y. index-at j (omega (arith, size-is, suc-mul i (v .width), mul-le-mul-right {m = suc i} {n = n} (v .width) (omega arith))))
 
       marks : take 3 index ≡ mark
       unfolding mark
-      marks = ext-getD 0 (take 3 index) mark (length-take-le 3 index (omega (arith, index-long))) (λ i l. getD-take 3 index i 0 (small i l) ∙ go i (small i l))
+      marks = ext-getD 0 (take 3 index) mark (length-take-le 3 index (omega (arith, index-long, size-is))) (λ i l. getD-take 3 index i 0 (small i l) ∙ go i (small i l))
         where
           small : (i : ℕ) → i < length (take 3 index) → i < 3
-          small i l = omega (arith, length-take-le 3 index (omega (arith, index-long)))
+          small i l = omega (arith, length-take-le 3 index (omega (arith, index-long, size-is)))
 
           go : (i : ℕ) → i < 3 → getD index i 0 ≡ getD mark i 0
-          go zero l = head-at 0 (omega arith)
-          go (suc zero) l = head-at 1 (omega arith)
-          go (suc (suc zero)) l = head-at 2 (omega arith)
+          go zero l = start-at 0 (omega arith)
+          go (suc zero) l = start-at 1 (omega arith)
+          go (suc (suc zero)) l = start-at 2 (omega arith)
           go (suc (suc (suc i))) l = absurd (omega arith)
 
-      version-is : numberAt 2 index 3 ≡ 1
+      version-is : numberAt 2 index 3 ≡ v .number
       unfolding numberAt
-      version-is = rw (head-at 3 (omega arith), head-at 4 (omega arith))
+      version-is = rw (start-at 3 (omega arith), start-at 4 (omega arith)) (omega arith)
 
-      count-is : numberAt 2 index 6 ≡ n
-      unfolding numberAt
-      count-is = rw (head-at 6 (omega arith), head-at 7 (omega arith)) (omega (arith, div-add-mod' n 256))
+      count-is : numberAt (v .width) index 6 ≡ n
+      count-is = number-as (v .width) index h 6 (λ i x y. index-at i (omega (arith, size-is)) ∙ within .head i (omega arith)) ∙ counted .here
 
       -- the entry of a cell names the record that the cell ranks
-      entry-is : (i : ℕ) → i < n → (r : Begins f s n (cellAt 0 t 1 (i + 1))) → entry version1 index i ≡ r .record-number
+      entry-is : (i : ℕ) → i < n → (r : Begins f s n (cellAt 0 t 1 (i + 1))) → entry v index i ≡ r .record-number
       entry-is i l r =
           let e : i + 1 - 1 ≡ i = omega arith in
           entry-at i l ∙ rw e at (entered (r .record-number) (i + 1) (r .low) (omega (arith, r .high)) (omega arith) (omega arith) (r .is))
 
-      rises : (i : ℕ) → i + 1 < n → before (idOf ids (entry version1 index i)) (idOf ids (entry version1 index (i + 1))) ≡ true
+      rises : (i : ℕ) → i + 1 < n → before (idOf ids (entry v index i)) (idOf ids (entry v index (i + 1))) ≡ true
       unfolding Sorted
       rises i l =
           let x = w .only (i + 1) (omega arith) (omega arith) in
@@ -168,47 +178,49 @@ module _ (f : ℕ) (s : List ℕ) (reads : Reads f s) where
           rw (entry-is i (omega arith) x, entry-is (i + 1) l y, sym (cell-value (i + 1) x), sym (cell-value (i + 1 + 1) y))
           (order-before s t 1 (cellAt 0 t 1 (i + 1)) (cellAt 0 t 1 (i + 1 + 1)) (w .sorted (i + 1) (i + 1 + 1) (omega arith) (omega arith) (omega arith)) (some-none (twins s t) 1 (n - 1) none (i + 1) (omega arith) (omega arith)))
 
-      is-sound : Sound version1 f ids index
-      unfolding indexLength
-      is-sound =
+      is-sound : 2 ≤ v .width → Sound v f ids index
+      is-sound wide =
           let c = ids-count f s n (w .count) in
           record {
-            long = omega (arith, index-long);
+            long = omega (arith, index-long, size-is, wide);
             marked = marks;
             version = version-is;
-            file = head-at 5 (omega arith);
+            file = start-at 5 (omega arith);
             count = count-is ∙ sym c;
-            size = omega (arith, index-long, c);
+            size = index-long ∙ ap (indexLength v) (sym c);
             records = λ i l. let k : i < n = omega (arith, l, c) in let r = w .only (i + 1) (omega arith) (omega arith) in rw (entry-is i k r) (r .low, omega (arith, r .high, c));
             rise = λ i l. rises i (omega (arith, l, c));
           }
 
-      rest-is : drop (8 + 2 * n) b ≡ drop (8 + 2 * n) lent
-      rest-is = ext-getD 0 (drop (8 + 2 * n) b) (drop (8 + 2 * n) lent) (omega (arith, length-drop (8 + 2 * n) b, length-drop (8 + 2 * n) lent, within .size, head-length)) (λ i l. go i)
+      rest-is : drop size b ≡ drop size lent
+      rest-is = ext-getD 0 (drop size b) (drop size lent) (omega (arith, length-drop size b, length-drop size lent, within .size, head-length)) (λ i l. go i)
         where
-          go : (i : ℕ) → getD (drop (8 + 2 * n) b) i 0 ≡ getD (drop (8 + 2 * n) lent) i 0
+          go : (i : ℕ) → getD (drop size b) i 0 ≡ getD (drop size lent) i 0
           go i =
-              let e : 8 + 2 * n + i ≡ 8 + (2 * n + i) = omega arith in
-              getD-drop (8 + 2 * n) b i 0
-              ∙ within .rest (8 + 2 * n + i) (omega arith)
-              ∙ ap (λ x. getD x (8 + 2 * n + i) 0) headed
-              ∙ ap (λ k. getD (take 8 (headOf f n) ++ drop 8 lent) k 0) e
-              ∙ getD-append-add (take 8 (headOf f n)) (drop 8 lent) (2 * n + i) 0
-              ∙ getD-drop 8 lent (2 * n + i) 0
+              let e : size + i ≡ 6 + (size - 6 + i) = omega (arith, size-is) in
+              getD-drop size b i 0
+              ∙ within .rest (size + i) (omega arith)
+              ∙ counted .above (size + i) (omega (arith, size-is))
+              ∙ ap (λ x. getD x (size + i) 0) started
+              ∙ ap (λ k. getD (take 6 (startOf v f) ++ drop 6 lent) k 0) e
+              ∙ getD-append-add (take 6 (startOf v f)) (drop 6 lent) (size - 6 + i) 0
+              ∙ getD-drop 6 lent (size - 6 + i) 0
               ∙ ap (λ k. getD lent k 0) (sym e)
-              ∙ sym (getD-drop (8 + 2 * n) lent i 0)
+              ∙ sym (getD-drop size lent i 0)
 
       bytes-of : Bytes b → Bytes index
-      bytes-of small i = go (ltb i (8 + 2 * n)) refl
+      bytes-of small i = go (ltb i size) refl
         where
-          go : (q : Bool) → ltb i (8 + 2 * n) ≡ q → getD index i 0 < 256
-          go true e = rw (index-at i (ltb-true i (8 + 2 * n) e)) (small i)
-          go false e = rw (List·getD-eq-default index 0 {n = i} (omega (arith, index-long, ltb-false i (8 + 2 * n) e))) (omega arith)
+          go : (q : Bool) → ltb i size ≡ q → getD index i 0 < 256
+          go true e = rw (index-at i (ltb-true i size e)) (small i)
+          go false e = rw (List·getD-eq-default index 0 {n = i} (omega (arith, index-long, ltb-false i size e))) (omega arith)
 
       -- it is the one that is accepted, and the rest of the buffer is unchanged
-      pub index-written : Bytes b → b ≡ laid (indexOf version1 f (ranked ids)) lent
+      pub index-written : 2 ≤ v .width → Bytes b → b ≡ laid (indexOf v f (ranked ids)) lent
       unfolding laid
-      index-written small =
-          let i : index ≡ indexOf version1 f (ranked ids) = accepted-is f ids index (bytes-of small) (sound version1 f ids index .1 is-sound) in
-          let l : length (indexOf version1 f (ranked ids)) ≡ 8 + 2 * n = ap length (sym i) ∙ index-long in
-          rw l (sym (take-append-drop (8 + 2 * n) b) ∙ rw (rest-is, i))
+      index-written wide small =
+          let e : versionOf (length ids) ≡ v = ap versionOf (ids-count f s n (w .count)) ∙ sym is in
+          let k = rw e at (known-of (length ids)) in
+          let i : index ≡ indexOf v f (ranked ids) = rw e at (accepted-is f ids index (bytes-of small) (rw e (sound v f ids index k .1 (is-sound wide)))) in
+          let l : length (indexOf v f (ranked ids)) ≡ size = ap length (sym i) ∙ index-long in
+          rw l (sym (take-append-drop size b) ∙ rw (rest-is, i))

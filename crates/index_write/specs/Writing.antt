@@ -1,5 +1,5 @@
 -- The records of a file ranked by their ids, in cells that hold where the ids begin; and an index while it is written.
-use Prim.Native.Nat.{ℕ, _+_, _*_, _-_, _/_, _%_, _≤_, _<_}
+use Prim.Native.Nat.{ℕ, _+_, _-_, _≤_, _<_}
 use mathlib.Core.Path.{_≡_}
 use mathlib.Core.List.{List, [], _∷_}
 use lib.IntN.{ℤ}
@@ -8,7 +8,8 @@ use Rattle.meaning.specs.Bytes.{countLf}
 use Rattle.ordering.specs.Cells.{cellAt, RoomAt}
 use Rattle.ordering.specs.Ids.{inOrder, Sorted, Stands, Apart}
 use Rattle.ordering.specs.declared.By.the-variants.{Field}
-use Rattle.indexes.specs.Index.{version1, entry}
+use Rattle.indexes.specs.declared.Version.{Version}
+use Rattle.indexes.specs.Index.{numberAt, headLength, indexLength, entry}
 use Rattle.id_places.specs.Places.{idStart}
 
 -- the record whose id begins at a byte
@@ -27,26 +28,33 @@ pub record Ranked (f : ℕ) (s : List ℕ) (n : ℕ) (t : List ℤ) : Type 0 whe
   pub only : (k : ℕ) → 0 < k → k ≤ n → Begins f s n (cellAt 0 t 1 k)
   pub every : (r : ℕ) → 0 < r → r ≤ n → Stands (cellAt 0 t 1) n (idStart f s r)
 
--- the bytes before the record numbers
-abbrev pub headOf : ℕ → ℕ → List ℕ
-headOf f n = 84 ∷ 84 ∷ 88 ∷ 1 ∷ 0 ∷ f ∷ n % 256 ∷ n / 256 ∷ []
+-- the bytes before the count
+abbrev pub startOf : Version → ℕ → List ℕ
+startOf v f = 84 ∷ 84 ∷ 88 ∷ v .number ∷ 0 ∷ f ∷ []
+
+-- a number stands at a byte, in so many, and nothing else has changed
+pub record Put (w at x : ℕ) (lent b : List ℕ) : Type 0 where
+  pub size : length b ≡ length lent
+  pub here : numberAt w b at ≡ x
+  pub below : (i : ℕ) → i < at → getD b i 0 ≡ getD lent i 0
+  pub above : (i : ℕ) → at + w ≤ i → getD b i 0 ≡ getD lent i 0
 
 -- nothing but n entries has changed
-pub record Within (n : ℕ) (lent b : List ℕ) : Type 0 where
+pub record Within (v : Version) (n : ℕ) (lent b : List ℕ) : Type 0 where
   pub size : length b ≡ length lent
-  pub head : (i : ℕ) → i < 8 → getD b i 0 ≡ getD lent i 0
-  pub rest : (i : ℕ) → 8 + 2 * n ≤ i → getD b i 0 ≡ getD lent i 0
+  pub head : (i : ℕ) → i < headLength v → getD b i 0 ≡ getD lent i 0
+  pub rest : (i : ℕ) → indexLength v n ≤ i → getD b i 0 ≡ getD lent i 0
 
 -- record r stands in the entry whose cell holds byte x, and no other entry has changed
-pub record Entry (n x r : ℕ) (t : List ℤ) (lent b : List ℕ) : Type 0 where
+pub record Entry (v : Version) (n x r : ℕ) (t : List ℤ) (lent b : List ℕ) : Type 0 where
   pub at : ℕ
   pub low : 0 < at
   pub high : at ≤ n
   pub is : cellAt 0 t 1 at ≡ x
-  pub here : entry version1 b (at - 1) ≡ r
-  pub others : (k : ℕ) → 0 < k → (k ≡ at → ⊥) → entry version1 b (k - 1) ≡ entry version1 lent (k - 1)
-  pub within : Within n lent b
+  pub here : entry v b (at - 1) ≡ r
+  pub others : (k : ℕ) → 0 < k → (k ≡ at → ⊥) → entry v b (k - 1) ≡ entry v lent (k - 1)
+  pub within : Within v n lent b
 
 -- records below r stand in the entries of their cells
-abbrev pub Entered : ℕ → List ℕ → ℕ → ℕ → List ℤ → List ℕ → Type 0
-Entered f s n r t b = (j k : ℕ) → 0 < j → j < r → 0 < k → k ≤ n → cellAt 0 t 1 k ≡ idStart f s j → entry version1 b (k - 1) ≡ j
+abbrev pub Entered : Version → ℕ → List ℕ → ℕ → ℕ → List ℤ → List ℕ → Type 0
+Entered v f s n r t b = (j k : ℕ) → 0 < j → j < r → 0 < k → k ≤ n → cellAt 0 t 1 k ≡ idStart f s j → entry v b (k - 1) ≡ j

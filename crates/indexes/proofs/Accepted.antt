@@ -8,16 +8,19 @@ use mathlib.Core.List.{List, [], _∷_, _++_, map, append-assoc}
 use lib.ListN.{length, getD, take, drop, length-append, take-append-drop}
 use lib.Seq.{drop-cons}
 use lib.Dec.{ltb, eqb}
-use borrow.Author.Tests.{ltb-false, eqb-true, eqb-false, not-false, le-ltb, eq-eqb, ne-eqb}
+use borrow.Author.Tests.{ltb-true, ltb-false, eqb-true, eqb-false, not-false, le-ltb, eq-eqb, ne-eqb}
 use Rattle.meaning.specs.Lists.{some, flat}
 use Rattle.meaning.proofs.ListLaws.{both, same-equal, same-self}
 use Rattle.meaning.proofs.Laws.{getD-mem}
 use Rattle.meaning.proofs.Tests.{or-neither, untrue, some-found, some-none}
 use Rattle.ranking.specs.Ranks.{before}
 use Rattle.indexes.specs.Order.{idOf, Rising, ranked}
-use Rattle.indexes.specs.Index.{lowFirst, numberAt, Version, version1, mark, indexOf, headLength, indexLength, entry, rule40, rule41, rule42, strays, rule43, rule44, indexTests, spoken}
+use Rattle.indexes.specs.declared.Version.{Version}
+use Rattle.indexes.specs.Index.{lowFirst, numberAt, versionOf, mark, indexOf, headLength, indexLength, entry, rule40, rule41, otherVersion, misfits, rule42, strays, rule43, rule44, indexTests, spoken}
+use Rattle.indexes.specs.Versions.{Known}
 use Rattle.indexes.specs.Promises.{Lists, Bytes}
 use Rattle.indexes.proofs.Numbers.{low-length, written-number, numbersAt, numbers-length, numbers-at, read-numbers, read-front, flat-length, written-numbers}
+use Rattle.indexes.proofs.Versions.{known-of, version-fits, known-silent}
 use Rattle.indexes.proofs.Order.{rising-length, rising-ranked, all-listed}
 
 -- ---- what no broken test says
@@ -50,20 +53,21 @@ pub record Sound (v : Version) (f : ℕ) (ids : List (List ℕ)) (b : List ℕ) 
 
 module _ (v : Version) (f : ℕ) (ids : List (List ℕ)) (b : List ℕ) where
   silent : spoken (indexTests v f ids b) ≡ 0 → Sound v f ids b
-  unfolding spoken indexTests rule40 rule41 rule42 rule44
+  unfolding spoken indexTests rule40 otherVersion misfits rule42 rule44
   silent e =
       let p = quiet 40 (rule40 b) _ (λ z. omega arith) e in
-      let q = quiet 41 (rule41 v b) _ (λ z. omega arith) (p .1) in
+      let q = quiet 41 (rule41 b) _ (λ z. omega arith) (p .1) in
       let r = quiet 42 (rule42 v f (length ids) b) _ (λ z. omega arith) (q .1) in
       let s = quiet 43 (rule43 v (length ids) b) _ (λ z. omega arith) (r .1) in
       let t = quiet 44 (rule44 v ids b) _ (λ z. omega arith) (s .1) in
       let forty = or-neither _ _ (p .0) in
-      let forty-two = or-neither _ _ (r .0) in
+      let own = or-neither _ _ (r .0) in
+      let forty-two = or-neither _ _ (own .1) in
       let its = or-neither _ _ (forty-two .1) in
       record {
         long = ltb-false _ _ (forty .0);
         marked = same-equal _ _ (not-false _ (forty .1));
-        version = eqb-true _ _ (not-false _ (q .0));
+        version = eqb-true _ _ (not-false _ (own .0));
         file = eqb-true _ _ (not-false _ (forty-two .0));
         count = eqb-true _ _ (not-false _ (its .0));
         size = eqb-true _ _ (not-false _ (its .1));
@@ -71,18 +75,18 @@ module _ (v : Version) (f : ℕ) (ids : List (List ℕ)) (b : List ℕ) where
         rise = λ i h. not-false _ (some-none _ 0 (length ids - 1) (t .0) i (omega arith) (omega arith));
       }
 
-  speaks-not : Sound v f ids b → spoken (indexTests v f ids b) ≡ 0
-  unfolding spoken indexTests rule40 rule41 rule42 strays rule43 rule44
-  speaks-not s = rw (forty, forty-one, forty-two, forty-three, forty-four)
+  speaks-not : Known v → Sound v f ids b → spoken (indexTests v f ids b) ≡ 0
+  unfolding spoken indexTests rule40 otherVersion misfits rule42 strays rule43 rule44
+  speaks-not known s = rw (forty, forty-one, forty-two, forty-three, forty-four)
     where
       forty : rule40 b ≡ false
       forty = rw (le-ltb _ _ (s .long), s .marked, same-self mark)
 
-      forty-one : rule41 v b ≡ false
-      forty-one = rw (eq-eqb _ _ (s .version))
+      forty-one : rule41 b ≡ false
+      forty-one = known-silent v b known (s .version)
 
       forty-two : rule42 v f (length ids) b ≡ false
-      forty-two = rw (eq-eqb _ _ (s .file), eq-eqb _ _ (s .count), eq-eqb _ _ (s .size))
+      forty-two = rw (eq-eqb _ _ (s .version), eq-eqb _ _ (s .file), eq-eqb _ _ (s .count), eq-eqb _ _ (s .size))
 
       forty-three : rule43 v (length ids) b ≡ false
       forty-three =
@@ -94,8 +98,8 @@ module _ (v : Version) (f : ℕ) (ids : List (List ℕ)) (b : List ℕ) where
       forty-four = none-some _ (length ids - 1) (λ i h. rw (s .rise i (omega arith)))
 
   -- none of 40 to 44 is broken where all that they ask is so
-  pub sound : spoken (indexTests v f ids b) ≡ 0 ↔ Sound v f ids b
-  sound = (silent, speaks-not)
+  pub sound : Known v → spoken (indexTests v f ids b) ≡ 0 ↔ Sound v f ids b
+  sound known = (silent, speaks-not known)
 
   -- ---- an accepted index
 
@@ -194,23 +198,24 @@ module _ (v : Version) (f : ℕ) where
       rise = λ i h. rw (entry-at i (omega (arith, long)), entry-at (i + 1) (omega (arith, long))) (rising .rise i (i + 1) (omega arith) (omega (arith, long)));
     }
 
--- ---- version 1
-
 module _ (f : ℕ) (ids : List (List ℕ)) (b : List ℕ) where
+  abbrev v : Version
+  v = versionOf (length ids)
+
   -- Whoever made it, an index is accepted only if it lists every record once in that order,
-  pub accepted-lists : Bytes b → spoken (indexTests version1 f ids b) ≡ 0 → Lists f ids b
+  pub accepted-lists : Bytes b → spoken (indexTests v f ids b) ≡ 0 → Lists f ids b
   accepted-lists small e =
-      let s = sound version1 f ids b .0 e in
-      record { records = listed version1 f ids b small s; rising = listed-rises version1 f ids b small s; bytes = listed-bytes version1 f ids b small s }
+      let s = sound v f ids b (known-of (length ids)) .0 e in
+      record { records = listed v f ids b small s; rising = listed-rises v f ids b small s; bytes = listed-bytes v f ids b small s }
 
   -- so that it is the one index of its file;
-  pub lists-one : Lists f ids b → b ≡ indexOf version1 f (ranked ids)
-  lists-one l = l .bytes ∙ ap (indexOf version1 f) (rising-ranked ids (l .records) (l .rising))
+  pub lists-one : Lists f ids b → b ≡ indexOf v f (ranked ids)
+  lists-one l = l .bytes ∙ ap (indexOf v f) (rising-ranked ids (l .records) (l .rising))
 
-  pub accepted-is : Bytes b → spoken (indexTests version1 f ids b) ≡ 0 → b ≡ indexOf version1 f (ranked ids)
+  pub accepted-is : Bytes b → spoken (indexTests v f ids b) ≡ 0 → b ≡ indexOf v f (ranked ids)
   accepted-is small e = lists-one (accepted-lists small e)
 
   -- and then it is.
-  pub lists-accepted : length ids < 65536 → Lists f ids b → spoken (indexTests version1 f ids b) ≡ 0
+  pub lists-accepted : length ids < 2 ^ 32 → Lists f ids b → spoken (indexTests v f ids b) ≡ 0
   lists-accepted few l =
-      rw (l .bytes) (sound version1 f ids (indexOf version1 f (l .records)) .1 (index-sound version1 f ids (l .records) (l .rising) (omega arith) (omega arith) few))
+      rw (l .bytes) (let w = version-fits v (length ids) refl few in sound v f ids (indexOf v f (l .records)) (known-of (length ids)) .1 (index-sound v f ids (l .records) (l .rising) (w .0 .0) (omega (arith, w .2)) (w .1)))

@@ -2,20 +2,20 @@
 use Prim.Native.Nat.{ℕ, zero, suc, _+_, _*_, _≤_, _<_}
 use native.Mathlib.Omega.{arith}
 use mathlib.Core.Path.{_≡_, refl, sym, ap, _∙_}
-use mathlib.Core.Logic.{_↔_}
-use mathlib.Core.Bool.{Bool, true, false, cond, not, _&&_}
+use mathlib.Core.Logic.{_↔_, _⊎_, inl, inr}
+use mathlib.Core.Bool.{Bool, true, false, cond, not, _&&_, _||_}
 use mathlib.Core.List.{List, [], _∷_, _++_, List·Memᴰ·head, List·Memᴰ·tail}
 use lib.ListN.{length, getD, take, drop, length-append, length-drop, length-map}
 use lib.Seq.{take-at, drop-at}
 use lib.Dec.{ltb, eqb}
-use borrow.Author.Tests.{ltb-true, ltb-false, lt-ltb, eqb-true, eqb-false, eq-eqb, ne-eqb}
+use borrow.Author.Tests.{ltb-true, ltb-false, lt-ltb, le-ltb, eqb-true, eqb-false, eq-eqb, ne-eqb}
 use Rattle.meaning.specs.declared.Refusal.{Refusal}
 use Rattle.meaning.specs.declared.Verdict.{Verdict}
 use Rattle.meaning.specs.declared.Verdict.the-variants.{Readable, Unreadable}
 use Rattle.meaning.specs.Lists.{empty, any, laid}
 use Rattle.meaning.specs.Bytes.{countLf}
 use Rattle.meaning.specs.Tables.{fileOf}
-use Rattle.meaning.specs.Refusals.{Test, claim, rule1, rule2, mayLack, rule4}
+use Rattle.meaning.specs.Refusals.{Test, claim, maxLines, rule1, rule2, mayLack, rule4}
 use Rattle.meaning.specs.Promises.{noClaim, FirstBroken}
 use Rattle.meaning.proofs.ListLaws.{both, and-both}
 use Rattle.meaning.proofs.FirstBroken.{spoken-first, silent-none, said-readable}
@@ -26,8 +26,10 @@ use Rattle.text.proofs.Lines.{lines-all}
 use Rattle.indexes.specs.declared.IndexAnswer.{IndexAnswer}
 use Rattle.indexes.specs.declared.IndexAnswer.the-variants.{Whole, Unread, Barred}
 use Rattle.indexes.specs.Order.{idsOf, repeats, ranked}
-use Rattle.indexes.specs.Index.{Version, version1, indexOf, indexLength, indexTests, spoken, writerTests, indexed, loneClaims, loneVerdict, ifRead, askedOf, barredOr, checked, wrote, leftBy, written, indexNumbers}
+use Rattle.indexes.specs.declared.Version.{Version}
+use Rattle.indexes.specs.Index.{version1, version2, versionOf, numberAt, rule40, rule41, rule42, indexOf, indexLength, indexTests, spoken, writerTests, indexed, loneClaims, loneVerdict, ifRead, askedOf, barredOr, checked, wrote, leftBy, written, indexNumbers}
 use Rattle.indexes.specs.Promises.{Lists, Bytes, Reads, noTest, Lowest, saysWhole, saysUnread, saysBarred, Beside}
+use Rattle.indexes.proofs.Versions.{of-two}
 use Rattle.indexes.proofs.Order.{ranked-length, ranked-rising, rising-apart}
 use Rattle.indexes.proofs.Accepted.{quiet, index-length, accepted-lists, lists-one, lists-accepted}
 use Rattle.indexes.proofs.Told.{told-whole, told-unread, told-barred, apart-checked, apart-wrote}
@@ -86,7 +88,7 @@ write-named : (v : Version) (ids : List (List ℕ)) (room : ℕ) → any (λ t. 
 unfolding any writerTests
 write-named v ids room = refl
 
-barred-whole : (k size n : ℕ) → barredOr k size ≡ Whole n → (k ≡ 0) × (size ≡ n)
+pub barred-whole : (k size n : ℕ) → barredOr k size ≡ Whole n → (k ≡ 0) × (size ≡ n)
 unfolding barredOr
 barred-whole k size n e = go (eqb k 0) refl e
   where
@@ -97,23 +99,23 @@ barred-whole k size n e = go (eqb k 0) refl e
 module _ (f : ℕ) (s : List ℕ) where
   -- ---- what comes before both
 
-  pub asked-read : Reads f s → (a : IndexAnswer) → askedOf f s a ≡ a
+  pub asked-read : Reads f s → (a : IndexAnswer) → askedOf f (loneVerdict f s) a ≡ a
   unfolding askedOf
   asked-read r a = rw (r .asked, said-readable (loneVerdict f s) .0 (r .verdict))
 
-  pub asked-refused : indexed f ≡ true → (r : Refusal) → loneVerdict f s ≡ Unreadable r → (a : IndexAnswer) → askedOf f s a ≡ Unread r
+  pub asked-refused : indexed f ≡ true → (r : Refusal) → loneVerdict f s ≡ Unreadable r → (a : IndexAnswer) → askedOf f (loneVerdict f s) a ≡ Unread r
   unfolding askedOf
   asked-refused e r v a = rw (e, v)
 
-  asked-unread : indexed f ≡ true → (r : Refusal) → FirstBroken (loneClaims f s) r → (a : IndexAnswer) → askedOf f s a ≡ Unread r
+  asked-unread : indexed f ≡ true → (r : Refusal) → FirstBroken (loneClaims f s) r → (a : IndexAnswer) → askedOf f (loneVerdict f s) a ≡ Unread r
   unfolding loneVerdict
   asked-unread e r b a = asked-refused e r (spoken-first (loneClaims f s) r .1 b) a
 
-  pub asked-outside : indexed f ≡ false → (a : IndexAnswer) → askedOf f s a ≡ Barred 42
+  pub asked-outside : indexed f ≡ false → (a : IndexAnswer) → askedOf f (loneVerdict f s) a ≡ Barred 42
   unfolding askedOf
   asked-outside e a = rw e
 
-  asked-whole : (a : IndexAnswer) (n : ℕ) → askedOf f s a ≡ Whole n → Reads f s × (a ≡ Whole n)
+  pub asked-whole : (a : IndexAnswer) (n : ℕ) → askedOf f (loneVerdict f s) a ≡ Whole n → Reads f s × (a ≡ Whole n)
   unfolding askedOf
   asked-whole a n e = go (indexed f) refl (loneVerdict f s) refl e
     where
@@ -122,7 +124,7 @@ module _ (f : ℕ) (s : List ℕ) where
       go true p Readable q e = (record { asked = p; verdict = said-readable (loneVerdict f s) .1 q }, e)
       go true p (Unreadable r) q e = let z : _≡_ {A = ℕ} 0 1 = cc in absurd (omega arith)
 
-  asked-refusal : (k size : ℕ) (r : Refusal) → askedOf f s (barredOr k size) ≡ Unread r → FirstBroken (loneClaims f s) r
+  asked-refusal : (k size : ℕ) (r : Refusal) → askedOf f (loneVerdict f s) (barredOr k size) ≡ Unread r → FirstBroken (loneClaims f s) r
   unfolding askedOf barredOr loneVerdict
   asked-refusal k size r e = spoken-first (loneClaims f s) r .0 (go (indexed f) (loneVerdict f s) refl (eqb k 0) e)
     where
@@ -132,12 +134,16 @@ module _ (f : ℕ) (s : List ℕ) where
       go true Readable q false e = let z : _≡_ {A = ℕ} 0 1 = cc in absurd (omega arith)
       go true (Unreadable p) q z e = cc
 
-  -- rule 2 leaves at most 65,535 records
-  pub few : Reads f s → length (idsOf f s) < 65536
-  unfolding idsOf loneVerdict loneClaims rule2
+  -- a file has fewer records than lines
+  pub fewer : (m : ℕ) → 0 < m → countLf s ≤ m → length (idsOf f s) < m
+  unfolding idsOf
+  fewer m some h = rw (length-map, rows-count f s, lines-all s) (omega arith)
+
+  -- rule 2 leaves so many lines
+  pub few : Reads f s → length (idsOf f s) < maxLines
+  unfolding loneVerdict loneClaims rule2
   few r =
-      let k : countLf s ≤ 65536 = ltb-false _ _ (silent-none (loneClaims f s) .0 (said-readable (loneVerdict f s) .0 (r .verdict)) (claim 2 f 0 (rule2 f s 0)) (List·Memᴰ·tail (List·Memᴰ·head refl))) in
-      rw (length-map, rows-count f s, lines-all s) (omega arith)
+      fewer maxLines (omega arith) (ltb-false _ _ (silent-none (loneClaims f s) .0 (said-readable (loneVerdict f s) .0 (r .verdict)) (claim 2 f 0 (rule2 f s 0)) (List·Memᴰ·tail (List·Memᴰ·head refl))))
 
   -- ---- the writer
 
@@ -145,14 +151,17 @@ module _ (f : ℕ) (s : List ℕ) where
   ids = idsOf f s
 
   abbrev index : List ℕ
-  index = indexOf version1 f (ranked ids)
+  index = indexOf (versionOf (length ids)) f (ranked ids)
 
-  need : indexLength version1 (length ids) ≡ 8 + 2 * length ids
+  need : let n = length ids in (n ≤ 65535 → indexLength (versionOf n) n ≡ 8 + 2 * n) × (65535 < n → indexLength (versionOf n) n ≡ 10 + 4 * n)
   unfolding indexLength
-  need = omega arith
+  need = let n = length ids in
+      of-two (λ v. (n ≤ 65535 → indexLength v n ≡ 8 + 2 * n) × (65535 < n → indexLength v n ≡ 10 + 4 * n)) n
+      (λ few. (λ h. omega arith, λ h. absurd (omega arith)))
+      (λ many. (λ h. absurd (omega arith), λ h. omega arith))
 
-  index-size : length index ≡ indexLength version1 (length ids)
-  index-size = index-length version1 f (ranked ids) ∙ rw (ranked-length ids)
+  index-size : length index ≡ indexLength (versionOf (length ids)) (length ids)
+  index-size = index-length (versionOf (length ids)) f (ranked ids) ∙ rw (ranked-length ids)
 
   -- what an index that was written says
   record Wrote (lent : List ℕ) (n : ℕ) : Type 0 where
@@ -168,16 +177,16 @@ module _ (f : ℕ) (s : List ℕ) where
       let a = asked-whole _ n e in
       let b = barred-whole _ _ n (a .1) in
       let p = quiet 45 (repeats ids) _ (λ z. omega arith) (b .0) in
-      let q = quiet 46 (ltb (length lent) (indexLength version1 (length ids))) _ (λ z. omega arith) (p .1) in
+      let q = quiet 46 (ltb (length lent) (indexLength (versionOf (length ids)) (length ids))) _ (λ z. omega arith) (p .1) in
       let k : length index ≡ n = index-size ∙ b .1 in
-      record { reads = a .0; apart = p .0; size = k; room = omega (arith, ltb-false (length lent) (indexLength version1 (length ids)) (q .0), b .1); is = ap (λ w. leftBy w index lent) e ∙ rw k }
+      record { reads = a .0; apart = p .0; size = k; room = omega (arith, ltb-false (length lent) (indexLength (versionOf (length ids)) (length ids)) (q .0), b .1); is = ap (λ w. leftBy w index lent) e ∙ rw k }
 
   none-repeats : repeats ids ≡ false → Lists f ids index
   none-repeats e = record { records = ranked ids; rising = ranked-rising ids e; bytes = refl }
 
-  accepts : Reads f s → (b : List ℕ) → Lists f ids b → checked f s b ≡ Whole (length b)
+  pub accepts : Reads f s → (b : List ℕ) → Lists f ids b → checked f s b ≡ Whole (length b)
   unfolding checked barredOr
-  accepts r b l = asked-read r _ ∙ rw (lists-accepted f ids b (few r) l)
+  accepts r b l = asked-read r _ ∙ rw (lists-accepted f ids b (omega (arith, few r)) l)
 
   writes : (lent : List ℕ) (n : ℕ) → Wrote lent n → take n (written f s lent) ≡ index
   writes lent n w = rw (w .is) (take-at index (drop n lent) n (w .size))
@@ -222,21 +231,21 @@ module _ (f : ℕ) (s : List ℕ) where
 
   -- ---- the cases, from their numbers
 
-  whole-checked : (b : List ℕ) (n : ℕ) → indexNumbers (checked f s b) ≡ saysWhole n → checked f s b ≡ Whole n
+  pub whole-checked : (b : List ℕ) (n : ℕ) → indexNumbers (checked f s b) ≡ saysWhole n → checked f s b ≡ Whole n
   whole-checked b n = told-whole (checked f s b) n (apart-checked f s b)
 
   whole-wrote : (room n : ℕ) → indexNumbers (wrote f s room) ≡ saysWhole n → wrote f s room ≡ Whole n
   whole-wrote room n = told-whole (wrote f s room) n (apart-wrote f s room)
 
-  says-whole : (a : IndexAnswer) (n : ℕ) → a ≡ Whole n → indexNumbers a ≡ saysWhole n
+  pub says-whole : (a : IndexAnswer) (n : ℕ) → a ≡ Whole n → indexNumbers a ≡ saysWhole n
   unfolding indexNumbers
   says-whole a n e = ap indexNumbers e
 
-  says-unread : (a : IndexAnswer) (r : Refusal) → a ≡ Unread r → indexNumbers a ≡ saysUnread r
+  pub says-unread : (a : IndexAnswer) (r : Refusal) → a ≡ Unread r → indexNumbers a ≡ saysUnread r
   unfolding indexNumbers
   says-unread a r e = ap indexNumbers e
 
-  says-barred : (a : IndexAnswer) (n : ℕ) → a ≡ Barred n → indexNumbers a ≡ saysBarred n
+  pub says-barred : (a : IndexAnswer) (n : ℕ) → a ≡ Barred n → indexNumbers a ≡ saysBarred n
   unfolding indexNumbers
   says-barred a n e = ap indexNumbers e
 
@@ -248,13 +257,13 @@ module _ (f : ℕ) (s : List ℕ) where
   unfolding wrote
   own-wrote r low room e = asked-refusal _ _ r (told-unread (wrote f s room) r low (apart-wrote f s room) e)
 
-  read-lowest : Reads f s → (b : List ℕ) (n : ℕ) → checked f s b ≡ Barred n ↔ Lowest (indexTests version1 f ids b) n
+  read-lowest : Reads f s → (b : List ℕ) (n : ℕ) → checked f s b ≡ Barred n ↔ Lowest (indexTests (versionOf (length ids)) f ids b) n
   unfolding checked
-  read-lowest r b n = rw (asked-read r _) (barred-lowest (indexTests version1 f ids b) (length b) n (read-named version1 f ids b))
+  read-lowest r b n = rw (asked-read r _) (barred-lowest (indexTests (versionOf (length ids)) f ids b) (length b) n (read-named (versionOf (length ids)) f ids b))
 
-  write-lowest : Reads f s → (room n : ℕ) → wrote f s room ≡ Barred n ↔ Lowest (writerTests version1 ids room) n
+  write-lowest : Reads f s → (room n : ℕ) → wrote f s room ≡ Barred n ↔ Lowest (writerTests (versionOf (length ids)) ids room) n
   unfolding wrote
-  write-lowest r room n = rw (asked-read r _) (barred-lowest (writerTests version1 ids room) (indexLength version1 (length ids)) n (write-named version1 ids room))
+  write-lowest r room n = rw (asked-read r _) (barred-lowest (writerTests (versionOf (length ids)) ids room) (indexLength (versionOf (length ids)) (length ids)) n (write-named (versionOf (length ids)) ids room))
 
   accepted : Reads f s → (b : List ℕ) → Bytes b → checked f s b ≡ Whole (length b) → Lists f ids b
   unfolding checked
@@ -300,5 +309,5 @@ module _ (f : ℕ) (s : List ℕ) where
     writes = λ lent n e. let w = wrote-told lent n e in rw (writes lent n w) (none-repeats (w .apart));
     agrees = λ lent n e. let w = wrote-told lent n e in rw (writes lent n w) (says-whole _ n (accepts (w .reads) index (none-repeats (w .apart)) ∙ ap Whole (w .size)));
     leaves = λ lent n e. let w = wrote-told lent n e in (rw (w .is, length-append, length-drop) (omega (arith, w .size, w .room)), rw (w .is) (drop-at index (drop n lent) n (w .size)));
-    told = λ lent n e. let w = wrote-told lent n e in sym (w .size) ∙ index-size ∙ need;
+    told = λ lent n e. let w = wrote-told lent n e in sym (w .size) ∙ index-size;
   }

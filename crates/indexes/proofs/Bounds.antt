@@ -29,9 +29,10 @@ use Rattle.text.proofs.Fields.{fields-count}
 use Rattle.indexes.specs.declared.IndexAnswer.{IndexAnswer}
 use Rattle.indexes.specs.declared.IndexAnswer.the-variants.{Whole, Unread, Barred}
 use Rattle.indexes.specs.Order.{idsOf}
-use Rattle.indexes.specs.Index.{version1, indexLength, indexTests, writerTests, spoken, indexed, loneClaims, loneVerdict, ifRead, askedOf, barredOr, checked, wrote}
+use Rattle.indexes.specs.Index.{version1, version2, versionOf, indexLength, indexTests, writerTests, spoken, indexed, loneClaims, loneVerdict, ifRead, askedOf, barredOr, checked, wrote}
 use Rattle.indexes.specs.Promises.{Reads}
 use Rattle.indexes.specs.Small.{Small}
+use Rattle.indexes.proofs.Versions.{of-two, known-of}
 use Rattle.indexes.proofs.Accepted.{sound}
 use Rattle.indexes.proofs.Beside.{few}
 
@@ -110,7 +111,7 @@ module _ (f : ℕ) (s : List ℕ) where
       subst (λ (q : Refusal). Small (Unread q)) (b .spoken) (small-first (omega (arith, l)) (b .at) (b .inside) (b .silent))
 
   -- an answer is small where the one about the index is
-  small-asked : (a : IndexAnswer) → (Reads f s → Small a) → Small (askedOf f s a)
+  small-asked : (a : IndexAnswer) → (Reads f s → Small a) → Small (askedOf f (loneVerdict f s) a)
   unfolding askedOf
   small-asked a h = go (indexed f) refl (loneVerdict f s) refl
     where
@@ -119,7 +120,7 @@ module _ (f : ℕ) (s : List ℕ) where
       go true p Readable q = h (record { asked = p; verdict = said-readable (loneVerdict f s) .1 q })
       go true p (Unreadable r) q = small-unread p r q
 
-small-barred : (k size : ℕ) → k ≤ 46 → (k ≡ 0 → size ≤ 8 + 2 * maxLines) → Small (barredOr k size)
+small-barred : (k size : ℕ) → k ≤ 46 → (k ≡ 0 → size ≤ 10 + 4 * maxLines) → Small (barredOr k size)
 unfolding barredOr
 small-barred k size h w = go (eqb k 0) refl
   where
@@ -136,18 +137,18 @@ spoken-few (u ∷ ts) t = go (u .broken) (leb-true (u .number) 46 (is-true (leb 
     go true p q = p
     go false p q = q
 
-need-few : (f : ℕ) (s : List ℕ) → Reads f s → indexLength version1 (length (idsOf f s)) ≤ 8 + 2 * maxLines
+need-few : (f : ℕ) (s : List ℕ) → Reads f s → indexLength (versionOf (length (idsOf f s))) (length (idsOf f s)) ≤ 10 + 4 * maxLines
 unfolding indexLength
-need-few f s r = omega (arith, few f s r)
+need-few f s r = of-two (λ v. indexLength v (length (idsOf f s)) ≤ 10 + 4 * maxLines) (length (idsOf f s)) (λ h. omega (arith, few f s r)) (λ h. omega (arith, few f s r))
 
 -- The numbers of the reader's answer are small, and those of the writer's.
 pub small-checked : (f : ℕ) (s b : List ℕ) → Small (checked f s b)
 unfolding checked indexTests
 small-checked f s b =
-    small-asked f s _ (λ r. small-barred (spoken (indexTests version1 f (idsOf f s) b)) (length b) (spoken-few (indexTests version1 f (idsOf f s) b) tt)
-    (λ e. rw (sound version1 f (idsOf f s) b .0 e .size) (need-few f s r)))
+    small-asked f s _ (λ r. small-barred (spoken (indexTests (versionOf (length (idsOf f s))) f (idsOf f s) b)) (length b) (spoken-few (indexTests (versionOf (length (idsOf f s))) f (idsOf f s) b) tt)
+    (λ e. rw (sound (versionOf (length (idsOf f s))) f (idsOf f s) b (known-of (length (idsOf f s))) .0 e .size) (need-few f s r)))
 
 pub small-wrote : (f : ℕ) (s : List ℕ) (room : ℕ) → Small (wrote f s room)
 unfolding wrote writerTests
 small-wrote f s room =
-    small-asked f s _ (λ r. small-barred (spoken (writerTests version1 (idsOf f s) room)) _ (spoken-few (writerTests version1 (idsOf f s) room) tt) (λ e. need-few f s r))
+    small-asked f s _ (λ r. small-barred (spoken (writerTests (versionOf (length (idsOf f s))) (idsOf f s) room)) _ (spoken-few (writerTests (versionOf (length (idsOf f s))) (idsOf f s) room) tt) (λ e. need-few f s r))

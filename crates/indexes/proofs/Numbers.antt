@@ -18,6 +18,11 @@ unfolding lowFirst
 low-length zero n = refl
 low-length (suc k) n = ap suc (low-length k (n / 256))
 
+-- four bytes, by pairs
+pub four-at : (b : List ℕ) (at : ℕ) → numberAt 2 b at + 65536 * numberAt 2 b (at + 2) ≡ numberAt 4 b at
+unfolding numberAt
+four-at b at = let e : at + 2 ≡ at + 1 + 1 = omega arith in rw e (omega arith)
+
 -- a number that is written is read
 pub written-number : (k n : ℕ) (a c : List ℕ) → n < 256 ^ k → numberAt k (a ++ (lowFirst k n ++ c)) (length a) ≡ n
 unfolding lowFirst numberAt

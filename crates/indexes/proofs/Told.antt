@@ -11,7 +11,7 @@ use Rattle.meaning.specs.declared.Refusal.{Refusal}
 use Rattle.meaning.specs.declared.Verdict.{Verdict}
 use Rattle.meaning.specs.declared.Verdict.the-variants.{Readable, Unreadable}
 use Rattle.meaning.specs.Bytes.{linesOf}
-use Rattle.meaning.specs.Refusals.{Test, inFile}
+use Rattle.meaning.specs.Refusals.{Test, Claim, inFile, speaks}
 use Rattle.meaning.specs.Promises.{noClaim}
 use Rattle.meaning.proofs.Computed.{all, and-left, and-right, is-true}
 use Rattle.meaning.proofs.Laws.{getD-mem}
@@ -21,8 +21,9 @@ use Rattle.meaning.proofs.FirstBroken.{spoken-first}
 use Rattle.indexes.specs.declared.IndexAnswer.{IndexAnswer}
 use Rattle.indexes.specs.declared.IndexAnswer.the-variants.{Whole, Unread, Barred}
 use Rattle.indexes.specs.Order.{idsOf}
-use Rattle.indexes.specs.Index.{version1, indexLength, indexTests, writerTests, spoken, indexed, loneClaims, loneVerdict, ifRead, askedOf, barredOr, checked, wrote, indexNumbers}
+use Rattle.indexes.specs.Index.{versionOf, indexLength, indexTests, writerTests, spoken, indexed, loneClaims, loneVerdict, ifRead, askedOf, barredOr, checked, wrote, indexNumbers}
 use Rattle.indexes.specs.Promises.{saysWhole, saysUnread, saysBarred}
+use Rattle.indexes.proofs.Versions.{known-of}
 use Rattle.indexes.proofs.Accepted.{sound}
 
 -- an index has bytes, a file's own refusal names the file, another has a number from 40 on
@@ -59,32 +60,36 @@ told-unread (Barred m) r low h e = absurd (omega (arith, nth 0 e))
 
 -- ---- the reader's answer is such a one, and the writer's
 
-module _ (f : ℕ) (s : List ℕ) where
-  claim-file : (at : ℕ) → at < length (loneClaims f s) → getD (loneClaims f s) at noClaim .file ≡ f
-  unfolding loneClaims
-  claim-file zero h = refl
-  claim-file (suc zero) h = refl
-  claim-file (suc (suc zero)) h = refl
-  claim-file (suc (suc (suc k))) h = in-file f (linesOf s) _ .0 (getD-mem (inFile f (linesOf s)) k noClaim (omega arith)) .file
+-- each claim is of file f
+abbrev pub Of : ℕ → List Claim → Type 0
+Of f cs = (at : ℕ) → at < length cs → getD cs at noClaim .file ≡ f
 
-  apart-unread : indexed f ≡ true → (r : Refusal) → loneVerdict f s ≡ Unreadable r → 1 ≤ r .file
-  unfolding indexed loneVerdict
+module _ (f : ℕ) (cs : List Claim) (of : Of f cs) where
+  apart-unread : indexed f ≡ true → (r : Refusal) → speaks cs ≡ Unreadable r → 1 ≤ r .file
+  unfolding indexed
   apart-unread e r v =
-      let b = spoken-first (loneClaims f s) r .0 v in
-      let k : r .file ≡ f = subst (λ (q : Refusal). q .file ≡ f) (b .spoken) (claim-file (b .at) (b .inside)) in
+      let b = spoken-first cs r .0 v in
+      let k : r .file ≡ f = subst (λ (q : Refusal). q .file ≡ f) (b .spoken) (of (b .at) (b .inside)) in
       omega (arith, k, ltb-true 0 f (and-both (ltb 0 f) (ltb f 5) e .0))
 
-  apart-asked : (a : IndexAnswer) → Apart a → Apart (askedOf f s a)
+  pub apart-asked : (a : IndexAnswer) → Apart a → Apart (askedOf f (speaks cs) a)
   unfolding askedOf
-  apart-asked a h = go (indexed f) refl (loneVerdict f s) refl
+  apart-asked a h = go (indexed f) refl (speaks cs) refl
     where
-      go : (t : Bool) → indexed f ≡ t → (v : Verdict) → loneVerdict f s ≡ v → Apart (cond t (ifRead v a) (Barred 42))
+      go : (t : Bool) → indexed f ≡ t → (v : Verdict) → speaks cs ≡ v → Apart (cond t (ifRead v a) (Barred 42))
       go false p v q = omega arith
       go true p Readable q = h
       go true p (Unreadable r) q = apart-unread p r q
 
+of-lone : (f : ℕ) (s : List ℕ) → Of f (loneClaims f s)
+unfolding loneClaims
+of-lone f s zero h = refl
+of-lone f s (suc zero) h = refl
+of-lone f s (suc (suc zero)) h = refl
+of-lone f s (suc (suc (suc k))) h = in-file f (linesOf s) _ .0 (getD-mem (inFile f (linesOf s)) k noClaim (omega arith)) .file
+
 -- tests with numbers from 40 on speak with such a number
-spoken-from : (ts : List Test) → T (all (λ t. leb 40 (t .number)) ts) → (spoken ts ≡ 0 → ⊥) → 40 ≤ spoken ts
+pub spoken-from : (ts : List Test) → T (all (λ t. leb 40 (t .number)) ts) → (spoken ts ≡ 0 → ⊥) → 40 ≤ spoken ts
 unfolding spoken
 spoken-from [] t some = absurd (some refl)
 spoken-from (u ∷ ts) t some = go (u .broken) (leb-true 40 (u .number) (is-true (leb 40 (u .number)) (and-left (leb 40 (u .number)) (all (λ t. leb 40 (t .number)) ts) t))) (spoken-from ts (and-right (leb 40 (u .number)) (all (λ t. leb 40 (t .number)) ts) t)) some
@@ -93,7 +98,7 @@ spoken-from (u ∷ ts) t some = go (u .broken) (leb-true 40 (u .number) (is-true
     go true p q some = p
     go false p q some = q some
 
-apart-barred : (k size : ℕ) → ((k ≡ 0 → ⊥) → 40 ≤ k) → (k ≡ 0 → 1 ≤ size) → Apart (barredOr k size)
+pub apart-barred : (k size : ℕ) → ((k ≡ 0 → ⊥) → 40 ≤ k) → (k ≡ 0 → 1 ≤ size) → Apart (barredOr k size)
 unfolding barredOr
 apart-barred k size h w = go (eqb k 0) refl
   where
@@ -102,12 +107,12 @@ apart-barred k size h w = go (eqb k 0) refl
     go false e = h (eqb-false k 0 e)
 
 pub apart-checked : (f : ℕ) (s b : List ℕ) → Apart (checked f s b)
-unfolding checked indexTests
+unfolding checked loneVerdict indexTests
 apart-checked f s b =
-    apart-asked f s _ (apart-barred (spoken (indexTests version1 f (idsOf f s) b)) (length b) (spoken-from (indexTests version1 f (idsOf f s) b) tt)
-    (λ e. omega (arith, sound version1 f (idsOf f s) b .0 e .long)))
+    apart-asked f (loneClaims f s) (of-lone f s) _ (apart-barred (spoken (indexTests (versionOf (length (idsOf f s))) f (idsOf f s) b)) (length b) (spoken-from (indexTests (versionOf (length (idsOf f s))) f (idsOf f s) b) tt)
+    (λ e. omega (arith, sound (versionOf (length (idsOf f s))) f (idsOf f s) b (known-of (length (idsOf f s))) .0 e .long)))
 
 pub apart-wrote : (f : ℕ) (s : List ℕ) (room : ℕ) → Apart (wrote f s room)
-unfolding wrote writerTests indexLength
+unfolding wrote loneVerdict writerTests indexLength
 apart-wrote f s room =
-    apart-asked f s _ (apart-barred (spoken (writerTests version1 (idsOf f s) room)) _ (spoken-from (writerTests version1 (idsOf f s) room) tt) (λ e. omega arith))
+    apart-asked f (loneClaims f s) (of-lone f s) _ (apart-barred (spoken (writerTests (versionOf (length (idsOf f s))) (idsOf f s) room)) _ (spoken-from (writerTests (versionOf (length (idsOf f s))) (idsOf f s) room) tt) (λ e. omega arith))

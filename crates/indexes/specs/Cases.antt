@@ -97,12 +97,35 @@ abbrev pub wrongMark : Case
 wrongMark =
     checking 2 routes (0x54 ∷ 0x54 ∷ 0x59 ∷ 2 ∷ 0 ∷ 2 ∷ 3 ∷ 0 ∷ 2 ∷ 0 ∷ 3 ∷ 0 ∷ 1 ∷ 0 ∷ []) (barred 40)
 
--- 41: version 2, and version 257, though the count is wrong too
-abbrev pub versionTwo : Case
-versionTwo = checking 2 routes (0x54 ∷ 0x54 ∷ 0x58 ∷ 2 ∷ 0 ∷ 2 ∷ 3 ∷ 0 ∷ 2 ∷ 0 ∷ 3 ∷ 0 ∷ 1 ∷ 0 ∷ []) (barred 41)
+-- the mark and version 2, then file, count and record numbers as bytes
+abbrev pub two : List ℕ → List ℕ
+two rest = 0x54 ∷ 0x54 ∷ 0x58 ∷ 2 ∷ 0 ∷ rest
+
+-- 41: versions 0, 3 and 257, though the count is wrong too
+abbrev pub versionZero : Case
+versionZero = checking 2 routes (0x54 ∷ 0x54 ∷ 0x58 ∷ 0 ∷ 0 ∷ 2 ∷ 2 ∷ 0 ∷ 2 ∷ 0 ∷ 3 ∷ 0 ∷ []) (barred 41)
+
+abbrev pub versionThree : Case
+versionThree = checking 2 routes (0x54 ∷ 0x54 ∷ 0x58 ∷ 3 ∷ 0 ∷ 2 ∷ 2 ∷ 0 ∷ 2 ∷ 0 ∷ 3 ∷ 0 ∷ []) (barred 41)
 
 abbrev pub version257 : Case
 version257 = checking 2 routes (0x54 ∷ 0x54 ∷ 0x58 ∷ 1 ∷ 1 ∷ 2 ∷ 2 ∷ 0 ∷ 2 ∷ 0 ∷ 3 ∷ 0 ∷ []) (barred 41)
+
+-- 42: version 2 of three records, as version 1 has them or 10 plus four times 3 bytes; of none, in 8, 9 and 10 bytes
+abbrev pub narrowTwo : Case
+narrowTwo = checking 2 routes (two (2 ∷ 3 ∷ 0 ∷ 2 ∷ 0 ∷ 3 ∷ 0 ∷ 1 ∷ 0 ∷ [])) (barred 42)
+
+abbrev pub wideTwo : Case
+wideTwo = checking 2 routes (two (2 ∷ 3 ∷ 0 ∷ 0 ∷ 0 ∷ 2 ∷ 0 ∷ 0 ∷ 0 ∷ 3 ∷ 0 ∷ 0 ∷ 0 ∷ 1 ∷ 0 ∷ 0 ∷ 0 ∷ [])) (barred 42)
+
+abbrev pub eightBytes : Case
+eightBytes = checking 2 "route_id,route_type\n" (two (2 ∷ 0 ∷ 0 ∷ [])) (barred 42)
+
+abbrev pub nineBytes : Case
+nineBytes = checking 2 "route_id,route_type\n" (two (2 ∷ 0 ∷ 0 ∷ 0 ∷ [])) (barred 42)
+
+abbrev pub tenBytes : Case
+tenBytes = checking 2 "route_id,route_type\n" (two (2 ∷ 0 ∷ 0 ∷ 0 ∷ 0 ∷ [])) (barred 42)
 
 -- 42: another file's number; two records of three, and 259; a byte more than the count needs, and one less, which is 0
 abbrev pub wrongFile : Case
@@ -171,8 +194,14 @@ worked =
     ∷ nothingListed
     ∷ sevenBytes
     ∷ wrongMark
-    ∷ versionTwo
+    ∷ versionZero
+    ∷ versionThree
     ∷ version257
+    ∷ narrowTwo
+    ∷ wideTwo
+    ∷ eightBytes
+    ∷ nineBytes
+    ∷ tenBytes
     ∷ wrongFile
     ∷ oneLess
     ∷ highCount

@@ -11,6 +11,7 @@ use Rattle.meaning.specs.Lists.{ascii, same, some, flat, laid}
 use Rattle.meaning.specs.Bytes.{linesOf}
 use Rattle.meaning.specs.Refusals.{Test, test, Claim, claim, rule1, rule2, rule4, inFile, speaks}
 use Rattle.ranking.specs.Ranks.{before}
+use Rattle.indexes.specs.declared.Version.{Version}
 use Rattle.indexes.specs.declared.IndexAnswer.{IndexAnswer}
 use Rattle.indexes.specs.declared.IndexAnswer.the-variants.{Whole, Unread, Barred}
 use Rattle.indexes.specs.Order.{idsOf, idOf, repeats, ranked}
@@ -27,13 +28,15 @@ unfoldable pub numberAt : ℕ → List ℕ → ℕ → ℕ
 numberAt zero b at = 0
 numberAt (suc k) b at = getD b at 0 + 256 * numberAt k b (at + 1)
 
--- a version: its number, and in how many bytes the count and each record number stand
-pub record Version : Type 0 where
-  pub number : ℕ
-  pub width : ℕ
-
 abbrev pub version1 : Version
 version1 = record { number = 1; width = 2 }
+
+abbrev pub version2 : Version
+version2 = record { number = 2; width = 4 }
+
+-- version 1 up to 65,535 records and version 2 above
+unfoldable pub versionOf : ℕ → Version
+versionOf n = cond (ltb n 65536) version1 version2
 
 unfoldable pub mark : List ℕ
 mark = ascii "TTX"
@@ -61,13 +64,21 @@ entry v b i = numberAt (v .width) b (headLength v + i * v .width)
 unfoldable pub rule40 : List ℕ → Bool
 rule40 b = ltb (length b) 8 || not (same (take 3 b) mark)
 
--- 41: other version
-unfoldable pub rule41 : Version → List ℕ → Bool
-rule41 v b = not (eqb (numberAt 2 b 3) (v .number))
+-- does an index say another version than this?
+unfoldable pub otherVersion : Version → List ℕ → Bool
+otherVersion v b = not (eqb (numberAt 2 b 3) (v .number))
 
--- 42: wrong file number, count or length
+-- 41: other version
+unfoldable pub rule41 : List ℕ → Bool
+rule41 b = otherVersion version1 b && otherVersion version2 b
+
+-- wrong file number, count or length
+unfoldable pub misfits : Version → ℕ → ℕ → List ℕ → Bool
+misfits v f n b = not (eqb (getD b 5 0) f) || (not (eqb (numberAt (v .width) b 6) n) || not (eqb (length b) (indexLength v n)))
+
+-- 42: wrong file number, count or length, or not the version of so many records
 unfoldable pub rule42 : Version → ℕ → ℕ → List ℕ → Bool
-rule42 v f n b = not (eqb (getD b 5 0) f) || (not (eqb (numberAt (v .width) b 6) n) || not (eqb (length b) (indexLength v n)))
+rule42 v f n b = otherVersion v b || misfits v f n b
 
 -- record 0 or beyond the last of n
 unfoldable pub strays : ℕ → ℕ → Bool
@@ -85,7 +96,7 @@ rule44 v ids b = some (λ i. not (before (idOf ids (entry v b i)) (idOf ids (ent
 unfoldable pub indexTests : Version → ℕ → List (List ℕ) → List ℕ → List Test
 indexTests v f ids b =
     test 40 (rule40 b)
-    ∷ test 41 (rule41 v b)
+    ∷ test 41 (rule41 b)
     ∷ test 42 (rule42 v f (length ids) b)
     ∷ test 43 (rule43 v (length ids) b)
     ∷ test 44 (rule44 v ids b)
@@ -98,7 +109,7 @@ spoken (t ∷ r) = let k = spoken r in cond (t .broken) (t .number) k
 
 -- ---- the refusals of the writer
 
--- 45 a repeated id, then 46 a buffer too short for 8 plus twice the count
+-- 45 a repeated id, then 46 a buffer too short for the chosen length
 unfoldable pub writerTests : Version → List (List ℕ) → ℕ → List Test
 writerTests v ids room = test 45 (repeats ids) ∷ test 46 (ltb room (indexLength v (length ids))) ∷ []
 
@@ -125,8 +136,8 @@ ifRead Readable a = a
 ifRead (Unreadable r) a = Unread r
 
 -- A file number outside 1 to 4 asked of reader or writer answers 42 at once; then the file's own refusal speaks.
-unfoldable pub askedOf : ℕ → List ℕ → IndexAnswer → IndexAnswer
-askedOf f s a = cond (indexed f) (ifRead (loneVerdict f s) a) (Barred 42)
+unfoldable pub askedOf : ℕ → Verdict → IndexAnswer → IndexAnswer
+askedOf f own a = cond (indexed f) (ifRead own a) (Barred 42)
 
 -- a broken rule, or an index of so many bytes
 unfoldable pub barredOr : ℕ → ℕ → IndexAnswer
@@ -136,13 +147,13 @@ barredOr n size = cond (eqb n 0) (Whole size) (Barred n)
 
 -- what the reader answers to an index b beside file f
 unfoldable pub checked : ℕ → List ℕ → List ℕ → IndexAnswer
-checked f s b = askedOf f s (barredOr (spoken (indexTests version1 f (idsOf f s) b)) (length b))
+checked f s b = let ids = idsOf f s in askedOf f (loneVerdict f s) (barredOr (spoken (indexTests (versionOf (length ids)) f ids b)) (length b))
 
 -- what the writer answers, with a buffer of so many bytes
 unfoldable pub wrote : ℕ → List ℕ → ℕ → IndexAnswer
 wrote f s room =
     let ids = idsOf f s in
-    askedOf f s (barredOr (spoken (writerTests version1 ids room)) (indexLength version1 (length ids)))
+    askedOf f (loneVerdict f s) (barredOr (spoken (writerTests (versionOf (length ids)) ids room)) (indexLength (versionOf (length ids)) (length ids)))
 
 -- the buffer after the writer's answer: a refusal changes nothing, an index stands at its start and leaves the rest unchanged
 abbrev pub leftBy : IndexAnswer → List ℕ → List ℕ → List ℕ
@@ -151,7 +162,7 @@ leftBy (Unread r) index lent = lent
 leftBy (Barred n) index lent = lent
 
 unfoldable pub written : ℕ → List ℕ → List ℕ → List ℕ
-written f s lent = leftBy (wrote f s (length lent)) (indexOf version1 f (ranked (idsOf f s))) lent
+written f s lent = leftBy (wrote f s (length lent)) (indexOf (versionOf (length (idsOf f s))) f (ranked (idsOf f s))) lent
 
 -- what document 02 calls each case of the answer, as five numbers: number (0 written or accepted), the file's own refusal's file, line and column, the index's length
 unfoldable pub indexNumbers : IndexAnswer → List ℕ

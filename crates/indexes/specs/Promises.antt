@@ -9,13 +9,13 @@ use Rattle.meaning.specs.declared.Refusal.{Refusal}
 use Rattle.meaning.specs.Refusals.{Test, test, verdictNumbers}
 use Rattle.meaning.specs.Promises.{saysReadable, FirstBroken}
 use Rattle.indexes.specs.Order.{idsOf, repeats, ranked, Rising}
-use Rattle.indexes.specs.Index.{version1, indexOf, indexLength, indexTests, writerTests, indexed, loneClaims, loneVerdict, checked, wrote, written, indexNumbers}
+use Rattle.indexes.specs.Index.{versionOf, indexOf, indexLength, indexTests, writerTests, indexed, loneClaims, loneVerdict, checked, wrote, written, indexNumbers}
 
 -- an index that lists every record of file f once, in rising order of ids
 pub record Lists (f : ℕ) (ids : List (List ℕ)) (b : List ℕ) : Type 0 where
   pub records : List ℕ
   pub rising : Rising ids records
-  pub bytes : b ≡ indexOf version1 f records
+  pub bytes : b ≡ indexOf (versionOf (length ids)) f records
 
 -- what a lent slice of bytes holds
 abbrev pub Bytes : List ℕ → Type 0
@@ -60,21 +60,21 @@ pub record Beside (f : ℕ) (s : List ℕ) : Type 0 where
   -- An empty file is refused with 4 here, calendar.txt too.
   pub empty : indexed f ≡ true → s ≡ [] → FirstBroken (loneClaims f s) (record { number = 4; file = f; line = 0; column = 0 })
   -- Then, the lowest number speaking: 40 to 44.
-  pub read-lowest : Reads f s → (b : List ℕ) (n : ℕ) → indexNumbers (checked f s b) ≡ saysBarred n ↔ Lowest (indexTests version1 f (idsOf f s) b) n
+  pub read-lowest : Reads f s → (b : List ℕ) (n : ℕ) → indexNumbers (checked f s b) ≡ saysBarred n ↔ Lowest (indexTests (versionOf (length (idsOf f s))) f (idsOf f s) b) n
   -- Whoever made it, an index is accepted only if it lists every record once in that order, and then it is.
   pub accepted : Reads f s → (b : List ℕ) → Bytes b → indexNumbers (checked f s b) ≡ saysWhole (length b) ↔ Lists f (idsOf f s) b
   -- For a file there is at most one such index,
   pub one : (b c : List ℕ) → Lists f (idsOf f s) b → Lists f (idsOf f s) c → b ≡ c
   -- and one exactly when no id repeats.
   pub some-one : (b : List ℕ) → Lists f (idsOf f s) b → repeats (idsOf f s) ≡ false
-  pub none-repeats : repeats (idsOf f s) ≡ false → Lists f (idsOf f s) (indexOf version1 f (ranked (idsOf f s)))
-  -- The writer refuses with 45 a repeated id, then with 46 a buffer too short for 8 plus twice the count,
-  pub write-lowest : Reads f s → (room n : ℕ) → indexNumbers (wrote f s room) ≡ saysBarred n ↔ Lowest (writerTests version1 (idsOf f s) room) n
-  pub need : indexLength version1 (length (idsOf f s)) ≡ 8 + 2 * length (idsOf f s)
+  pub none-repeats : repeats (idsOf f s) ≡ false → Lists f (idsOf f s) (indexOf (versionOf (length (idsOf f s))) f (ranked (idsOf f s)))
+  -- The writer refuses with 45 a repeated id, then with 46 a buffer too short for 8 plus twice the count (for the chosen length, by E9),
+  pub write-lowest : Reads f s → (room n : ℕ) → indexNumbers (wrote f s room) ≡ saysBarred n ↔ Lowest (writerTests (versionOf (length (idsOf f s))) (idsOf f s) room) n
+  pub need : let n = length (idsOf f s) in (n ≤ 65535 → indexLength (versionOf n) n ≡ 8 + 2 * n) × (65535 < n → indexLength (versionOf n) n ≡ 10 + 4 * n)
   -- changing nothing;
   pub unchanged : (lent : List ℕ) → ((n : ℕ) → indexNumbers (wrote f s (length lent)) ≡ saysWhole n → ⊥) → written f s lent ≡ lent
   -- otherwise it writes exactly the accepted bytes and leaves the rest of the buffer unchanged.
   pub writes : (lent : List ℕ) (n : ℕ) → indexNumbers (wrote f s (length lent)) ≡ saysWhole n → Lists f (idsOf f s) (take n (written f s lent))
   pub agrees : (lent : List ℕ) (n : ℕ) → indexNumbers (wrote f s (length lent)) ≡ saysWhole n → indexNumbers (checked f s (take n (written f s lent))) ≡ saysWhole n
   pub leaves : (lent : List ℕ) (n : ℕ) → indexNumbers (wrote f s (length lent)) ≡ saysWhole n → (length (written f s lent) ≡ length lent) × (drop n (written f s lent) ≡ drop n lent)
-  pub told : (lent : List ℕ) (n : ℕ) → indexNumbers (wrote f s (length lent)) ≡ saysWhole n → n ≡ 8 + 2 * length (idsOf f s)
+  pub told : (lent : List ℕ) (n : ℕ) → indexNumbers (wrote f s (length lent)) ≡ saysWhole n → n ≡ indexLength (versionOf (length (idsOf f s))) (length (idsOf f s))

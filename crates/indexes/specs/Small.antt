@@ -5,6 +5,6 @@ use Rattle.indexes.specs.declared.IndexAnswer.{IndexAnswer}
 use Rattle.indexes.specs.declared.IndexAnswer.the-variants.{Whole, Unread, Barred}
 
 abbrev pub Small : IndexAnswer → Type 0
-Small (Whole n) = n ≤ 8 + 2 * maxLines
+Small (Whole n) = n ≤ 10 + 4 * maxLines
 Small (Unread r) = (r .number ≤ 14) × ((r .file ≤ 4) × ((r .line ≤ maxLines) × (r .column ≤ maxBytes + 1)))
 Small (Barred n) = n ≤ 46

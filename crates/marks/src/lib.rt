@@ -2,6 +2,7 @@
 ghost use mathlib.Core.Path.{_≡_};
 ghost use Prim.Native.Nat.{_<_};
 ghost use Rattle.marks.specs.Marks.{marked, Blank, OneMore, MarkedIf};
+use meaning::FEW_LINES;
 use meaning::MAX_LINES;
 
 // Mark f, of files 1 to 4 and 6: the id of the line, with its date in file 6, stands on an earlier one of file f. The marks from 7 on have names.
@@ -26,6 +27,13 @@ pub fn blank() -> [u16; MAX_LINES]
     ensures { λ r. ⌜ Blank r ⌝ }
 {
     [0u16; MAX_LINES]
+}
+
+// The same for files of few lines.
+pub fn blank_few() -> [u16; FEW_LINES]
+    ensures { λ r. ⌜ Blank r ⌝ }
+{
+    [0u16; FEW_LINES]
 }
 
 // Has record r mark b? None has that has no entry.

@@ -72,10 +72,10 @@ abbrev pub FromTo : ℕ → ℕ → List ℕ → ℕ → Type 0
 FromTo a m v n = ((a ≤ n) × (n ≤ m)) × (v ≡ (48 + n) ∷ [])
 
 pub record Limits : Type 0 where
-  -- 1: file longer than 16,777,216 bytes
-  pub bytes : (f : ℕ) (s : List ℕ) (room : ℕ) → rule1 f s room ≡ true ↔ 16777216 < length s
-  -- 2: more than 65,536 LF bytes
-  pub line-ends : (f : ℕ) (s : List ℕ) (room : ℕ) → rule2 f s room ≡ true ↔ 65536 < countLf s
+  -- 1: file longer than 134,217,728 bytes
+  pub bytes : (f : ℕ) (s : List ℕ) (room : ℕ) → rule1 f s room ≡ true ↔ 134217728 < length s
+  -- 2: more than 1,048,576 LF bytes
+  pub line-ends : (f : ℕ) (s : List ℕ) (room : ℕ) → rule2 f s room ≡ true ↔ 1048576 < countLf s
   -- 7: more than 32 fields
   pub line-fields : (l : List ℕ) → rule7 l ≡ true ↔ 32 < length (fields l)
   -- Time; empty says none

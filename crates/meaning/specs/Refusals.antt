@@ -52,16 +52,20 @@ onLine f n (t ∷ r) = claimOf f n t ∷ onLine f n r
 
 -- the limits of rules 1 and 2: every size that follows from them names these two
 abbrev pub maxBytes : ℕ
-maxBytes = 16777216
+maxBytes = 134217728
 
 abbrev pub maxLines : ℕ
-maxLines = 65536
+maxLines = 1048576
 
--- 1: file longer than 16,777,216 bytes
+-- so many lines have the files of a small feed, for which smaller arrays do
+abbrev pub fewLines : ℕ
+fewLines = 65536
+
+-- 1: file longer than 134,217,728 bytes
 unfoldable pub rule1 : ℕ → List ℕ → ℕ → Bool
 rule1 f s room = ltb maxBytes (length s)
 
--- 2: more than 65,536 LF bytes
+-- 2: more than 1,048,576 LF bytes
 unfoldable pub rule2 : ℕ → List ℕ → ℕ → Bool
 rule2 f s room = ltb maxLines (countLf s)
 

@@ -1,10 +1,13 @@
 // The types and the limits that definitions and code share.
 
 // The most bytes of a file, by rule 1.
-pub const MAX_BYTES: usize = 16777216;
+pub const MAX_BYTES: usize = 134217728;
 
 // The most LF bytes of a file, by rule 2; as many entries has every array with one for each line.
-pub const MAX_LINES: usize = 65536;
+pub const MAX_LINES: usize = 1048576;
+
+// So many entries has such an array where no file has more lines, so that small feeds don't pay for the limit.
+pub const FEW_LINES: usize = 65536;
 
 // Where something starts and where it ends, the end excluded.
 pub struct Bounds {

@@ -7,7 +7,7 @@ ghost use lib.IntN.{pos};
 ghost use lib.ListN.{length, getD};
 ghost use Rattle.meaning.specs.Columns.{rowOf};
 ghost use Rattle.meaning.specs.Tables.{Feed, widthOf, recordOf, refer, parentStation, tripService, routeIds, serviceIds, tripIds, stopIds, datedIds};
-ghost use Rattle.meaning.specs.Refusals.{maxBytes};
+ghost use Rattle.meaning.specs.Refusals.{maxBytes, maxLines};
 ghost use Rattle.rows.specs.Cells.{putAt};
 ghost use Rattle.memo.specs.Memo.{Ready};
 ghost use Rattle.values.specs.Located.{Located};
@@ -101,7 +101,7 @@ fn put_trip(
     b_memo: &mut [u32],
 )
     requires { ⌜ Lies (now l) at (q .start) (q .end) × (row .0 * 8 + 8 ≤ length (now t)) ⌝ }
-    requires { ⌜ («a_count» ≤ maxBytes) × («b_count» ≤ maxBytes) ⌝ }
+    requires { ⌜ («a_count» ≤ maxLines) × («b_count» ≤ maxLines) ⌝ }
     requires { ⌜ Ready (now a) (now «a_table») 3 «a_count» (now «a_memo») × Ready (now b) (now «b_table») 5 «b_count» (now «b_memo») ⌝ }
     ensures { λ _. ⌜ ((w : Feed) (ps : List ℕ) → Located (now (l .entry)) ps (q .start) (q .end)
         → Lists (now (a .entry)) (now («a_table» .entry)) 3 «a_count» (routeIds w) → Lists (now (b .entry)) (now («b_table» .entry)) 5 «b_count» (serviceIds w)
@@ -135,7 +135,7 @@ fn put_time(
     b_memo: &mut [u32],
 )
     requires { ⌜ Lies (now l) at (q .start) (q .end) × (row .0 * 8 + 8 ≤ length (now t)) ⌝ }
-    requires { ⌜ («a_count» ≤ maxBytes) × («b_count» ≤ maxBytes) ⌝ }
+    requires { ⌜ («a_count» ≤ maxLines) × («b_count» ≤ maxLines) ⌝ }
     requires { ⌜ Ready (now a) (now «a_table») 8 «a_count» (now «a_memo») × Ready (now b) (now «b_table») 7 «b_count» (now «b_memo») ⌝ }
     ensures { λ _. ⌜ ((w : Feed) (ps : List ℕ) → Located (now (l .entry)) ps (q .start) (q .end)
         → Lists (now (a .entry)) (now («a_table» .entry)) 8 «a_count» (tripIds w) → Lists (now (b .entry)) (now («b_table» .entry)) 7 «b_count» (stopIds w)
@@ -197,7 +197,7 @@ pub fn put_record(
 )
     requires { ⌜ (1 ≤ f) × ((f ≤ 6) × (at + length (now l) ≤ maxBytes)) ⌝ }
     requires { ⌜ r * widthOf f + widthOf f ≤ length (now t) ⌝ }
-    requires { ⌜ («a_count» ≤ maxBytes) × («b_count» ≤ maxBytes) ⌝ }
+    requires { ⌜ («a_count» ≤ maxLines) × («b_count» ≤ maxLines) ⌝ }
     requires { ⌜ Sought f (now a) (now «a_table») «a_count» (now «a_memo») (now b) (now «b_table») «b_count» (now «b_memo») ⌝ }
     ensures { λ _. ⌜ ((w : Feed) (ps : List ℕ) → ((k : ℕ) → getD places k 0 ≡ getD ps k 0)
         → Refers f w (now (a .entry)) (now («a_table» .entry)) «a_count» (now (b .entry)) (now («b_table» .entry)) «b_count»

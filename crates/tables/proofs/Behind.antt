@@ -1,7 +1,8 @@
 -- Files that lie behind an array of six slices.
 use mathlib.Core.Path.{_≡_, ap}
 use mathlib.Core.List.{List, [], _∷_, map}
-use Prim.Native.Nat.{ℕ}
+use Prim.Native.Nat.{ℕ, _+_, _-_, _<_}
+use native.Mathlib.Omega.{arith}
 use lib.IntN.{ℤ}
 use lib.ListN.{length, getD, List·getD-map}
 use denote.Ref.{RefT, now}
@@ -9,7 +10,7 @@ use Rattle.meaning.specs.Tables.{Feed, fileOf, feedOf, filled}
 use Rattle.meaning.specs.Outcome.{filledFrom}
 use Rattle.meaning.proofs.Arrays.{six-are}
 use Rattle.marks.specs.Noted.{Noted, TripsNoted}
-use Rattle.tables.specs.Fill.{Room, Fits}
+use Rattle.tables.specs.Fill.{Room, Fits, Covers, CoversAll}
 use Rattle.tables.proofs.Feeds.{six}
 
 -- what stands for an element that isn't there
@@ -19,6 +20,17 @@ none = record { ptr = (0, 0); name = 0; now = [] }
 -- the file behind element i
 abbrev pub behind : List (RefT (List ℕ)) → ℕ → List ℕ
 behind l i = now (getD l i none)
+
+-- the marks have an entry for each line of each element
+pub cover-each : (l : List (RefT (List ℕ))) (m : List ℕ) → CoversAll m (map now l)
+    → Covers m (behind l 0) × Covers m (behind l 1) × Covers m (behind l 2) × Covers m (behind l 3) × Covers m (behind l 4) × Covers m (behind l 5)
+unfolding fileOf
+cover-each l m h = (each 0 (omega arith), each 1 (omega arith), each 2 (omega arith), each 3 (omega arith), each 4 (omega arith), each 5 (omega arith))
+  where
+    each : (i : ℕ) → i < 6 → Covers m (behind l i)
+    each i low =
+        let back : i + 1 - 1 ≡ i = omega arith in
+        rw (List·getD-map now l i none) at (rw back at (h (i + 1) (omega arith) (omega arith)))
 
 module _ (l : List (RefT (List ℕ))) (t₁ t₂ t₃ t₄ t₅ t₆ : List ℤ) where
   -- the tables fit the elements

@@ -13,7 +13,6 @@ use Rattle.meaning.specs.Bytes.{part, value, countLf}
 use Rattle.meaning.specs.Columns.{Row, rowsOf}
 use Rattle.meaning.specs.Tables.{Feed, feedOf, fileOf, rowsIn, under, idColumn, stopIds, routeIds, serviceIds, tripIds, parentStation, routeShortName, routeLongName, exceptionService}
 use Rattle.meaning.specs.Rules.{row, exceptionDay, sameServiceAndDate, rule20, rule20·dates, rule25, recordCount}
-use Rattle.meaning.specs.Refusals.{maxLines}
 use Rattle.meaning.proofs.ListLaws.{both}
 use Rattle.meaning.proofs.Laws.{getD-map-in}
 use Rattle.marks.specs.Marks.{marked, Blank, parentMark, namelessMark, MarkedIf}
@@ -26,6 +25,7 @@ use Rattle.ordering.specs.declared.By.{By}
 use Rattle.ordering.specs.declared.By.the-variants.{Id, IdAndDate}
 use Rattle.ordering.specs.Ids.{idOf, keyOf, alike}
 use Rattle.ordering.proofs.Laws.{Alike, yes, no, alike as decide}
+use Rattle.tables.specs.Fill.{Covers}
 use Rattle.tables.specs.Noting.{repeated, noted, noteMark, Telling, Marking}
 use Rattle.tables.specs.Walk.{idsOf}
 use Rattle.tables.proofs.Turns.{count-length}
@@ -157,8 +157,7 @@ marking-none f s m e = record {
 -- ---- the marks of five files
 
 module _ (a b c d e g : List ℕ) (m m₁ m₂ m₃ m₄ m₅ : List ℕ) (p : Marking 1 a m m₁) (q : Marking 2 b m₁ m₂) (r : Marking 3 c m₂ m₃) (t : Marking 4 d m₃ m₄) (u : Marking 6 g m₄ m₅)
-    (blank : Blank m) (long : maxLines ≤ length m)
-    (few : (countLf a ≤ maxLines) × ((countLf b ≤ maxLines) × ((countLf c ≤ maxLines) × ((countLf d ≤ maxLines) × (countLf g ≤ maxLines))))) where
+    (blank : Blank m) (few : Covers m a × Covers m b × Covers m c × Covers m d × Covers m g) where
   w : Feed
   w = feedOf (a ∷ b ∷ c ∷ d ∷ e ∷ g ∷ [])
 
@@ -193,20 +192,20 @@ module _ (a b c d e g : List ℕ) (m m₁ m₂ m₃ m₄ m₅ : List ℕ) (p : M
       ∙ p .repeats (blank 1) (omega (arith, few .0)) i (omega (arith, rows-count 1 a))
   repeats-in (suc (suc zero)) i x y h =
       last₂ 2 (i + 1) (λ z. omega arith) (λ z. omega arith) (λ z. omega arith)
-      ∙ q .repeats (λ j. free₁ 2 j (λ z. omega arith) (λ z. omega arith)) (omega (arith, few .1 .0, p .size)) i (omega (arith, rows-count 2 b))
+      ∙ q .repeats (λ j. free₁ 2 j (λ z. omega arith) (λ z. omega arith)) (omega (arith, few .1, p .size)) i (omega (arith, rows-count 2 b))
   repeats-in (suc (suc (suc zero))) i x y h =
       last₃ 3 (i + 1) (λ z. omega arith) (λ z. omega arith)
-      ∙ r .repeats (λ j. free₂ 3 j (λ z. omega arith) (λ z. omega arith) (λ z. omega arith) (λ z. omega arith)) (omega (arith, few .1 .1 .0, p .size, q .size)) i (omega (arith, rows-count 3 c))
+      ∙ r .repeats (λ j. free₂ 3 j (λ z. omega arith) (λ z. omega arith) (λ z. omega arith) (λ z. omega arith)) (omega (arith, few .2, p .size, q .size)) i (omega (arith, rows-count 3 c))
   repeats-in (suc (suc (suc (suc zero)))) i x y h =
       last₄ 4 (i + 1) (λ z. omega arith)
-      ∙ t .repeats (λ j. free₃ 4 j (λ z. omega arith) (λ z. omega arith) (λ z. omega arith) (λ z. omega arith) (λ z. omega arith)) (omega (arith, few .1 .1 .1 .0, p .size, q .size, r .size)) i (omega (arith, rows-count 4 d))
+      ∙ t .repeats (λ j. free₃ 4 j (λ z. omega arith) (λ z. omega arith) (λ z. omega arith) (λ z. omega arith) (λ z. omega arith)) (omega (arith, few .3, p .size, q .size, r .size)) i (omega (arith, rows-count 4 d))
   repeats-in (suc (suc (suc (suc (suc f))))) i x y h = absurd (omega arith)
 
   dates-in : (i : ℕ) → i < length (w .dates) → marked m₅ 6 (i + 1) ≡ rule20·dates w i
   unfolding w feedOf fileOf repeated rule20·dates
   dates-in i h =
       u .repeats (λ j. t .other 6 j (λ z. omega arith) (λ z l. omega arith) ∙ free₃ 6 j (λ z. omega arith) (λ z. omega arith) (λ z. omega arith) (λ z. omega arith) (λ z. omega arith))
-      (omega (arith, few .1 .1 .1 .1, p .size, q .size, r .size, t .size)) i (omega (arith, rows-count 6 g))
+      (omega (arith, few .4, p .size, q .size, r .size, t .size)) i (omega (arith, rows-count 6 g))
 
   parents-in : (i : ℕ) → i < length (w .stops) → marked m₅ parentMark (i + 1) ≡ not (empty (parentStation (row (w .stops) i)))
   unfolding w feedOf fileOf noted
@@ -218,7 +217,7 @@ module _ (a b c d e g : List ℕ) (m m₁ m₂ m₃ m₄ m₅ : List ℕ) (p : M
   unfolding w feedOf fileOf noted rule25
   nameless-in i h =
       last₂ 8 (i + 1) (λ z. omega arith) (λ z. omega arith) (λ z. omega arith)
-      ∙ q .notes (λ j. free₁ 8 j (λ z. omega arith) (λ z. omega arith)) (omega (arith, few .1 .0, p .size)) i (omega (arith, rows-count 2 b))
+      ∙ q .notes (λ j. free₁ 8 j (λ z. omega arith) (λ z. omega arith)) (omega (arith, few .1, p .size)) i (omega (arith, rows-count 2 b))
 
   pub noted-all : Noted (feedOf (a ∷ b ∷ c ∷ d ∷ e ∷ g ∷ [])) m₅
   unfolding w

@@ -4,18 +4,18 @@ ghost use mathlib.Core.Bool.{false};
 ghost use mathlib.Core.List.{List, [], _∷_, map};
 ghost use Prim.Native.Nat.{ℕ, _+_, _≤_};
 ghost use lib.IntN.{ℤ};
-ghost use lib.ListN.{length, take};
+ghost use lib.ListN.{take};
 ghost use Rattle.meaning.specs.Lists.{flat, laid};
 ghost use Rattle.meaning.specs.Bytes.{countLf};
 ghost use Rattle.meaning.specs.Tables.{Feed, fileOf, feedOf, routeIds, serviceIds, filled};
-ghost use Rattle.meaning.specs.Refusals.{maxBytes, maxLines};
+ghost use Rattle.meaning.specs.Refusals.{maxLines};
 ghost use Rattle.meaning.specs.Outcome.{filledFrom};
 ghost use Rattle.marks.specs.Marks.{marked, Blank};
 ghost use Rattle.marks.specs.Noted.{Noted, TripsNoted};
 ghost use Rattle.ordering.specs.Ids.{Placed, Arranged};
 ghost use Rattle.records.specs.Refers.{Lists, Indexed, Refers, Sought};
 ghost use Rattle.columns.specs.Heading.{Heading};
-ghost use Rattle.tables.specs.Fill.{Room, Fits};
+ghost use Rattle.tables.specs.Fill.{Room, Fits, Covers, CoversAll};
 ghost use Rattle.tables.specs.Walk.{writtenAll, written, Ordered, OrderedIf, IndexedIf, ListsIf, Settled};
 use rows::Calendar;
 use rows::Dates;
@@ -47,7 +47,7 @@ fn fill_lines(
 ) -> usize
     requires { ⌜ (1 ≤ f) × ((f ≤ 6) × Room f (now s) (now t)) ⌝ }
     requires { ⌜ Heading f (now s) known at ⌝ }
-    requires { ⌜ («a_count» ≤ maxBytes) × («b_count» ≤ maxBytes) ⌝ }
+    requires { ⌜ («a_count» ≤ maxLines) × («b_count» ≤ maxLines) ⌝ }
     requires { ⌜ Sought f (now a) (now «a_table») «a_count» (now «a_memo») (now b) (now «b_table») «b_count» (now «b_memo») ⌝ }
     ensures { λ _. ⌜ ((w : Feed) (lent : List ℤ)
         → Refers f w (now (a .entry)) (now («a_table» .entry)) «a_count» (now (b .entry)) (now («b_table» .entry)) «b_count»
@@ -100,7 +100,7 @@ fn fill(
     b_count: usize,
 ) -> usize
     requires { ⌜ (1 ≤ f) × ((f ≤ 6) × Room f (now s) (now t)) ⌝ }
-    requires { ⌜ («a_count» ≤ maxBytes) × («b_count» ≤ maxBytes) ⌝ }
+    requires { ⌜ («a_count» ≤ maxLines) × («b_count» ≤ maxLines) ⌝ }
     requires { ⌜ Indexed f (now a) (now «a_table») «a_count» (now b) (now «b_table») «b_count» ⌝ }
     ensures { λ _. ⌜ ((w : Feed)
         → Refers f w (now (a .entry)) (now («a_table» .entry)) «a_count» (now (b .entry)) (now («b_table» .entry)) «b_count»
@@ -155,7 +155,7 @@ fn fill_trips(
     b_table: &[i32],
     b_count: usize,
 )
-    requires { ⌜ Room 4 (now s) (now t) × ((«a_count» ≤ maxBytes) × («b_count» ≤ maxBytes)) ⌝ }
+    requires { ⌜ Room 4 (now s) (now t) × ((«a_count» ≤ maxLines) × («b_count» ≤ maxLines)) ⌝ }
     requires { ⌜ Placed (now a) (now «a_table») 3 «a_count» × Arranged (now a) 3 «a_count» (now «a_table») ⌝ }
     requires { ⌜ IndexedIf (now b) (now «b_table») 5 «b_count» ⌝ }
     ensures { λ _. ⌜ ((w : Feed)
@@ -197,7 +197,7 @@ fn order_all(
 ) -> Counts
     requires { ⌜ Room 1 (now stops) (now «stops_table») × (Room 2 (now routes) (now «routes_table») × (Fits 3 (now calendar) (now «calendar_table»)
         × (Room 4 (now trips) (now «trips_table») × Fits 6 (now dates) (now «dates_table»)))) ⌝ }
-    requires { ⌜ Blank (now marks) × (maxLines ≤ length (now marks)) ⌝ }
+    requires { ⌜ Blank (now marks) × (Covers (now marks) (now stops) × Covers (now marks) (now routes) × Covers (now marks) (now calendar) × Covers (now marks) (now trips) × Covers (now marks) (now dates)) ⌝ }
     ensures { λ r. ⌜ Ordered 1 (now (stops .entry)) (r .stops) (now («stops_table» .entry)) (now («stops_table» .exit)) ⌝ }
     ensures { λ r. ⌜ Ordered 2 (now (routes .entry)) (r .routes) (now («routes_table» .entry)) (now («routes_table» .exit)) ⌝ }
     ensures { λ r. ⌜ OrderedIf 3 (now (calendar .entry)) (r .services) (now («calendar_table» .entry)) (now («calendar_table» .exit)) ⌝ }
@@ -232,7 +232,7 @@ pub fn fill_all(
     requires { ⌜ Room 4 (fileOf (map now files) 4) (now «trips_table») ⌝ }
     requires { ⌜ Room 5 (fileOf (map now files) 5) (now «stop_times_table») ⌝ }
     requires { ⌜ Fits 6 (fileOf (map now files) 6) (now «dates_table») ⌝ }
-    requires { ⌜ Blank (now marks) × (maxLines ≤ length (now marks)) ⌝ }
+    requires { ⌜ Blank (now marks) × CoversAll (now marks) (map now files) ⌝ }
     ensures { λ _. ⌜ now («stops_table» .exit) ∷ now («routes_table» .exit) ∷ now («calendar_table» .exit) ∷ now («trips_table» .exit) ∷ now («stop_times_table» .exit) ∷ now («dates_table» .exit) ∷ []
         ≡ filledFrom 1 (feedOf (map now (files .entry))) (map now (files .entry))
         (now («stops_table» .entry) ∷ now («routes_table» .entry) ∷ now («calendar_table» .entry) ∷ now («trips_table» .entry) ∷ now («stop_times_table» .entry) ∷ now («dates_table» .entry) ∷ []) ⌝ }

@@ -2,7 +2,7 @@
 ghost use mathlib.Core.List.{List};
 ghost use Prim.Native.Nat.{ℕ, _+_, _*_, _≤_};
 ghost use Rattle.meaning.specs.Bytes.{part, value};
-ghost use Rattle.meaning.specs.Refusals.{maxBytes};
+ghost use Rattle.meaning.specs.Refusals.{maxLines};
 ghost use Rattle.rows.specs.Cells.{boundsAt};
 ghost use Rattle.ordering.specs.Cells.{KeptAt};
 ghost use Rattle.ordering.specs.Ids.{Placed, Arranged};
@@ -26,7 +26,7 @@ fn waiting_parent(s: &[u8], t: &[i32], n: usize, row: StopRow, memo: &mut [u32])
 
 // Each stop's parent, number 6 of its record till that is put, behind a memo.
 fn settle_with(s: &[u8], n: usize, t: &mut [i32], memo: &mut [u32])
-    requires { ⌜ Ready (now s) (now t) 7 n (now memo) × (n ≤ maxBytes) ⌝ }
+    requires { ⌜ Ready (now s) (now t) 7 n (now memo) × (n ≤ maxLines) ⌝ }
     ensures { λ _. ⌜ KeptAt 6 7 n (now (t .entry)) (now (t .exit)) ⌝ }
     ensures { λ _. ⌜ ((ids : List (List ℕ)) → Lists (now (s .entry)) (now (t .entry)) 7 n ids → Named 7 (now (s .entry)) (n + 1) ids (now (t .entry)) (now (t .exit))) ⌝ }
 {
@@ -40,7 +40,7 @@ fn settle_with(s: &[u8], n: usize, t: &mut [i32], memo: &mut [u32])
 
 // Each stop's parent, number 6 of its record till that is put.
 pub fn settle_parents(s: &[u8], n: usize, t: &mut [i32])
-    requires { ⌜ Placed (now s) (now t) 7 n × (Arranged (now s) 7 n (now t) × (n ≤ maxBytes)) ⌝ }
+    requires { ⌜ Placed (now s) (now t) 7 n × (Arranged (now s) 7 n (now t) × (n ≤ maxLines)) ⌝ }
     ensures { λ _. ⌜ KeptAt 6 7 n (now (t .entry)) (now (t .exit)) ⌝ }
     ensures { λ _. ⌜ ((ids : List (List ℕ)) → Lists (now (s .entry)) (now (t .entry)) 7 n ids → Named 7 (now (s .entry)) (n + 1) ids (now (t .entry)) (now (t .exit))) ⌝ }
 {

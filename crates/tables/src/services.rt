@@ -3,7 +3,7 @@ ghost use mathlib.Core.List.{List};
 ghost use Prim.Native.Nat.{ℕ, _+_, _*_, _≤_};
 ghost use lib.ListN.{length};
 ghost use Rattle.meaning.specs.Bytes.{part, value};
-ghost use Rattle.meaning.specs.Refusals.{maxBytes};
+ghost use Rattle.meaning.specs.Refusals.{maxLines};
 ghost use Rattle.rows.specs.Cells.{boundsAt};
 ghost use Rattle.ordering.specs.Cells.{KeptAt};
 ghost use Rattle.ordering.specs.Ids.{Placed, Arranged};
@@ -45,7 +45,7 @@ fn settle_with(
     memo: &mut [u32],
 )
     requires { ⌜ Ready (now a) (now «a_table») 4 k (now memo) ⌝ }
-    requires { ⌜ ((n + 1) * 8 ≤ length (now t)) × ((n ≤ maxBytes) × (k ≤ maxBytes)) ⌝ }
+    requires { ⌜ ((n + 1) * 8 ≤ length (now t)) × ((n ≤ maxLines) × (k ≤ maxLines)) ⌝ }
     ensures { λ _. ⌜ KeptAt 7 8 n (now (t .entry)) (now (t .exit)) ⌝ }
     ensures { λ _. ⌜ ((ids : List (List ℕ)) → Lists (now (a .entry)) (now («a_table» .entry)) 4 k ids → Named 8 (now (s .entry)) (n + 1) ids (now (t .entry)) (now (t .exit))) ⌝ }
 {
@@ -60,7 +60,7 @@ fn settle_with(
 // Number 7 of each trip's record.
 fn settle_among(s: &[u8], n: usize, t: &mut [i32], a: &[u8], a_table: &[i32], k: usize)
     requires { ⌜ Placed (now a) (now «a_table») 4 k × Arranged (now a) 4 k (now «a_table») ⌝ }
-    requires { ⌜ ((n + 1) * 8 ≤ length (now t)) × ((n ≤ maxBytes) × (k ≤ maxBytes)) ⌝ }
+    requires { ⌜ ((n + 1) * 8 ≤ length (now t)) × ((n ≤ maxLines) × (k ≤ maxLines)) ⌝ }
     ensures { λ _. ⌜ KeptAt 7 8 n (now (t .entry)) (now (t .exit)) ⌝ }
     ensures { λ _. ⌜ ((ids : List (List ℕ)) → Lists (now (a .entry)) (now («a_table» .entry)) 4 k ids → Named 8 (now (s .entry)) (n + 1) ids (now (t .entry)) (now (t .exit))) ⌝ }
 {
@@ -71,7 +71,7 @@ fn settle_among(s: &[u8], n: usize, t: &mut [i32], a: &[u8], a_table: &[i32], k:
 // The same where calendar_dates.txt may be not supplied: no service is then found.
 pub fn settle_services(s: &[u8], n: usize, t: &mut [i32], a: &[u8], a_table: &[i32], k: usize)
     requires { ⌜ IndexedIf (now a) (now «a_table») 4 k ⌝ }
-    requires { ⌜ ((n + 1) * 8 ≤ length (now t)) × ((n ≤ maxBytes) × (k ≤ maxBytes)) ⌝ }
+    requires { ⌜ ((n + 1) * 8 ≤ length (now t)) × ((n ≤ maxLines) × (k ≤ maxLines)) ⌝ }
     ensures { λ _. ⌜ KeptAt 7 8 n (now (t .entry)) (now (t .exit)) ⌝ }
     ensures { λ _. ⌜ ((ids : List (List ℕ)) → ListsIf (now (a .entry)) (now («a_table» .entry)) 4 k ids → Named 8 (now (s .entry)) (n + 1) ids (now (t .entry)) (now (t .exit))) ⌝ }
 {

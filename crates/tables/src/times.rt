@@ -8,7 +8,7 @@ ghost use lib.ListN.{length};
 ghost use Rattle.meaning.specs.Bytes.{countLf};
 ghost use Rattle.meaning.specs.Columns.{rowsOf};
 ghost use Rattle.meaning.specs.Tables.{Feed, filled};
-ghost use Rattle.meaning.specs.Refusals.{maxBytes};
+ghost use Rattle.meaning.specs.Refusals.{maxLines};
 ghost use Rattle.ordering.specs.Cells.{KeptAt};
 ghost use Rattle.marks.specs.Marks.{marked};
 ghost use Rattle.marks.specs.Noted.{TripsNoted};
@@ -44,7 +44,7 @@ pub fn fill_times(
     stop_count: usize,
     m: &mut [u16],
 )
-    requires { ⌜ Room 5 (now s) (now t) × ((«trip_count» ≤ maxBytes) × («stop_count» ≤ maxBytes)) ⌝ }
+    requires { ⌜ Room 5 (now s) (now t) × ((«trip_count» ≤ maxLines) × («stop_count» ≤ maxLines)) ⌝ }
     requires { ⌜ Indexed 5 (now trips) (now «trips_table») «trip_count» (now stops) (now «stops_table») «stop_count» ⌝ }
     requires { ⌜ (countLf (now s) ≤ length (now m)) × («trip_count» < length (now m)) ⌝ }
     requires { ⌜ ((k i : ℕ) → 9 ≤ k → marked (now m) k i ≡ false) ⌝ }

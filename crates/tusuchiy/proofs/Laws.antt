@@ -21,10 +21,11 @@ use Rattle.meaning.specs.Findings.{findingsOf, answerOf, handed, page, roomOf}
 use Rattle.meaning.specs.Outcome.{Outcome, readOutcome, filledFrom, outcome}
 use Rattle.meaning.specs.Promises.{WholeKept}
 use Rattle.meaning.proofs.Laws.{getD-map-in}
+use Rattle.meaning.proofs.Tests.{Standing, below, level, over, standing}
 use Rattle.meaning.proofs.Readable.{always-there, whole-kept, values-kept}
 use Rattle.meaning.proofs.Held.{filled-at}
 use Rattle.marks.specs.Noted.{Noted, TripsNoted}
-use Rattle.tables.specs.Fill.{Room, Fits}
+use Rattle.tables.specs.Fill.{Room, Fits, CoversAll}
 use Rattle.tables.proofs.Feeds.{room-kept, fits-kept}
 use Rattle.listing.specs.Handing.{State, state, handedOut}
 use Rattle.listing.specs.declared.Sink.{Sink}
@@ -44,6 +45,20 @@ rows-read files (suc (suc (suc (suc zero)))) low high = refl
 rows-read files (suc (suc (suc (suc (suc zero))))) low high = refl
 rows-read files (suc (suc (suc (suc (suc (suc zero)))))) low high = refl
 rows-read files (suc (suc (suc (suc (suc (suc (suc f))))))) low high = absurd (omega arith)
+
+-- marks with an entry for each line of each file, from the counts of lines
+pub covered : (m : List ℕ) (files : List (List ℕ)) (counts : List ℕ) → counts ≡ map countLf files → ((i : ℕ) → i < 6 → getD counts i 0 ≤ length m) → CoversAll m files
+unfolding fileOf
+covered m files counts q h f low high = rw (q, count-at files (f - 1)) at (h (f - 1) (omega arith))
+
+-- one count more that is few
+pub few-next : (counts : List ℕ) (k n : ℕ) → ((i : ℕ) → i < k → getD counts i 0 ≤ n) → getD counts k 0 ≤ n → (i : ℕ) → i < k + 1 → getD counts i 0 ≤ n
+few-next counts k n h e i l = go (standing i k)
+  where
+    go : Standing i k → getD counts i 0 ≤ n
+    go (below q) = h i q
+    go (level q) = rw q e
+    go (over q) = absurd (omega arith)
 
 module _ (files : List (List ℕ)) (tables : List (List ℤ)) (six : length files ≡ 6) (lent : length tables ≡ 6) (read : verdictOf files (map length tables) ≡ Readable) where
   kept : (f : ℕ) → 1 ≤ f → f ≤ 6 → WholeKept files f (fileOf files f) (length (tableOf tables f))

@@ -217,7 +217,7 @@ fn unread(r: Refusal) -> TusuchiyIndexAnswer
 
 // A number or a length alone, for C.
 fn bare(number: usize, length: usize) -> TusuchiyIndexAnswer
-    requires { ⌜ (number ≤ 46) × (length ≤ 8 + 2 * maxLines) ⌝ }
+    requires { ⌜ (number ≤ 46) × (length ≤ 10 + 4 * maxLines) ⌝ }
     ensures { λ q. ⌜ (q .number ≡ pos number) × (q .file ≡ pos 0) × (q .line ≡ pos 0) × (q .column ≡ pos 0) × (q .length ≡ pos length) ⌝ }
 {
     TusuchiyIndexAnswer {

@@ -672,7 +672,7 @@ fn help_and_version_are_there() {
     }
     for words in [&["--version"][..], &["-V"], &["check", "--version"]] {
         let output = run(words);
-        assert_eq!((status(&output), out(&output)), (0, "tusuchiy 0.9.1\n"), "{words:?}");
+        assert_eq!((status(&output), out(&output)), (0, "tusuchiy 0.10.0\n"), "{words:?}");
     }
 }
 

@@ -1,7 +1,8 @@
 -- `index_check::has_stray` meets its contract.
+use Rattle.index_check.proofs.Laws.{entry-fits}
 use Rattle.columns.proofs.Laws.{some-over, some-here, some-next}
 use Rattle.meaning.specs.Lists.{some}
-use Rattle.indexes.specs.Index.{version1, entry, strays, rule43}
+use Rattle.indexes.specs.Index.{entry, strays, rule43}
 use mathlib.Core.Path.{_≡_, sym, _∙_}
 use Prim.Native.Nat.{_-_}
 use native.Mathlib.Numerals.{unary-clauses}
@@ -10,17 +11,17 @@ use Rattle.index_check.proofs.has_stray.Statement.{statement}
 use Rattle.index_check.proofs.has_stray.Tie as tie
 
 abbrev Inv-loop : tie.InvT-loop
-Inv-loop b n i₀ i = some (λ k. strays n (entry version1 b k)) i (n - i) ≡ rule43 version1 n b
+Inv-loop b v n i₀ i = some (λ k. strays n (entry v b k)) i (n - i) ≡ rule43 v n b
 
 abbrev μ-loop : tie.MeasureT-loop
-μ-loop b n i₀ i = n - i
+μ-loop b v n i₀ i = n - i
 
 loop-holds : tie.Need-loop-holds Inv-loop μ-loop
 unfolding rule43
 loop-holds c = simp unary-clauses
 
 is-stray-requires : tie.Need-is-stray-requires Inv-loop μ-loop
-is-stray-requires c κs = omega arith
+is-stray-requires c κs = (c .before .before .before .pre .0, entry-fits (c .before .before .before .args .v) (c .before .before .before .args .b .now) (c .before .before .before .args .n) _ (c .before .before .before .pre .1) (c .loop-test .taken))
 
 returns : tie.Need-returns Inv-loop μ-loop
 returns c = some-here _ (c .before .before .before .loop .i) _ _ (c .before .before .before .loop .inv) (c .before .before .loop-test .taken) (sym (c .before .is-stray .ensures) ∙ c .if1 .taken)

@@ -15,13 +15,13 @@ use Rattle.index_write.proofs.put_entries.Statement.{statement}
 use Rattle.index_write.proofs.put_entries.Tie as tie
 
 abbrev Inv-loop : tie.InvT-loop
-Inv-loop f s at p t n b₀ here₀ r₀ b here r = ((1 ≤ r) × (r ≤ n + 1)) × (linesFrom s here ≡ drop r (linesOf s)) × Within n b₀ b × Entered f s n r t b
+Inv-loop f s at p t v n b₀ here₀ r₀ b here r = ((1 ≤ r) × (r ≤ n + 1)) × (linesFrom s here ≡ drop r (linesOf s)) × Within v n b₀ b × Entered v f s n r t b
 
 abbrev μ-loop : tie.MeasureT-loop
-μ-loop f s at p t n b₀ here₀ r₀ b here r = length s - here
+μ-loop f s at p t v n b₀ here₀ r₀ b here r = length s - here
 
 loop-holds : tie.Need-loop-holds Inv-loop μ-loop
-loop-holds c = ((omega arith, omega arith), c .before .before .pre .1 .0 .0, within-self _ _, entered-none _ _ _ (c .before .before .args .t .now) _)
+loop-holds c = ((omega arith, omega arith), c .before .before .pre .1 .0 .0, within-self _ _ _, entered-none _ _ _ _ (c .before .before .args .t .now) _)
 
 next-line-requires : tie.Need-next-line-requires Inv-loop μ-loop
 next-line-requires c κs = search needs
@@ -56,11 +56,11 @@ put-entry-requires c κs =
     let e = start-is (g .args .f) (c .before .before .before .before .before .before .before .before .before .before .args .s .now) (c .before .before .before .before .before .before .before .loop .here) (c .before .before .before .before .before .before .before .loop .r) (c .before .before .before .before .before .before .before .loop .inv .1) _ _ _ h _ _ (g .pre .1 .0 .1) (c .before .field-start .ensures .0) in
     let q = w .every (l .r) (l .inv .0 .0) i in (
       (w .room, omega (arith, turn-fits (c .before .before .before .before .before .before .before .before .before .before .args .s .now) (c .before .before .before .before .before .before .before .loop .here) (c .before .before .before .before .before .before .before .loop .r) (c .before .before .before .before .before .before .before .loop .inv .1) _ _ _ h _ (c .before .field-start .ensures .1) (g .pre .1 .1 .0))),
-      ((w .sorted, w .apart, rw e q), (omega (arith, l .inv .2 .size, g .pre .0 .2), omega (arith, i, g .pre .1 .1 .1))),
+      ((w .sorted, w .apart, rw e q), (g .pre .1 .1 .1, omega (arith, l .inv .2 .size, g .pre .0 .2), omega (arith, i, g .pre .1 .1 .2))),
     )
 
 add-r : tie.Need-add-r Inv-loop μ-loop
-add-r c = let h = line-found _ _ _ _ _ (sym (c .before .before .before .before .before .before .before .before .before .next-line .ensures) ∙ c .before .before .before .before .before .before .before .start .given .1) in omega (arith, turn-inside (c .before .before .before .before .before .before .before .before .before .before .before .before .before .args .s .now) (c .before .before .before .before .before .before .before .before .before .before .loop .here) (c .before .before .before .before .before .before .before .before .before .before .loop .r) (c .before .before .before .before .before .before .before .before .before .before .loop .inv .1) _ _ _ h, c .before .before .before .before .before .before .before .before .before .before .before .before .before .pre .0 .1 .count, c .before .before .before .before .before .before .before .before .before .before .before .before .before .pre .1 .1 .1)
+add-r c = let h = line-found _ _ _ _ _ (sym (c .before .before .before .before .before .before .before .before .before .next-line .ensures) ∙ c .before .before .before .before .before .before .before .start .given .1) in omega (arith, turn-inside (c .before .before .before .before .before .before .before .before .before .before .before .before .before .args .s .now) (c .before .before .before .before .before .before .before .before .before .before .loop .here) (c .before .before .before .before .before .before .before .before .before .before .loop .r) (c .before .before .before .before .before .before .before .before .before .before .loop .inv .1) _ _ _ h, c .before .before .before .before .before .before .before .before .before .before .before .before .before .pre .0 .1 .count, c .before .before .before .before .before .before .before .before .before .before .before .before .before .pre .1 .1 .2)
 
 loop-less : tie.Need-loop-less Inv-loop μ-loop
 loop-less c = let h = line-found _ _ _ _ _ (sym (c .before .before .before .before .before .before .before .before .before .next-line .ensures) ∙ c .before .before .before .before .before .before .before .start .given .1) in omega (arith, h .starts, h .ordered, h .before, h .within)
@@ -78,7 +78,7 @@ loop-again c =
       (omega arith, omega (arith, i)),
       line-next (g .args .s .now) _ (l .here) (l .r) (l .inv .1) _ _ _ h,
       within-trans (l .inv .2) (q .within),
-      entered-turn (g .args .f) (g .args .s .now) (g .pre .0 .0) (g .args .n) (g .args .t .now) w (l .r) (l .inv .0 .0) i _ _ (l .inv .3) (rw e at q),
+      entered-turn (g .args .v) (g .args .f) (g .args .s .now) (g .pre .0 .0) (g .args .n) (g .args .t .now) w (l .r) (l .inv .0 .0) i _ _ (l .inv .3) (rw e at q),
     )
 
 enum-told : tie.Need-enum-told Inv-loop μ-loop

@@ -22,7 +22,7 @@ enum-told : tie.Need-enum-told
 enum-told c = search needs
 
 write-alone-requires : tie.Need-write-alone-requires
-write-alone-requires c κs = reads-it _ _ (c .before .before .before .before .before .before .before .before .before .args .b .now) (omega (arith, c .before .before .before .before .before .before .if1 .left), c .before .before .before .before .before .if2 .left) (sym (c .before .before .before .read-alone .ensures) ∙ c .before .enum-told .given .1)
+write-alone-requires c κs = (reads-it _ _ (c .before .before .before .before .before .before .before .before .before .args .b .now) (omega (arith, c .before .before .before .before .before .before .if1 .left), c .before .before .before .before .before .if2 .left) (sym (c .before .before .before .read-alone .ensures) ∙ c .before .enum-told .given .1), c .before .before .before .before .count-lf .ensures .0)
 
 enum-known-r : tie.Need-enum-known-r
 enum-known-r c = search needs

@@ -3,7 +3,7 @@ use Rattle.meaning.specs.Tables.{widths, widthOf, stopIds, datedIds}
 use Rattle.records.specs.Waiting.{waits, soughtIds}
 use Rattle.records.proofs.References.{indexed-times, refers-times}
 use Rattle.tables.proofs.Feeds.{six, ordered-index, ordered-lists, ordered-room, settled-index, settled-lists, settled-room, settled-past, settled-named, settled-none, lacked-index, lacked-lists, lacked-count, lacked-fits, lacked-filled, room-fits, stop-ids, route-ids, service-ids, trip-ids, dated-ids, feed-times}
-use Rattle.tables.proofs.Behind.{behind, fit-each, all-filled}
+use Rattle.tables.proofs.Behind.{behind, fit-each, cover-each, all-filled}
 use Rattle.tables.proofs.SecondWalk.{filled-beyond}
 use Rattle.tables.proofs.TripLines.{noted-kept}
 use mathlib.Core.Path.{refl, _∙_}
@@ -35,7 +35,8 @@ order-all-requires : tie.Need-order-all-requires
 order-all-requires c κs =
     let z = c .before .before .before .before .before .before .before .before .before .before .before .before .before in
     let s = fit-each (z .args .t1) _ _ _ _ _ _ (z .pre) in
-    ((s .0, (s .1 .0, (s .1 .1 .0, (s .1 .1 .1 .0, s .1 .1 .1 .1 .1 .0)))), s .1 .1 .1 .1 .1 .1)
+    let k = cover-each (z .args .t1) (z .args .marks .now) (s .1 .1 .1 .1 .1 .1 .1) in
+    ((s .0, (s .1 .0, (s .1 .1 .0, (s .1 .1 .1 .0, s .1 .1 .1 .1 .1 .0)))), (s .1 .1 .1 .1 .1 .1 .0, (k .0, k .1, k .2, k .3, k .5)))
 
 settle-parents-requires : tie.Need-settle-parents-requires
 unfolding widthOf widths
@@ -64,7 +65,7 @@ fill-times-requires c κs =
     let x = c .before .before .before .before .before .before .before .before .before .before .before .before .before .before .before .before .before .before .order-all in
     let o = x .ensures in
     let trips = o .1 .1 .1 .0 in
-    let long = s .1 .1 .1 .1 .1 .1 .1 in
+    let long = cover-each (z .args .t1) (z .args .marks .now) (s .1 .1 .1 .1 .1 .1 .1) in
     let size = x .kept .1 .1 .1 .1 .1 .1 .1 .1 .1 .1 .0 in (
       (s .1 .1 .1 .1 .0, (omega (arith, trips .count, s .1 .1 .1 .0 .few), omega (arith, o .0 .count, s .0 .few))),
       (
@@ -72,7 +73,7 @@ fill-times-requires c κs =
             (settled-index 4 (omega arith) _ _ _ _ _ trips (c .before .before .before .before .before .settle-services .ensures .0))
             (settled-index 1 (omega arith) _ _ _ _ _ (o .0) (c .before .before .before .before .before .before .before .before .before .settle-parents .ensures .0)),
         (
-          (omega (arith, s .1 .1 .1 .1 .0 .few, long, size), omega (arith, trips .count, s .1 .1 .1 .0 .few, long, size)),
+          (omega (arith, long .4, size), omega (arith, trips .count, long .3, size)),
           o .1 .1 .1 .1 .1 .1,
         ),
       ),

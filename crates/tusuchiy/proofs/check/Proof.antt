@@ -18,8 +18,8 @@ verdict-requires c κs = search needs
 enum-told : tie.Need-enum-told
 enum-told c = search needs
 
-checked-requires : tie.Need-checked-requires
-checked-requires c κs = let v = c .before .before .before .before .before .before .before .before .before in (sym (v .verdict .ensures) ∙ c .before .before .before .before .before .before .before .enum-told .given .1, v .before .count-all .ensures)
+checked-from-requires : tie.Need-checked-from-requires
+checked-from-requires c κs = let v = c .before .before .before .before .before .before .before .before .before in (sym (v .verdict .ensures) ∙ c .before .before .before .before .before .before .before .enum-told .given .1, (v .before .count-all .ensures, (omega arith, λ k h. absurd (omega arith))))
 
 enum-known-r : tie.Need-enum-known-r
 enum-known-r c = search needs
@@ -48,7 +48,7 @@ same-length-7 c = search needs
 returns : tie.Need-returns
 returns c =
     let read = sym (c .before .before .before .before .before .before .before .before .before .before .before .before .before .before .before .before .before .verdict .ensures) ∙ c .before .before .before .before .before .before .before .before .before .before .before .before .before .before .before .enum-told .given .1 in
-    let k = c .before .before .before .before .before .before .before .checked .ensures in
+    let k = c .before .before .before .before .before .before .before .checked-from .ensures in
     (outcome-readable _ _ _ _ _ _ read (k .0), k .1)
 
 returns-2 : tie.Need-returns-2
@@ -65,7 +65,7 @@ check-spec =
     count-all-requires
     verdict-requires
     enum-told
-    checked-requires
+    checked-from-requires
     enum-known-r
     same-length
     same-length-2

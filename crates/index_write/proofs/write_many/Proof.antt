@@ -1,9 +1,9 @@
--- `index_write::write_alone` meets its contract.
+-- `index_write::write_many` meets its contract.
 use Rattle.id_places.proofs.Own.{sized}
 use native.Mathlib.Omega.{arith}
 use borrow.Author.Needs.{needs}
-use Rattle.index_write.proofs.write_alone.Statement.{statement}
-use Rattle.index_write.proofs.write_alone.Tie as tie
+use Rattle.index_write.proofs.write_many.Statement.{statement}
+use Rattle.index_write.proofs.write_many.Tie as tie
 
 blank-requires : tie.Need-blank-requires
 blank-requires c κs = search needs
@@ -20,7 +20,7 @@ same-length c = search needs
 returns : tie.Need-returns
 returns c = search needs
 
-pub write-alone-spec : {M : Type 1} → statement M
-write-alone-spec =
+pub write-many-spec : {M : Type 1} → statement M
+write-many-spec =
     tie.close
     (tie.spec blank-requires slice-aggregate-write-read write-read-requires same-length returns)

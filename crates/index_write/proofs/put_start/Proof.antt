@@ -1,18 +1,18 @@
--- `index_write::put_head` meets its contract.
+-- `index_write::put_start` meets its contract.
 use Rattle.index_write.proofs.Bytes.{copy-turn, copy-end}
 use mathlib.Core.Path.{_≡_, refl}
 use mathlib.Core.List.{_++_}
 use Prim.Native.Nat.{_≤_, _-_}
 use lib.ListN.{length, take, drop, length-set}
 use native.Mathlib.Omega.{arith}
-use Rattle.index_write.proofs.put_head.Statement.{statement}
-use Rattle.index_write.proofs.put_head.Tie as tie
+use Rattle.index_write.proofs.put_start.Statement.{statement}
+use Rattle.index_write.proofs.put_start.Tie as tie
 
 abbrev Inv-loop : tie.InvT-loop
-Inv-loop b₀ head i₀ b i = (i ≤ 8) × (length b ≡ length b₀) × (b ≡ take i head ++ drop i b₀)
+Inv-loop b₀ head i₀ b i = (i ≤ 6) × (length b ≡ length b₀) × (b ≡ take i head ++ drop i b₀)
 
 abbrev μ-loop : tie.MeasureT-loop
-μ-loop b₀ head i₀ b i = 8 - i
+μ-loop b₀ head i₀ b i = 6 - i
 
 loop-holds : tie.Need-loop-holds Inv-loop μ-loop
 loop-holds c = (omega arith, refl, refl)
@@ -37,11 +37,11 @@ same-length c = c .before .loop .inv .1
 
 returns : tie.Need-returns Inv-loop μ-loop
 returns c =
-    let e : c .before .loop .i ≡ 8 = omega arith in
-    copy-end (c .before .before .args .t2) (c .before .before .args .b .now) _ _ (c .before .loop .inv .2) 8 e
+    let e : c .before .loop .i ≡ 6 = omega arith in
+    copy-end (c .before .before .args .t2) (c .before .before .args .b .now) _ _ (c .before .loop .inv .2) 6 e
 
-pub put-head-spec : {M : Type 1} → statement M
-put-head-spec =
+pub put-start-spec : {M : Type 1} → statement M
+put-start-spec =
     tie.close
     (tie.spec
     Inv-loop
