@@ -119,9 +119,10 @@ fn random_zip_files() {
     }
 }
 
-/// An index with any bytes in its place, cut, longer, with another byte, of the version that so few records never have, or as it was.
+/// An index with any bytes in its place, cut, longer, with another byte, of the version that so few records never have, with its first two
+/// entries swapped, or as it was.
 fn damaged(mut index: Vec<u8>, random: &mut Random) -> Vec<u8> {
-    match random.below(7) {
+    match random.below(8) {
         0 => return bytes(random, 40),
         1 => index.truncate(random.below(index.len() + 1)),
         2 => index.extend(bytes(random, 4)),
@@ -130,6 +131,7 @@ fn damaged(mut index: Vec<u8>, random: &mut Random) -> Vec<u8> {
             index[place] = *random.pick(&[0, 1, 2, 3, 4, 255]);
         }
         5 => index[3] = 2,
+        6 if index.len() >= 12 => index[8..12].rotate_left(2),
         _ => {}
     }
     index
