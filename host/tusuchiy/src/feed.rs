@@ -3,10 +3,10 @@
 use crate::folder::Folder;
 use crate::memory;
 use crate::safe;
-use std::cell::OnceCell;
 use std::collections::BTreeSet;
 use std::os::unix::ffi::OsStrExt;
 use std::path::{Path, PathBuf};
+use std::sync::OnceLock;
 use tusuchiy::File;
 
 pub use tusuchiy::{FILES, MOST_BYTES, MOST_LINES};
@@ -76,7 +76,7 @@ pub struct Feed {
     files: [Option<Vec<u8>>; FILES],
     counts: [usize; FILES],
     /// Where lines end, looked up once it is asked for: after the check, which has returned its memory by then.
-    ends: [OnceCell<Vec<u32>>; FILES],
+    ends: [OnceLock<Vec<u32>>; FILES],
 }
 
 impl Feed {
