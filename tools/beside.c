@@ -145,7 +145,7 @@ static void print_time(const struct side *side) {
 
 /* One row: both times, and how they stand to each other where there are both. */
 static void print(const char *folder, const struct side *other, const struct side *own) {
-    printf("| %-18s |", folder);
+    printf("| %-19s |", folder);
     print_time(other);
     print_time(own);
     if (other->answer.verdict == TUSUCHIY_REFUSED || own->answer.verdict == TUSUCHIY_REFUSED)
@@ -175,7 +175,7 @@ int main(int count, char **words) {
         return 0;
     }
     printf("Processor time of one call: the fastest of %d turns, or of as many as %d s allow. Refused: by that rule, so no measure.\n\n", TURNS, SPENT);
-    printf("| feed               | other       | this        | times as fast |\n");
-    printf("| ------------------ | ----------- | ----------- | ------------- |\n");
+    printf("| feed                | other       | this        | times as fast |\n");
+    printf("| ------------------- | ----------- | ----------- | ------------- |\n");
     return 0;
 }
