@@ -1,20 +1,17 @@
 -- The bytes of an index while it is written: the head copied, a record number put into its entry.
-use mathlib.Core.Path.{_≡_, refl, sym, ap, _∙_}
-use mathlib.Core.List.{List, [], _∷_, _++_}
+use mathlib.Core.Path.{_≡_, refl, sym, _∙_}
+use mathlib.Core.List.{List, _++_}
 use Prim.Native.Nat.{ℕ, zero, suc, _+_, _*_, _-_, _/_, _%_, _^_, _≤_, _<_}
 use native.Mathlib.Numerals.{add-one}
 use native.Mathlib.Omega.{arith}
-use native.Mathlib.Nat.{div-add-mod', suc-mul, mul-le-mul-left, mul-le-mul-right}
-use mathlib.Core.Bool.{Bool, true, false, cond}
-use lib.Dec.{ltb}
-use borrow.Author.Tests.{ltb-true}
+use native.Mathlib.Nat.{div-add-mod', suc-mul, mul-le-mul-right}
 use lib.IntN.{ℤ}
 use lib.ListN.{length, getD, set, take, drop, length-set}
 use lib.Seq.{length-take-le, drop-cons, take-suc, append-snoc, set-at, getD-set-same, getD-set-other}
 use Rattle.meaning.proofs.Tests.{Standing, below, level, over, standing}
 use Rattle.ordering.specs.Cells.{cellAt}
 use Rattle.indexes.specs.declared.Version.{Version}
-use Rattle.indexes.specs.Index.{numberAt, version1, version2, versionOf, headLength, indexLength, entry}
+use Rattle.indexes.specs.Index.{numberAt, headLength, indexLength, entry}
 use Rattle.indexes.proofs.Numbers.{four-at}
 use Rattle.index_write.specs.Writing.{Put, Within, Entry}
 

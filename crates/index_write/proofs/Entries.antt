@@ -1,17 +1,17 @@
 -- Record numbers put into their entries, line by line.
-use mathlib.Core.Path.{_≡_, refl, sym, ap, _∙_}
+use mathlib.Core.Path.{_≡_, sym, ap, _∙_}
 use mathlib.Core.List.{List}
 use Prim.Native.Nat.{ℕ, _+_, _-_, _≤_, _<_}
 use native.Mathlib.Omega.{arith}
 use lib.IntN.{ℤ}
-use lib.ListN.{length, getD, drop}
-use Rattle.meaning.specs.Bytes.{bounds, part, countLf, linesFrom, linesOf}
+use lib.ListN.{drop}
+use Rattle.meaning.specs.Bytes.{bounds, part, linesFrom, linesOf}
 use Rattle.meaning.specs.Columns.{fieldAt}
 use Rattle.meaning.specs.Promises.{noLine}
 use Rattle.text.specs.Lines.{LineStands}
 use Rattle.text.proofs.Walk.{line-here}
 use Rattle.ordering.specs.Cells.{cellAt}
-use Rattle.ordering.specs.Ids.{Apart, Stands}
+use Rattle.ordering.specs.Ids.{Apart}
 use Rattle.ordering.proofs.Laws.{Alike, yes, no, alike}
 use Rattle.indexes.specs.declared.Version.{Version}
 use Rattle.indexes.specs.Index.{entry}

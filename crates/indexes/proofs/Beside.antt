@@ -2,13 +2,13 @@
 use Prim.Native.Nat.{ℕ, zero, suc, _+_, _*_, _≤_, _<_}
 use native.Mathlib.Omega.{arith}
 use mathlib.Core.Path.{_≡_, refl, sym, ap, _∙_}
-use mathlib.Core.Logic.{_↔_, _⊎_, inl, inr}
-use mathlib.Core.Bool.{Bool, true, false, cond, not, _&&_, _||_}
+use mathlib.Core.Logic.{_↔_}
+use mathlib.Core.Bool.{Bool, true, false, cond, not, _&&_}
 use mathlib.Core.List.{List, [], _∷_, _++_, List·Memᴰ·head, List·Memᴰ·tail}
 use lib.ListN.{length, getD, take, drop, length-append, length-drop, length-map}
 use lib.Seq.{take-at, drop-at}
 use lib.Dec.{ltb, eqb}
-use borrow.Author.Tests.{ltb-true, ltb-false, lt-ltb, le-ltb, eqb-true, eqb-false, eq-eqb, ne-eqb}
+use borrow.Author.Tests.{ltb-true, ltb-false, lt-ltb, eqb-true, eqb-false, eq-eqb, ne-eqb}
 use Rattle.meaning.specs.declared.Refusal.{Refusal}
 use Rattle.meaning.specs.declared.Verdict.{Verdict}
 use Rattle.meaning.specs.declared.Verdict.the-variants.{Readable, Unreadable}
@@ -27,7 +27,7 @@ use Rattle.indexes.specs.declared.IndexAnswer.{IndexAnswer}
 use Rattle.indexes.specs.declared.IndexAnswer.the-variants.{Whole, Unread, Barred}
 use Rattle.indexes.specs.Order.{idsOf, repeats, ranked}
 use Rattle.indexes.specs.declared.Version.{Version}
-use Rattle.indexes.specs.Index.{version1, version2, versionOf, numberAt, rule40, rule41, rule42, indexOf, indexLength, indexTests, spoken, writerTests, indexed, loneClaims, loneVerdict, ifRead, askedOf, barredOr, checked, wrote, leftBy, written, indexNumbers}
+use Rattle.indexes.specs.Index.{versionOf, indexOf, indexLength, indexTests, spoken, writerTests, indexed, loneClaims, loneVerdict, ifRead, askedOf, barredOr, checked, wrote, leftBy, written, indexNumbers}
 use Rattle.indexes.specs.Promises.{Lists, Bytes, Reads, noTest, Lowest, saysWhole, saysUnread, saysBarred, Beside}
 use Rattle.indexes.proofs.Versions.{of-two}
 use Rattle.indexes.proofs.Order.{ranked-length, ranked-rising, rising-apart}

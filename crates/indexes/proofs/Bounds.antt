@@ -11,7 +11,7 @@ use Rattle.meaning.specs.declared.Bounds.{Bounds}
 use Rattle.meaning.specs.declared.Refusal.{Refusal}
 use Rattle.meaning.specs.declared.Verdict.{Verdict}
 use Rattle.meaning.specs.declared.Verdict.the-variants.{Readable, Unreadable}
-use Rattle.meaning.specs.Bytes.{Line, bounds, part, start, next, cuts, endOf, lineOf, linesFrom, linesOf, startOf, fields, countLf}
+use Rattle.meaning.specs.Bytes.{Line, bounds, part, start, next, cuts, endOf, lineOf, linesFrom, linesOf, startOf, countLf}
 use Rattle.meaning.specs.Columns.{places, headerOf}
 use Rattle.meaning.specs.Refusals.{Test, Claim, maxBytes, maxLines, rule1, rule2, rule11, rule12, rule13, textTests, headTests, valueTests, lineTests, inFile, refusal}
 use Rattle.meaning.specs.Promises.{fieldCount, testsOn, noLine, testOf, noClaim}
@@ -29,7 +29,7 @@ use Rattle.text.proofs.Fields.{fields-count}
 use Rattle.indexes.specs.declared.IndexAnswer.{IndexAnswer}
 use Rattle.indexes.specs.declared.IndexAnswer.the-variants.{Whole, Unread, Barred}
 use Rattle.indexes.specs.Order.{idsOf}
-use Rattle.indexes.specs.Index.{version1, version2, versionOf, indexLength, indexTests, writerTests, spoken, indexed, loneClaims, loneVerdict, ifRead, askedOf, barredOr, checked, wrote}
+use Rattle.indexes.specs.Index.{versionOf, indexLength, indexTests, writerTests, spoken, indexed, loneClaims, loneVerdict, ifRead, askedOf, barredOr, checked, wrote}
 use Rattle.indexes.specs.Promises.{Reads}
 use Rattle.indexes.specs.Small.{Small}
 use Rattle.indexes.proofs.Versions.{of-two, known-of}

@@ -1,9 +1,9 @@
 -- Larger feeds: each sentence of document 02's E9 holds of an index.
 use Prim.Native.Nat.{ℕ, zero, suc, _+_, _*_, _≤_, _<_}
 use native.Mathlib.Omega.{arith}
-use mathlib.Core.Path.{_≡_, refl, sym, ap, _∙_}
+use mathlib.Core.Path.{_≡_, refl, ap, _∙_}
 use mathlib.Core.Logic.{_↔_, _⊎_, inl, inr}
-use mathlib.Core.Bool.{Bool, true, false, cond, not, _||_}
+use mathlib.Core.Bool.{Bool, true, false, cond, not}
 use mathlib.Core.List.{List, List·Memᴰ·head, List·Memᴰ·tail}
 use lib.ListN.{length, getD, take}
 use lib.Dec.{ltb, eqb}
@@ -18,17 +18,16 @@ use Rattle.meaning.proofs.Claims.{in-file}
 use Rattle.meaning.proofs.FirstBroken.{silent-none, said-readable}
 use Rattle.meaning.proofs.Tests.{or-right}
 use Rattle.indexes.specs.declared.Version.{Version}
-use Rattle.indexes.specs.declared.IndexAnswer.{IndexAnswer}
-use Rattle.indexes.specs.declared.IndexAnswer.the-variants.{Whole, Unread, Barred}
+use Rattle.indexes.specs.declared.IndexAnswer.the-variants.{Whole, Barred}
 use Rattle.indexes.specs.Order.{idsOf, repeats, ranked, Rising}
-use Rattle.indexes.specs.Index.{lowFirst, numberAt, mark, version1, version2, versionOf, indexOf, indexLength, rule40, otherVersion, rule41, misfits, rule42, rule43, rule44, indexTests, spoken, writerTests, indexed, loneClaims, loneVerdict, ifRead, askedOf, barredOr, checked, wrote, written, indexNumbers}
-use Rattle.indexes.specs.Promises.{Lists, Bytes, Reads, saysWhole, saysUnread, saysBarred, Beside}
+use Rattle.indexes.specs.Index.{lowFirst, numberAt, mark, version1, version2, versionOf, indexOf, indexLength, rule40, otherVersion, rule41, misfits, rule42, indexTests, spoken, writerTests, indexed, loneClaims, loneVerdict, ifRead, askedOf, barredOr, checked, wrote, written, indexNumbers}
+use Rattle.indexes.specs.Promises.{Bytes, Reads, saysWhole, saysUnread, saysBarred}
 use Rattle.indexes.specs.Larger.{olderClaims, olderVerdict, olderTests, older, wholeFile, Larger}
 use Rattle.indexes.proofs.Versions.{of-two, up-to, above}
-use Rattle.indexes.proofs.Order.{ranked-rising, rising-length}
+use Rattle.indexes.proofs.Order.{rising-length}
 use Rattle.indexes.proofs.Accepted.{quiet, sound, index-length}
 use Rattle.indexes.proofs.Told.{Of, apart-asked, spoken-from, apart-barred, told-whole}
-use Rattle.indexes.proofs.Beside.{barred-whole, asked-read, asked-whole, fewer, accepts, whole-checked, says-whole, says-unread, says-barred, beside}
+use Rattle.indexes.proofs.Beside.{barred-whole, asked-read, asked-whole, fewer, accepts, whole-checked, says-whole, says-barred, beside}
 
 module _ (f : ℕ) (s : List ℕ) where
   abbrev ids : List (List ℕ)

@@ -7,7 +7,7 @@ use mathlib.Core.Logic.{inl, inr}
 use mathlib.Core.Bool.{Bool, true, false, cond}
 use mathlib.Core.List.{List}
 use lib.Dec.{ltb}
-use borrow.Author.Tests.{ltb-true, ltb-false, eq-eqb}
+use borrow.Author.Tests.{ltb-true, ltb-false}
 use Rattle.indexes.specs.declared.Version.{Version}
 use Rattle.indexes.specs.Index.{numberAt, version1, version2, versionOf, otherVersion, rule41}
 use Rattle.indexes.specs.Versions.{Known, Wide}

@@ -6,7 +6,7 @@ use Rattle.id_places.proofs.Walk.{turn-inside, turn-fits, turn-past}
 use Rattle.index_write.specs.Writing.{Within, Entered}
 use Rattle.index_write.proofs.Bytes.{within-self, within-trans}
 use Rattle.index_write.proofs.Entries.{start-is, entered-turn, entered-none}
-use mathlib.Core.Path.{_≡_, refl, sym, _∙_}
+use mathlib.Core.Path.{_≡_, sym, _∙_}
 use Prim.Native.Nat.{_+_, _≤_, _-_}
 use native.Mathlib.Omega.{arith}
 use lib.ListN.{length, drop}
