@@ -252,17 +252,17 @@ mod tests {
     use cases::large;
     use std::hint::black_box;
 
-    /// One call on no more stack than the header asks for; the verdict.
-    fn verdict_on_stack(files: [&[u8]; FILES]) -> Option<Verdict> {
+    /// One call on so much stack; the verdict.
+    fn verdict_on(stack: usize, files: [&[u8]; FILES]) -> Option<Verdict> {
         let mut tables = table_sizes(files).map(|size| vec![0; size]);
         let tables = tables.each_mut().map(|table| &mut table[..]);
-        let answer = on_stack(STACK, move || archive::check(files, tables, &mut [0; 30], [0, 0, 0], Profile::Boards));
+        let answer = on_stack(stack, move || archive::check(files, tables, &mut [0; 30], [0, 0, 0], Profile::Boards));
         answer.expect("a thread").verdict()
     }
 
-    /// The feed of document 01, and feeds whose longest file has as many lines as rule 2 allows.
+    /// The feed of document 01 needs no more than before request E9, and touches no page of what only large feeds use.
     #[test]
-    fn the_stack_that_is_promised_is_enough() {
+    fn a_small_feed_needs_little_stack() {
         let files: [&[u8]; FILES] = [
             include_bytes!("../../../examples/findings/stops.txt"),
             include_bytes!("../../../examples/findings/routes.txt"),
@@ -272,11 +272,16 @@ mod tests {
             b"",
         ];
         // Five of document 01, and the line without times.
-        assert_eq!(verdict_on_stack(files), Some(Verdict::Findings { written: 6, total: 6 }));
+        assert_eq!(verdict_on(512 << 10, files), Some(Verdict::Findings { written: 6, total: 6 }));
+    }
+
+    /// Feeds whose longest file has as many lines as rule 2 allows, on no more stack than the header asks for.
+    #[test]
+    fn the_stack_that_is_promised_is_enough() {
         for files in [large::feed(MOST_LINES - 1), large::dates(MOST_LINES)] {
             let lines = files.iter().map(|file| check::lines(file)).max();
             assert_eq!(lines, Some(MOST_LINES));
-            assert_eq!(verdict_on_stack(files.each_ref().map(|file| &file[..])), Some(Verdict::Accepted));
+            assert_eq!(verdict_on(STACK, files.each_ref().map(|file| &file[..])), Some(Verdict::Accepted));
         }
     }
 
