@@ -12,7 +12,7 @@ extern "C" {
 
 /* The version of the check, as a text and as a number: 10000 for each major, 100 for each minor step. */
 #define TUSUCHIY_VERSION "0.10.0"
-#define TUSUCHIY_VERSION_NUMBER 901
+#define TUSUCHIY_VERSION_NUMBER 1000
 
 /* The six files have numbers: in `file` of an answer, of a finding and of a fault. */
 enum {
