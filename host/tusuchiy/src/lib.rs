@@ -72,7 +72,7 @@ use std::io;
 use std::panic;
 use std::thread;
 
-/// How much stack a call of one of the archive's functions uses at most, in bytes; include/tusuchiy.h has the same figure.
+/// What a call of one of the archive's functions uses: at most 5 MiB of stack, as include/tusuchiy.h has it, in bytes.
 pub const STACK: usize = 5 << 20;
 
 /// How much the thread has that makes the call: twice as much, of which only what is used takes memory.
@@ -336,11 +336,13 @@ mod tests {
         assert_eq!(["TUSUCHIY_MOST_BYTES", "TUSUCHIY_MOST_LINES"].map(in_header), limits);
     }
 
-    /// The README and the header have the same figure.
+    /// The README, the header and this library's pages have the same figure.
     #[test]
     fn the_stack_has_one_figure() {
         let figure = format!("at most {} MiB of stack", STACK >> 20);
-        for page in [include_str!("../../../README.md"), include_str!("../../../include/tusuchiy.h")] {
+        let pages =
+            [include_str!("../../../README.md"), include_str!("../../../include/tusuchiy.h"), include_str!("lib.rs")];
+        for page in pages {
             assert!(page.contains(&figure), "{figure}");
         }
     }

@@ -8,8 +8,14 @@ use tusuchiy::{faults, table_sizes, try_check, Error, Fault, Place, Profile, Ver
 /// The most findings that one call hands out: a list of 72 MiB. Each further call is a whole check.
 const MOST_ROOM: usize = 6 << 20;
 
-/// More findings than any feed can have: on a line of files 1 to 6 at most 3, 2, 2, 3, 7 and 1 rules are broken, two of the seven by a profile.
-pub const MOST_FINDINGS: usize = (3 + 2 + 2 + 3 + 7 + 1) * MOST_LINES;
+/// The most rules that a line of files 1 to 6 breaks, two of the seven by a profile.
+const MOST_ON_LINE: [usize; FILES] = [3, 2, 2, 3, 7, 1];
+
+/// More findings than any feed can have.
+pub const MOST_FINDINGS: usize = {
+    let [stops, routes, calendar, trips, times, dates] = MOST_ON_LINE;
+    (stops + routes + calendar + trips + times + dates) * MOST_LINES
+};
 
 /// One page: the findings, or the faults of a refused feed, after a place, as many as there is room for, or all of them.
 #[derive(Clone, Copy, Debug, PartialEq, Eq)]
@@ -131,7 +137,10 @@ pub struct Report {
 pub fn check(feed: &Feed, page: Option<Page>, profile: Profile) -> Result<Report, String> {
     // Most feeds have less than a finding a line, so that one call is enough.
     let room = (1..=FILES).map(|file| feed.line_count(file)).sum::<usize>().clamp(1, MOST_ROOM);
-    let check = || memory::told(|| check_by(feed, page, profile, [room, MOST_ROOM]));
+    // However much is asked for, no list has more room than the lines of the feed can fill.
+    let most = (1..=FILES).map(|file| feed.line_count(file) * MOST_ON_LINE[file - 1]).sum::<usize>();
+    let rooms = [room, most.clamp(1, MOST_ROOM)];
+    let check = || memory::told(|| check_by(feed, page, profile, rooms));
     tusuchiy::in_one_thread(check).map_err(|error| Error::Thread(error).to_string())?
 }
 
