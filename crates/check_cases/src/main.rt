@@ -154,7 +154,7 @@ fn hex(b: u8) -> u8
 }
 
 // A byte as it is written, and how many bytes that takes.
-#[derive(Drop)]
+#[derive(Clone, Copy)]
 pub struct Written {
     pub byte: u8,
     pub width: usize,

@@ -12,7 +12,7 @@ use text::{Cursor, LineStep, Step};
 
 // Under what the lines of a file are read: the column of each known name in its header, counted from 1, 0 where it is absent; and how
 // many fields the header has.
-#[derive(Drop)]
+#[derive(Clone, Copy)]
 pub struct Columns {
     pub at: [usize; 10],
     pub count: usize,
@@ -20,7 +20,7 @@ pub struct Columns {
 
 // Where the known names of a header stand: the column of each, as above; and the leftmost in which one stands for the second time, 0
 // where none does.
-#[derive(Drop)]
+#[derive(Clone, Copy)]
 pub struct Names {
     pub at: [usize; 10],
     pub again: usize,
@@ -100,7 +100,7 @@ pub fn lacks(f: usize, at: [usize; 10]) -> bool
 }
 
 // Where the field under each known column lies in a line; start and end are 0 where there is none.
-#[derive(Drop)]
+#[derive(Clone, Copy)]
 pub struct Cells {
     pub start: [usize; 10],
     pub end: [usize; 10],
@@ -243,7 +243,7 @@ fn header_names(f: usize, h: &[u8]) -> Names
 }
 
 // What a file's header tells: the columns of its known names, and where the next line starts.
-#[derive(Drop)]
+#[derive(Clone, Copy)]
 pub struct Header {
     pub known: [usize; 10],
     pub next: usize,

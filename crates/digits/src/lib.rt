@@ -6,7 +6,7 @@ ghost use Rattle.digits.specs.Decimals.{decimals_of};
 use meaning::Number;
 
 // What decimals write: their ten-millionths, further digits dropped, and whether one of all of them isn't 0.
-#[derive(Drop)]
+#[derive(Clone, Copy)]
 pub enum Decimal {
     Kept(u32, bool),
     NoDecimal,

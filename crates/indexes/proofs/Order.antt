@@ -32,6 +32,7 @@ record Out (x : ℕ) (m : List ℕ) : Type 0 where
   others : (y : ℕ) → Memᴰ y m → (y ≡ x → ⊥) → Memᴰ y rest
 
 take_out : (x : ℕ) (m : List ℕ) → Memᴰ x m → Out x m
+take_out x [] x'' = elim x'' [ ]
 take_out x (z ∷ m) (Memᴰ.head e) =
     record { rest = m; size = refl; others = λ y t n. ⊎_elim (λ (q : y ≡ z). absurd (n (q ∙ sym e))) (λ t. t) (Memᴰ.cases_cons t) }
 take_out x (z ∷ m) (Memᴰ.tail p) =

@@ -11,7 +11,7 @@ pub const LEAST: usize = 8;
 pub const BEFORE: usize = 6;
 
 // A version: its number, and in how many bytes the count and each record number stand.
-#[derive(Drop)]
+#[derive(Clone, Copy)]
 pub struct Version {
     pub number: usize,
     pub width: usize,
@@ -48,7 +48,7 @@ pub fn version_named(k: usize) -> Version
 }
 
 // The answer of the index's writer and reader.
-#[derive(Drop)]
+#[derive(Clone, Copy)]
 pub enum IndexAnswer {
     // an index of so many bytes was written, or is accepted
     Whole(usize),

@@ -7,7 +7,7 @@ ghost use Rattle.listing.specs.Handing.{state, added, noted};
 use meaning::Place;
 
 // How far a list has come: how many entries are written, and how many there are.
-#[derive(Drop)]
+#[derive(Clone, Copy)]
 pub struct Sink {
     pub written: usize,
     pub total: usize,

@@ -108,6 +108,7 @@ pub record At {A : Type 0} (l : List A) (d x : A) : Type 0 where
   pub here : get_or l index d ≡ x
 
 pub place_of : {A : Type 0} (l : List A) (d x : A) → Memᴰ x l → At l d x
+place_of {A = A} [] d x x3 = elim x3 [ ]
 place_of (y ∷ l) d x (Memᴰ.head e) = record { index = 0; inside = omega arith; here = sym e }
 place_of (y ∷ l) d x (Memᴰ.tail m) = let p = place_of l d x m in record { index = suc p.index; inside = omega (arith, p.inside); here = p.here }
 

@@ -10,14 +10,14 @@ pub const MAX_LINES: usize = 1048576;
 pub const FEW_LINES: usize = 65536;
 
 // Where something starts and where it ends, the end excluded.
-#[derive(Drop)]
+#[derive(Clone, Copy)]
 pub struct Bounds {
     pub start: usize,
     pub end: usize,
 }
 
 // What document 01 asks of a known column: `need` says by number on which lines a value is needed, `form` which form it has.
-#[derive(Drop)]
+#[derive(Clone, Copy)]
 pub struct Column {
     pub must: bool,
     pub need: u8,
@@ -26,14 +26,14 @@ pub struct Column {
 }
 
 // What a run of digits writes.
-#[derive(Drop)]
+#[derive(Clone, Copy)]
 pub enum Number {
     Value(u32),
     NoNumber,
 }
 
 // What the value of a time says: seconds, nothing, or that it is no time.
-#[derive(Drop)]
+#[derive(Clone, Copy)]
 pub enum Time {
     Seconds(u32),
     Untimed,
@@ -41,28 +41,28 @@ pub enum Time {
 }
 
 // What the value of a date says: the number YYYYMMDD, or that it is no date.
-#[derive(Drop)]
+#[derive(Clone, Copy)]
 pub enum Date {
     Day(u32),
     NoDate,
 }
 
 // What the value of a coordinate says: ten-millionths of a degree, or that it is no coordinate.
-#[derive(Drop)]
+#[derive(Clone, Copy)]
 pub enum Degrees {
     TenMillionths(i32),
     NoDegrees,
 }
 
 // What the value of a choice says: its number, or that it is none of those offered.
-#[derive(Drop)]
+#[derive(Clone, Copy)]
 pub enum Choice {
     Picked(u32),
     NoChoice,
 }
 
 // A refusal: the number of the broken rule, its file, its line (0 for a whole file) and its column (0: none is told).
-#[derive(Drop)]
+#[derive(Clone, Copy)]
 pub struct Refusal {
     pub number: usize,
     pub file: usize,
@@ -71,21 +71,21 @@ pub struct Refusal {
 }
 
 // Whether six files can be read.
-#[derive(Drop)]
+#[derive(Clone, Copy)]
 pub enum Verdict {
     Readable,
     Unreadable(Refusal),
 }
 
 // Which rules bind: those of every feed, or those that boards add too.
-#[derive(Drop)]
+#[derive(Clone, Copy)]
 pub enum Profile {
     Plain,
     Boards,
 }
 
 // The starting place of a call: any three numbers.
-#[derive(Drop)]
+#[derive(Clone, Copy)]
 pub struct Place {
     pub file: i32,
     pub line: i32,
@@ -93,7 +93,7 @@ pub struct Place {
 }
 
 // The answer of a check.
-#[derive(Drop)]
+#[derive(Clone, Copy)]
 pub enum Answer {
     Accepted,
     Findings { written: usize, total: usize },

@@ -142,7 +142,7 @@ fn is_long(c: Column, n: usize) -> bool
 }
 
 // A broken rule, and the column in which it is broken, 0 where it names none. Rule 0: none is broken.
-#[derive(Drop)]
+#[derive(Clone, Copy)]
 pub struct Fault {
     pub rule: usize,
     pub column: usize,
@@ -288,7 +288,7 @@ pub fn text_rule(l: &[u8], m: Measured) -> usize
 }
 
 // What a header tells: the first rule that it breaks, and its column; and under what the lines after it are read, nothing where it breaks one.
-#[derive(Drop)]
+#[derive(Clone, Copy)]
 pub struct Head {
     pub fault: Fault,
     pub columns: Columns,

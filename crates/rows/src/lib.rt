@@ -10,31 +10,31 @@ pub mod cells; // cells.rt: whole records written and single numbers read, for a
 pub mod times; // times.rt: what stored times say
 
 // The record number of a stop.
-#[derive(Drop)]
+#[derive(Clone, Copy)]
 pub struct StopRow(pub usize);
 
 // The record number of a route.
-#[derive(Drop)]
+#[derive(Clone, Copy)]
 pub struct RouteRow(pub usize);
 
 // The record number of a service.
-#[derive(Drop)]
+#[derive(Clone, Copy)]
 pub struct ServiceRow(pub usize);
 
 // The record number of a trip.
-#[derive(Drop)]
+#[derive(Clone, Copy)]
 pub struct TripRow(pub usize);
 
 // The record number of a stop time.
-#[derive(Drop)]
+#[derive(Clone, Copy)]
 pub struct TimeRow(pub usize);
 
 // The record number of an exception, a service on a date.
-#[derive(Drop)]
+#[derive(Clone, Copy)]
 pub struct DateRow(pub usize);
 
 // stops.txt
-#[derive(Drop)]
+#[derive(Clone, Copy)]
 pub struct Stops;
 
 impl Stops {
@@ -113,7 +113,7 @@ impl Stops {
 }
 
 // routes.txt
-#[derive(Drop)]
+#[derive(Clone, Copy)]
 pub struct Routes;
 
 impl Routes {
@@ -154,7 +154,7 @@ impl Routes {
 }
 
 // calendar.txt
-#[derive(Drop)]
+#[derive(Clone, Copy)]
 pub struct Calendar;
 
 impl Calendar {
@@ -208,7 +208,7 @@ impl Calendar {
 }
 
 // trips.txt
-#[derive(Drop)]
+#[derive(Clone, Copy)]
 pub struct Trips;
 
 impl Trips {
@@ -295,7 +295,7 @@ impl Trips {
 }
 
 // stop_times.txt
-#[derive(Drop)]
+#[derive(Clone, Copy)]
 pub struct StopTimes;
 
 impl StopTimes {
@@ -414,7 +414,7 @@ impl StopTimes {
 }
 
 // calendar_dates.txt
-#[derive(Drop)]
+#[derive(Clone, Copy)]
 pub struct Dates;
 
 impl Dates {

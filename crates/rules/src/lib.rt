@@ -12,7 +12,7 @@ use listing::Sink;
 use meaning::{Place, Profile};
 
 // What a call wants of the list: the findings after a place, by the rules asked for.
-#[derive(Drop)]
+#[derive(Clone, Copy)]
 struct Wanted {
     from: Place,
     asked: Profile,

@@ -165,7 +165,7 @@ fn fill_trips(
 }
 
 // How many records files 1 to 4 and 6 have.
-#[derive(Drop)]
+#[derive(Clone, Copy)]
 struct Counts {
     stops: usize,
     routes: usize,

@@ -78,7 +78,7 @@ pub fn body_start(s: &[u8]) -> usize
 }
 
 // What a step along a file finds: a line, from start to end without its ending, the next one starting at next; or no line any more.
-#[derive(Drop)]
+#[derive(Clone, Copy)]
 pub enum LineStep {
     Line {
         start: usize,
@@ -288,14 +288,14 @@ fn asked_from(l: &[u8], at: usize, q: u8) -> usize
 }
 
 // A place along a line, where a field begins, in the state START; past the line's end, with the state in which its last field ended.
-#[derive(Drop)]
+#[derive(Clone, Copy)]
 pub struct Cursor {
     pub at: usize,
     pub state: u8,
 }
 
 // What a step along a line finds: a field's bounds and the moved cursor, or no field any more.
-#[derive(Drop)]
+#[derive(Clone, Copy)]
 pub enum Step {
     Field {
         start: usize,
@@ -421,7 +421,7 @@ fn ends_good(q: u8) -> bool
 }
 
 // What a walk along a line tells: whether the quoting table calls it good, and how many fields it has, 33 standing for more than rule 7 allows.
-#[derive(Drop)]
+#[derive(Clone, Copy)]
 pub struct Measured {
     pub good: bool,
     pub fields: usize,

@@ -26,7 +26,7 @@ const END: usize = 6;
 
 // What the walk carries along: the greatest departure in the group of smaller sequences, and of this one;
 // the first cell of the group, and of the run of equal sequences; and of this line: is it of the group before, and what is told of it.
-#[derive(Drop)]
+#[derive(Clone, Copy)]
 struct State {
     below: usize,
     here: usize,
@@ -38,7 +38,7 @@ struct State {
 }
 
 // What a line's two times say.
-#[derive(Drop)]
+#[derive(Clone, Copy)]
 struct Times {
     timed: bool,
     arrives: usize,

@@ -22,7 +22,7 @@ use meaning::{Answer, Place, Profile, Refusal};
 
 // The answer: verdict 0 accepted, 1 findings, 2 refused; the refusal's number, file, line and column; findings written and in all.
 #[repr(C)]
-#[derive(Drop)]
+#[derive(Clone, Copy)]
 pub struct TusuchiyAnswer {
     pub verdict: i32,
     pub number: i32,
@@ -150,7 +150,7 @@ pub extern "C" fn tusuchiy_check<'a>(
 
 // The answer of a call for faults: how many were written, and how many there are.
 #[repr(C)]
-#[derive(Drop)]
+#[derive(Clone, Copy)]
 pub struct TusuchiyFaultsAnswer {
     pub written: i32,
     pub total: i32,
@@ -192,7 +192,7 @@ pub extern "C" fn tusuchiy_faults<'a>(
 
 // The answer about an index: number 0 written or accepted, 1 to 14 the file's own refusal with its file, line and column, or 40 to 46; the index's length.
 #[repr(C)]
-#[derive(Drop)]
+#[derive(Clone, Copy)]
 pub struct TusuchiyIndexAnswer {
     pub number: i32,
     pub file: i32,
@@ -268,7 +268,7 @@ pub extern "C" fn tusuchiy_index_check(
 
 // The answer of a lookup: number 0, or 50; the record with that id, else 0.
 #[repr(C)]
-#[derive(Drop)]
+#[derive(Clone, Copy)]
 pub struct TusuchiyLookupAnswer {
     pub number: i32,
     pub row: i32,
