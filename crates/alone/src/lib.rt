@@ -1,3 +1,4 @@
+#![tactic(auto)]
 // A file read by itself: its own rules, but for rule 3, since no table is lent.
 ghost use Rattle.std.specs.Prelude.{◌≡◌, ◌<◌};
 ghost use Rattle.meaning.specs.Bytes.{count_lf};

@@ -1,3 +1,4 @@
+#![tactic(auto)]
 // Characters: is a line well-formed UTF-8? One walk along it, by the Unicode standard's table of byte sequences.
 ghost use Rattle.std.specs.Prelude.{◌≡◌, not, ◌&&◌, [], ◌∷◌, ◌+◌, ◌<◌, ◌≤◌, eqb, length, drop};
 ghost use Rattle.meaning.specs.Characters.{awaited, awaited_after};

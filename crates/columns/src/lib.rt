@@ -1,3 +1,4 @@
+#![tactic(auto)]
 // Where the known columns stand in a header, and where their fields lie in a line.
 ghost use Rattle.std.specs.Prelude.{◌≡◌, ◌&&◌, map, ℕ, ◌≤◌, ◌<◌, eqb, length, get_or, replicate};
 ghost use Rattle.meaning.specs.Bytes.{count_lf, fields, values};

@@ -1,3 +1,4 @@
+#![tactic(auto)]
 // Runs of digits: the number that one to nine write, and what the decimals behind a point write.
 ghost use Rattle.std.specs.Prelude.{◌≡◌, Bool, ℕ, ◌<◌, ◌^◌, length};
 ghost use Rattle.meaning.specs.Forms.{is_digit, sequence_text};

@@ -1,3 +1,4 @@
+#![tactic(auto)]
 // The faults of each file: as a whole, then line by line in one walk, handed out.
 ghost use Rattle.std.specs.Prelude.{◌≡◌, cond, not, List, [], ◌∷◌, ℕ, ◌+◌, ◌^◌, ◌<◌, ◌≤◌, length};
 ghost use Rattle.meaning.specs.Lists.{empty};

@@ -1,3 +1,4 @@
+#![tactic(auto)]
 // The findings of each file, line by line, from tables and marks alone, handed out.
 ghost use Rattle.std.specs.Prelude.{◌≡◌, List, ℕ, ◌+◌, ◌*◌, ◌^◌, ◌<◌, ◌≤◌, ℤ};
 ghost use Rattle.meaning.specs.Tables.{Feed};

@@ -1,3 +1,4 @@
+#![tactic(auto)]
 // Value forms: time, date, coordinate, number and choice.
 ghost use Rattle.std.specs.Prelude.{◌≡◌, Bool, ◌&&◌, ℕ, ◌+◌, ◌≤◌, ◌<◌, length, drop};
 ghost use Rattle.meaning.specs.Bytes.{value};

@@ -1,3 +1,4 @@
+#![tactic(auto)]
 // Where the ids of a file's records begin, one number a record: what an index needs of a file that lends no table.
 ghost use Rattle.std.specs.Prelude.{◌≡◌, ℕ, ◌+◌, ◌<◌, ◌≤◌, pos, length, get_or, drop};
 ghost use Rattle.meaning.specs.Bytes.{count_lf, lines_from, lines_of};

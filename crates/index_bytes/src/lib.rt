@@ -1,3 +1,4 @@
+#![tactic(auto)]
 // The mark and the numbers in an index's bytes, be they many or few: past the end stands 0.
 ghost use Rattle.std.specs.Prelude.{◌≡◌, ◌^◌, ◌<◌, get_or};
 ghost use Rattle.indexes.specs.Index.{number_at, index_length, entry, rule40, rule41};

@@ -1,3 +1,4 @@
+#![tactic(auto)]
 // The reader of an index: is it the one that lists every record of its file once, in rising order of ids?
 ghost use Rattle.std.specs.Prelude.{◌≡◌, ◌+◌, ◌^◌, ◌<◌, ◌≤◌, length};
 ghost use Rattle.meaning.specs.Bytes.{count_lf};

@@ -1,3 +1,4 @@
+#![tactic(auto)]
 // The writer of an index: the one that lists every record of its file once, in rising order of ids.
 ghost use Rattle.std.specs.Prelude.{◌≡◌, false, ◌+◌, ◌*◌, ◌-◌, ◌/◌, ◌%◌, ◌^◌, ◌<◌, ◌≤◌, length, set, take, drop, ◌++◌};
 ghost use Rattle.meaning.specs.Bytes.{count_lf, lines_from, lines_of};

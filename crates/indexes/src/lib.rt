@@ -1,3 +1,4 @@
+#![tactic(auto)]
 // What an index beside the feed is, and what is answered about one.
 ghost use Rattle.std.specs.Prelude.{◌≡◌, cond};
 ghost use Rattle.indexes.specs.Index.{version1, version2, version_of, version_named};

@@ -1,3 +1,4 @@
+#![tactic(auto)]
 // What the stored numbers of one line, and a few tests of its values, say of each binding rule.
 ghost use Rattle.std.specs.Prelude.{◌≡◌, ◌||◌};
 ghost use Rattle.meaning.specs.Rules.{kind_of_parent, is_late};

@@ -1,3 +1,4 @@
+#![tactic(auto)]
 // Entries handed out into a lent list: those after a starting place, as many as fit, and how many there are.
 ghost use Rattle.std.specs.Prelude.{◌≡◌, ◌+◌, ◌^◌, ◌<◌, ◌≤◌, length};
 ghost use Rattle.meaning.specs.Refusals.{claim};

@@ -1,3 +1,4 @@
+#![tactic(auto)]
 // One code, asked at the counter: the record with that id, found by halving the range of an index's entries.
 ghost use Rattle.std.specs.Prelude.{◌≡◌, ℕ, ◌+◌, ◌-◌, ◌^◌, ◌<◌, ◌≤◌};
 ghost use Rattle.indexes.specs.Index.{number_at, entry};

@@ -1,3 +1,4 @@
+#![tactic(auto)]
 // Marks: what only a line's text or the order of its file's ids can tell of a record, a bit each in one array that all files share.
 ghost use Rattle.std.specs.Prelude.{◌≡◌, ◌<◌};
 ghost use Rattle.marks.specs.Marks.{marked, Blank, OneMore, MarkedIf};

@@ -1,3 +1,4 @@
+#![tactic(auto)]
 // The types and the limits that definitions and code share.
 
 // The most bytes of a file, by rule 1.

@@ -1,3 +1,4 @@
+#![tactic(auto)]
 // A memo in front of the search: records that were found, by a hash of their raw ids.
 ghost use Rattle.std.specs.Prelude.{◌≡◌, true, ℕ, ◌+◌, ◌^◌, ◌<◌, ◌≤◌, get_or, set};
 ghost use Rattle.meaning.specs.Lists.{same};

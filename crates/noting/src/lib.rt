@@ -1,3 +1,4 @@
+#![tactic(auto)]
 // The rules of one line, noted in order.
 ghost use Rattle.std.specs.Prelude.{◌≡◌, ◌+◌, ◌^◌, ◌<◌, ◌≤◌, get_or};
 ghost use Rattle.meaning.specs.Refusals.{on_line};

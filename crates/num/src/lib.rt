@@ -1,3 +1,4 @@
+#![tactic(auto)]
 // Casts between signed and unsigned numbers, and the order of signed ones.
 ghost use Rattle.std.specs.Prelude.{◌≡◌, ◌^◌, ◌<◌, pos, nat_abs};
 ghost use Rattle.std.specs.Int.Signed.{lt_z};

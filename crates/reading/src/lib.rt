@@ -1,3 +1,4 @@
+#![tactic(auto)]
 // Refusals 1 to 14: the first broken rule of a value, a line, a file and a feed. Nothing is written.
 ghost use Rattle.std.specs.Prelude.{◌≡◌, not, ◌&&◌, List, map, ℕ, ◌*◌, ◌<◌, ◌≤◌, ltb, length};
 ghost use Rattle.meaning.specs.Lists.{empty};

@@ -1,3 +1,4 @@
+#![tactic(auto)]
 // The record of one located line, written into its table.
 ghost use Rattle.std.specs.Prelude.{true, ◌≡◌, List, ℕ, ◌+◌, ◌*◌, ◌<◌, ◌≤◌, pos, length, get_or};
 ghost use Rattle.meaning.specs.Columns.{row_of};

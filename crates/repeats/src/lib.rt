@@ -1,3 +1,4 @@
+#![tactic(auto)]
 // Rule 20 by order: a record that is alike to its predecessor in an order repeats it.
 ghost use Rattle.std.specs.Prelude.{◌≡◌, ◌-◌, ◌<◌};
 ghost use Rattle.ordering.specs.Cells.{cell_at, RoomAt};

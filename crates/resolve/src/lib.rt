@@ -1,3 +1,4 @@
+#![tactic(auto)]
 // The record that a reference names.
 ghost use Rattle.std.specs.Prelude.{◌+◌, ◌≤◌};
 ghost use Rattle.meaning.specs.Bytes.{value};

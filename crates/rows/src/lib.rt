@@ -1,3 +1,4 @@
+#![tactic(auto)]
 // A type per file that knows its width and number, a row type per file, and the records that they place.
 ghost use Rattle.std.specs.Prelude.{◌≡◌, ◌∷◌, [], ℕ, ◌+◌, ◌*◌, ◌^◌, ◌<◌, ◌≤◌, pos, length, get_or, set};
 ghost use Rattle.meaning.specs.Tables.{width_of, id_column};

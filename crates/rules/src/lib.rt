@@ -1,3 +1,4 @@
+#![tactic(auto)]
 // All findings of a feed whose tables are filled, handed out in order.
 ghost use Rattle.std.specs.Prelude.{◌≡◌, [], ◌∷◌, map, ℕ, ◌+◌, ◌*◌, ◌-◌, ◌^◌, ◌<◌, ◌≤◌, get_or};
 ghost use Rattle.meaning.specs.Tables.{Feed};

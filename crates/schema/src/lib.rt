@@ -1,3 +1,4 @@
+#![tactic(auto)]
 // The known columns of each file, as data.
 ghost use Rattle.std.specs.Prelude.{◌≡◌, ◌<◌, ◌≤◌};
 ghost use Rattle.meaning.specs.Bytes.{value};

@@ -1,3 +1,4 @@
+#![tactic(auto)]
 // The first record with an id, found by halving a sorted order.
 ghost use Rattle.std.specs.Prelude.{◌≡◌, ◌+◌, ◌^◌, ◌<◌, ◌≤◌};
 ghost use Rattle.meaning.specs.Bytes.{value};

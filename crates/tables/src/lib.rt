@@ -1,3 +1,4 @@
+#![tactic(auto)]
 // The six lent tables, filled from the six files.
 ghost use Rattle.std.specs.Prelude.{◌≡◌, false, List, [], ◌∷◌, map, ℕ, ◌+◌, ◌≤◌, ℤ, take};
 ghost use Rattle.meaning.specs.Lists.{flat, laid};

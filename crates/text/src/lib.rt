@@ -1,3 +1,4 @@
+#![tactic(auto)]
 // From bytes to fields: lines and their endings, quoting, the line cursor, and values.
 ghost use Rattle.std.specs.Prelude.{true, false, ◌||◌, ◌≡◌, [], ◌∷◌, ℕ, ◌+◌, ◌<◌, ◌≤◌, length, get_or, set, take, drop};
 ghost use Rattle.meaning.specs.Lists.{same, any, empty};

@@ -1,3 +1,4 @@
+#![tactic(auto)]
 // Rules 28 to 31: one walk along the order of stop_times' lines, while their records wait in the table.
 ghost use Rattle.std.specs.Prelude.{◌≡◌, true, false, cond, not, ◌&&◌, ◌||◌, List, ℕ, ◌+◌, ◌*◌, ◌-◌, ◌^◌, ◌<◌, ◌≤◌, eqb, ltb, length};
 ghost use Rattle.meaning.specs.Bytes.{part};

@@ -1,3 +1,4 @@
+#![tactic(auto)]
 // The whole check, and every refusal at once.
 ghost use Rattle.std.specs.Prelude.{◌≡◌, ◌∷◌, [], map, cond, eqb, length, get_or, ℕ, ◌+◌, ◌*◌, ◌<◌, ◌≤◌};
 ghost use Rattle.meaning.specs.Bytes.{count_lf};

@@ -1,3 +1,4 @@
+#![tactic(auto)]
 // The check for C and Rust, every refusal at once, the index beside a feed, and one code asked at the counter: the exported functions.
 ghost use Rattle.std.specs.Prelude.{◌≡◌, ◌∷◌, [], ◌+◌, ◌*◌, ◌≤◌, ◌<◌, pos, length};
 ghost use Rattle.meaning.specs.Outcome.{outcome};

@@ -1,3 +1,4 @@
+#![tactic(auto)]
 // The numbers that the fields of one located line say.
 ghost use Rattle.std.specs.Prelude.{◌≡◌, cond, List, ℕ, ◌^◌, ◌<◌, ◌≤◌, pos, length};
 ghost use Rattle.meaning.specs.Bytes.{part};

@@ -1,0 +1,45 @@
+-- `columns::field_start` meets its contract.
+use Rattle.columns.proofs.Laws.{field_here, field_next, fields_over, fields_first, field_absent}
+use Rattle.text.proofs.Fields.{field_found, field_none}
+use Rattle.meaning.specs.declared.Bounds.{Bounds}
+use mathlib.Core.Path.{sym, ap, ◌∙◌}
+use Prim.Native.Nat.{◌-◌}
+use native.Mathlib.Omega.{arith}
+use Rattle.columns.proofs.field_start.Goals as goal
+
+pub loop-start-init : goal.loop-start-init
+loop-start-init c = (omega arith, omega arith, omega arith, fields_first _ _ c.new-c.ensures.0, λ h. omega arith)
+
+pub returns-then-n-p : goal.returns-then-n-p
+returns-then-n-p c =
+    let i = c.loop-start.invariant in
+    let s = field_found _ _ _ _ _ (sym c.next.ensures ∙ c.in-Field.is) in
+    let h = field_here _ _ _ i.1 i.3 _ _ _ s in
+    (rw (← c.if-n-p.true) (sym (ap (λ (q : Bounds). q.start) h)), omega (arith, s.ordered, s.within))
+
+pub overflow_add-n : goal.overflow_add-n
+overflow_add-n c =
+    let s = field_found _ _ _ _ _ (sym c.next.ensures ∙ c.in-Field.is) in
+    omega arith
+
+pub loop-start-smaller : goal.loop-start-smaller
+loop-start-smaller c =
+    let s = field_found _ _ _ _ _ (sym c.next.ensures ∙ c.in-Field.is) in
+    omega arith
+
+pub loop-start-preserved : goal.loop-start-preserved
+loop-start-preserved c =
+    let i = c.loop-start.invariant in
+    let s = field_found _ _ _ _ _ (sym c.next.ensures ∙ c.in-Field.is) in (
+      omega arith,
+      omega arith,
+      omega arith,
+      field_next _ _ _ i.1 i.3 _ _ _ s,
+      λ h. i.4 (omega (arith, h, c.if-n-p.false)),
+    )
+
+pub returns-in-Done : goal.returns-in-Done
+returns-in-Done c =
+    let i = c.loop-start.invariant in
+    let o = fields_over _ _ _ i.1 i.3 (field_none _ _ (sym c.next.ensures ∙ c.in-Done.is)) in
+    (field_absent _ _ _ o i.4, omega arith)

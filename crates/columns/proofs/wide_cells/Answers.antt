@@ -1,0 +1,45 @@
+-- `columns::wide_cells` meets its contract.
+use Rattle.columns.proofs.Laws.{seen_first, seen_turn, seen_last, field_here, field_next, fields_over, fields_first}
+use Rattle.columns.specs.Columns.{starts_of, ends_of}
+use Rattle.text.proofs.Fields.{field_found, field_none}
+use mathlib.Core.Path.{◌≡◌, refl, sym, ◌∙◌}
+use Prim.Native.Nat.{◌≤◌, ◌-◌}
+use native.Mathlib.Omega.{arith}
+use lib.ListN.{length}
+use Rattle.columns.proofs.wide_cells.Goals as goal
+
+pub loop-start-init : goal.loop-start-init
+loop-start-init c =
+    let w : length c.args.at ≡ 10 = omega arith in
+    (omega arith, omega arith, omega arith, fields_first _ _ c.new-c.ensures.0, seen_first (λ b. b.start) refl _ _ 10 w, seen_first (λ b. b.end) refl _ _ 10 w)
+
+pub overflow_add-n : goal.overflow_add-n
+overflow_add-n c =
+    let s = field_found _ _ _ _ _ (sym c.next.ensures ∙ c.in-Field.is) in
+    omega arith
+
+pub loop-start-smaller : goal.loop-start-smaller
+loop-start-smaller c =
+    let s = field_found _ _ _ _ _ (sym c.next.ensures ∙ c.in-Field.is) in
+    omega arith
+
+pub loop-start-preserved : goal.loop-start-preserved
+loop-start-preserved c =
+    let i = c.loop-start.invariant in
+    let w : length c.args.at ≤ 10 = omega (arith, c.well_formed) in
+    let s = field_found _ _ _ _ _ (sym c.next.ensures ∙ c.in-Field.is) in
+    let h = field_here _ _ _ i.1 i.3 _ _ _ s in (
+      omega arith,
+      omega arith,
+      omega arith,
+      field_next _ _ _ i.1 i.3 _ _ _ s,
+      c.note_field-cells.ensures.0 ∙ rw i.4 (seen_turn (λ c. c.start-1) _ _ _ 10 _ w (rw h)),
+      c.note_field-cells.ensures.1 ∙ rw i.5 (seen_turn (λ c. c.end) _ _ _ 10 _ w (rw h)),
+    )
+
+pub returns-in-Done : goal.returns-in-Done
+unfolding starts_of ends_of
+returns-in-Done c =
+    let i = c.loop-start.invariant in
+    let o = fields_over _ _ _ i.1 i.3 (field_none _ _ (sym c.next.ensures ∙ c.in-Done.is)) in
+    (i.4 ∙ seen_last (λ c. c.start-1) refl _ _ _ o, i.5 ∙ seen_last (λ c. c.end) refl _ _ _ o)

@@ -1,0 +1,39 @@
+-- `index_check::fault` meets its contract.
+use Rattle.index_check.proofs.Laws.{head_long, size_is, told_40, told_41, told_42, told_43, told_44, told_none, fewer}
+use Rattle.indexes.proofs.Versions.{wide_for}
+use mathlib.Core.Path.{sym, ◌∙◌}
+use Rattle.index_check.proofs.fault.Goals as goal
+
+pub returns-then-is_unmarked : goal.returns-then-is_unmarked
+returns-then-is_unmarked c = told_40 c.args.f c.args.s.now c.args.b.now c.args.n c.requires.1 (sym c.is_unmarked.ensures ∙ c.if-is_unmarked.true)
+
+pub is_unknown-requires : goal.is_unknown-requires
+is_unknown-requires c = head_long _ (sym c.is_unmarked.ensures ∙ c.if-is_unmarked.false)
+
+pub returns-then-is_unknown : goal.returns-then-is_unknown
+returns-then-is_unknown c = told_41 c.args.f c.args.s.now c.args.b.now c.args.n c.requires.1 (sym c.is_unmarked.ensures ∙ c.if-is_unmarked.false) (sym c.is_unknown.ensures ∙ c.if-is_unknown.true)
+
+pub is_other-requires : goal.is_other-requires
+is_other-requires c =
+    (wide_for _ _ c.version_of-v.ensures, head_long _ (sym c.is_unmarked.ensures ∙ c.if-is_unmarked.false), fewer c.args.f c.args.s.now c.args.n c.requires.0 c.requires.1)
+
+pub returns-then-is_other : goal.returns-then-is_other
+returns-then-is_other c = told_42 c.args.f c.args.s.now c.args.b.now c.args.n c.requires.1 (sym c.is_unmarked.ensures ∙ c.if-is_unmarked.false) (sym c.is_unknown.ensures ∙ c.if-is_unknown.false) _ c.version_of-v.ensures (sym c.is_other.ensures ∙ c.if-is_other.true)
+
+pub has_stray-requires : goal.has_stray-requires
+has_stray-requires c = (wide_for _ _ c.version_of-v.ensures, size_is _ _ c.args.f _ (sym c.is_other.ensures ∙ c.if-is_other.false))
+
+pub returns-then-has_stray : goal.returns-then-has_stray
+returns-then-has_stray c = told_43 c.args.f c.args.s.now c.args.b.now c.args.n c.requires.1 (sym c.is_unmarked.ensures ∙ c.if-is_unmarked.false) (sym c.is_unknown.ensures ∙ c.if-is_unknown.false) _ c.version_of-v.ensures (sym c.is_other.ensures ∙ c.if-is_other.false) (sym c.has_stray.ensures ∙ c.if-has_stray.true)
+
+pub is_falling-requires : goal.is_falling-requires
+is_falling-requires c = record {
+  reads = c.requires;
+  entries = record { wide = wide_for _ _ c.version_of-v.ensures; size = size_is _ _ c.args.f _ (sym c.is_other.ensures ∙ c.if-is_other.false); known = (sym c.has_stray.ensures ∙ c.if-has_stray.false) };
+}
+
+pub returns-then-is_falling : goal.returns-then-is_falling
+returns-then-is_falling c = told_44 c.args.f c.args.s.now c.args.b.now c.args.n c.requires.1 (sym c.is_unmarked.ensures ∙ c.if-is_unmarked.false) (sym c.is_unknown.ensures ∙ c.if-is_unknown.false) _ c.version_of-v.ensures (sym c.is_other.ensures ∙ c.if-is_other.false) (sym c.has_stray.ensures ∙ c.if-has_stray.false) (sym c.is_falling.ensures ∙ c.if-is_falling.true)
+
+pub returns : goal.returns
+returns c = told_none c.args.f c.args.s.now c.args.b.now c.args.n c.requires.1 (sym c.is_unmarked.ensures ∙ c.if-is_unmarked.false) (sym c.is_unknown.ensures ∙ c.if-is_unknown.false) _ c.version_of-v.ensures (sym c.is_other.ensures ∙ c.if-is_other.false) (sym c.has_stray.ensures ∙ c.if-has_stray.false) (sym c.is_falling.ensures ∙ c.if-is_falling.false)

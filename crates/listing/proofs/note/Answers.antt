@@ -1,0 +1,30 @@
+-- `listing::note` meets its contract.
+use mathlib.Core.Path.{◌∙◌}
+use native.Mathlib.Omega.{arith}
+use mir.Syntax.{w32}
+use mir.ValLaws.{to_z_pos}
+use Rattle.listing.specs.Handing.{noted}
+use Rattle.listing.proofs.note.Goals as goal
+
+pub hand_out-requires : goal.hand_out-requires
+hand_out-requires c = record {
+  in_bounds = omega arith;
+  total_bound = c.requires.total_bound;
+}
+
+pub returns-then-broken : goal.returns-then-broken
+unfolding noted
+returns-then-broken c =
+    let small = c.requires.file_bound in
+    let e =
+    simp (to_z_pos w32 _ small.0, to_z_pos w32 _ small.1.0, to_z_pos w32 _ small.1.1) at c.hand_out.ensures.result_after in record {
+      result_after = e ∙ rw c.if-broken.true;
+      total_bound_2 = omega arith;
+    }
+
+pub returns : goal.returns
+unfolding noted
+returns c = record {
+  result_after = rw c.if-broken.false;
+  total_bound_2 = omega arith;
+}

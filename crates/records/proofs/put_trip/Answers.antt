@@ -1,0 +1,40 @@
+-- `records::put_trip` meets its contract.
+use Rattle.records.proofs.LineRecords.{trip_record}
+use Rattle.records.proofs.Readings.{referred}
+use Rattle.num.proofs.Laws.{kept_is}
+use mathlib.Core.Path.{◌∙◌}
+use Prim.Native.Nat.{◌-◌}
+use native.Mathlib.Omega.{arith}
+use Rattle.records.proofs.put_trip.Goals as goal
+
+pub field_place-id-requires : goal.field_place-id-requires
+field_place-id-requires c = (omega arith, c.requires.lies.0)
+
+pub choice_or_minus-direction-requires : goal.choice_or_minus-direction-requires
+choice_or_minus-direction-requires c = (omega arith, c.requires.lies.0.0)
+
+pub choice_or_zero-wheelchair-requires : goal.choice_or_zero-wheelchair-requires
+choice_or_zero-wheelchair-requires c = (omega arith, c.requires.lies.0.0)
+
+pub choice_or_zero-bikes-requires : goal.choice_or_zero-bikes-requires
+choice_or_zero-bikes-requires c = (omega arith, c.requires.lies.0.0)
+
+pub put-requires : goal.put-requires
+put-requires c =
+    let i = c.field_place-id.ensures.start_le_max_bytes in record {
+      row_in_bounds = omega (arith, c.requires.lies.1);
+      start_bound = (omega (arith, i.0), (omega (arith, i.1), (omega (arith, c.find_route-route.ensures.result_le_n, c.requires.a_count_le_max_lines.0), (omega (arith, c.find_service-service.ensures.result_le_n, c.requires.a_count_le_max_lines.1), (omega (arith, c.choice_or_zero-wheelchair.ensures.1), omega (arith, c.choice_or_zero-bikes.ensures.1))))));
+    }
+
+pub returns : goal.returns
+returns c =
+    let s = c.args in
+    let i = c.field_place-id.ensures.start_value in record {
+      t_after = (λ w ps loc routes services dated.
+          c.put.ensures
+          ∙ (trip_record ps s.l.now _ s.q.start s.q.end loc w _ _ _ _ _ _ _ _ _ c.requires.lies.1 dated i.0 i.1
+          (referred _ _ _ _ _ _ _ _ routes c.find_route-route.ensures.first c.raw.ensures)
+          (referred _ _ _ _ _ _ _ _ services c.find_service-service.ensures.first c.raw-2.ensures)
+          (kept_is _ _ c.choice_or_minus-direction.type_inv c.choice_or_minus-direction.ensures) c.choice_or_zero-wheelchair.ensures.0 c.choice_or_zero-bikes.ensures.0));
+      ready_2 = (c.find_route-route.ensures.ready, c.find_service-service.ensures.ready);
+    }

@@ -1,0 +1,35 @@
+-- `repeats::mark_repeats` meets its contract.
+use Rattle.ordering.proofs.Laws.{room_row, room_less}
+use Rattle.repeats.proofs.Laws.{walk_start, walk_on, walk_mark, walk_end}
+use mathlib.Core.Path.{sym, ◌∙◌}
+use Prim.Native.Nat.{◌-◌}
+use native.Mathlib.Omega.{arith}
+use mathlib.Core.Logic.{⊎_elim}
+use Rattle.repeats.proofs.mark_repeats.Goals as goal
+
+pub loop-k-init : goal.loop-k-init
+loop-k-init c = walk_start _ _ _ _ _ _ c.requires.0 _ _
+
+pub is_repeat-requires : goal.is_repeat-requires
+is_repeat-requires c = (room_less c.loop-k-test.true c.requires.0.room, omega (arith, c.loop-k.invariant.low))
+
+pub get-requires : goal.get-requires
+get-requires c =
+    let r = c.requires.0.room in
+    (r.wide, room_row r c.loop-k.k c.loop-k-test.true)
+
+pub mark-requires : goal.mark-requires
+mark-requires c = c.requires.1
+
+pub loop-k-preserved : goal.loop-k-preserved
+loop-k-preserved c =
+    let p = c.requires.0 in
+    let h = c.loop-k-test.true in
+    let e = c.is_repeat.ensures in
+    ⊎_elim
+    (λ v. rw v.6 (walk_mark _ _ _ _ _ _ p _ _ _ c.loop-k.k c.loop-k.invariant h _ _ v.2.ensures.0 v.3.ensures (sym v.0.taken ∙ e)))
+    (λ v. rw v.1 (walk_on _ _ _ _ _ _ p _ _ _ c.loop-k.k c.loop-k.invariant h (sym v.0.left ∙ e)))
+    c.if-is_repeat.branch
+
+pub returns : goal.returns
+returns c = walk_end _ _ _ _ _ _ c.requires.0 _ _ _ c.loop-k.k c.loop-k-test.false c.loop-k.invariant

@@ -1,0 +1,39 @@
+-- `seeking::first_record` meets its contract.
+use Rattle.seeking.proofs.Laws.{seek_past, seek_none, seek_found, same_cell}
+use Rattle.ordering.proofs.Laws.{room_row}
+use Rattle.ordering.specs.Ids.{in_order, no_later}
+use mathlib.Core.Path.{◌∙◌}
+use Prim.Native.Nat.{◌-◌}
+use borrow.Author.Rules.{rules}
+use Rattle.seeking.proofs.first_record.Goals as goal
+
+pub lower-at-requires : goal.lower-at-requires
+unfolding in_order no_later
+lower-at-requires c = search rules
+
+pub returns-then-n-at : goal.returns-then-n-at
+unfolding in_order no_later
+returns-then-n-at c =
+    let p = c.requires in let every = seek_past _ _ _ _ _ p.0 p.1.whole p.1.sorted _ c.lower-at.ensures c.if-n-at.true in record {
+      first = every.0;
+      upper_bound = every.1;
+    }
+
+pub get-r-requires : goal.get-r-requires
+get-r-requires c = (c.requires.1.room.wide, room_row c.requires.1.room _ c.if-n-at.false)
+
+pub returns-then-same_values : goal.returns-then-same_values
+unfolding in_order no_later
+returns-then-same_values c =
+    let p = c.requires in
+    let e = same_cell _ _ c.args.w c.lower-at.result _ _ _ _ c.get-r.ensures.0 c.raw_id.ensures c.same_values.ensures ∙ c.if-same_values.true in  -- TODO record of first, upper_bound
+    rw c.get-r.ensures.0 (seek_found _ _ _ _ _ p.0 p.1.whole p.1.sorted _ c.lower-at.ensures c.if-n-at.false e)
+
+pub returns : goal.returns
+unfolding in_order no_later
+returns c =
+    let p = c.requires in
+    let e = same_cell _ _ c.args.w c.lower-at.result _ _ _ _ c.get-r.ensures.0 c.raw_id.ensures c.same_values.ensures ∙ c.if-same_values.false in let every = seek_none _ _ _ _ _ p.0 p.1.whole p.1.sorted _ c.lower-at.ensures e in record {
+      first = every.0;
+      upper_bound = every.1;
+    }

@@ -1,0 +1,11 @@
+-- `tables::parents::waiting_parent` meets its contract.
+use Prim.Native.Nat.{◌-◌}
+use Rattle.tables.proofs.parents.waiting_parent.Goals as goal
+
+pub returns : goal.returns
+returns c =
+    let p = c.waiting_at-p.ensures in record {
+      first = rw (← p, ← c.part_of.ensures) c.find_stop.ensures.first;
+      result_le_n = c.find_stop.ensures.result_le_n;
+      ready = c.find_stop.ensures.ready;
+    }

@@ -1,0 +1,12 @@
+-- What the loop of `text::break_from` keeps.
+use Rattle.text.specs.Fields.{to_break}
+use mathlib.Core.Path.{◌≡◌}
+use Prim.Native.Nat.{◌≤◌, ◌-◌, ◌+◌}
+use lib.ListN.{length, drop}
+use Rattle.text.proofs.break_from.Given as goal
+
+abbrev pub invariant-loop-i : goal.invariant-loop-i
+invariant-loop-i l = (l.at ≤ l.i) × (l.i + to_break (drop l.i l.l) ≡ l.at + to_break (drop l.at l.l))
+
+abbrev pub decreases-loop-i : goal.decreases-loop-i
+decreases-loop-i l = length l.l - l.i

@@ -1,0 +1,8 @@
+-- `trip_walk::is_after` meets its contract.
+use Rattle.trip_walk.proofs.File.{after_is}
+use mathlib.Core.Path.{refl}
+use Prim.Native.Nat.{◌-◌}
+use Rattle.trip_walk.proofs.is_after.Goals as goal
+
+pub returns : goal.returns
+returns c = after_is c.args.t.now c.args.i _ _ _ c.trip_at-before.ensures c.trip_at-here.ensures refl

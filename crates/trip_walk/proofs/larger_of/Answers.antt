@@ -1,0 +1,10 @@
+-- `trip_walk::larger_of` meets its contract.
+use borrow.Author.Tests.{lt-ltb, le-ltb}
+use Prim.Native.Nat.{◌-◌}
+use Rattle.trip_walk.proofs.larger_of.Goals as goal
+
+pub returns-then-a-b : goal.returns-then-a-b
+returns-then-a-b c = rw (lt-ltb c.args.a c.args.b c.if-a-b.true)
+
+pub returns : goal.returns
+returns c = rw (le-ltb c.args.a c.args.b c.if-a-b.false)

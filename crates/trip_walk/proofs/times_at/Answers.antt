@@ -1,0 +1,11 @@
+-- `trip_walk::times_at` meets its contract.
+use Rattle.trip_walk.specs.Table.{timed_in}
+use Prim.Native.Nat.{◌-◌}
+use Rattle.trip_walk.proofs.times_at.Goals as goal
+
+pub returns : goal.returns
+unfolding timed_in
+returns c =
+    let arrival = c.arrival_at-a.ensures in
+    let departure = c.departure_at-d.ensures in
+    (rw (c.is_timed.ensures, arrival, departure), (rw (c.seconds_of.ensures, arrival), rw (c.seconds_of-2.ensures, departure)))

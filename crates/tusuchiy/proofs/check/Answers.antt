@@ -1,0 +1,29 @@
+-- `tusuchiy::check` meets its contract.
+use mathlib.Core.Path.{sym, ◌∙◌}
+use native.Mathlib.Omega.{arith}
+use lib.ListN.{length-map}
+use Rattle.tusuchiy.proofs.Bounds.{small_refusal}
+use Rattle.tusuchiy.proofs.Laws.{outcome_readable, outcome_refused}
+use Rattle.tusuchiy.proofs.check.Goals as goal
+
+pub checked_from-requires : goal.checked_from-requires
+checked_from-requires c = record {
+  calendar_dates_table_value = sym c.verdict.ensures ∙ c.in-Readable.is;
+  counts_value = c.count_all-counts.ensures;
+  i_bound = (omega arith, λ k h. absurd (omega arith));
+}
+
+pub returns-in-Readable : goal.returns-in-Readable
+returns-in-Readable c =
+    let read = sym c.verdict.ensures ∙ c.in-Readable.is in record {
+      asked_value = outcome_readable _ _ _ _ _ _ read c.checked_from.ensures.asked_value;
+      small = c.checked_from.ensures.small;
+    }
+
+pub returns-in-Unreadable : goal.returns-in-Unreadable
+returns-in-Unreadable c =
+    let e = sym c.verdict.ensures ∙ c.in-Unreadable.is in
+    let six = length-map c.args.files (λ x. x.now) in record {
+      asked_value = outcome_refused _ _ _ _ _ _ e;
+      small = small_refusal _ _ _ e (omega (arith, six, c.well_formed.0.1.0.1)) (omega (arith, six, c.well_formed.0.1.0.1));
+    }
