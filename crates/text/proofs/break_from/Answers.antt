@@ -2,7 +2,6 @@
 use Rattle.text.proofs.Lines.{first_here, first_next, first_over}
 use Rattle.text.specs.Fields.{is_break}
 use mathlib.Core.Path.{refl, sym, ◌∙◌}
-use Prim.Native.Nat.{◌-◌}
 use native.Mathlib.Omega.{arith}
 use Rattle.text.proofs.break_from.Goals as goal
 

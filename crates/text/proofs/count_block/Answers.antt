@@ -1,6 +1,5 @@
 -- `text::count_block` meets its contract.
 use Rattle.text.proofs.Lines.{count_lf_most, count_lf_next, count_lf_over}
-use Prim.Native.Nat.{◌-◌}
 use native.Mathlib.Omega.{arith}
 use Rattle.text.proofs.count_block.Goals as goal
 

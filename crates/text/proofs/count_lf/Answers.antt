@@ -1,6 +1,6 @@
 -- `text::count_lf` meets its contract.
 use Rattle.text.proofs.Lines.{count_lf_most, block_short, count_lf_block, count_lf_over}
-use Prim.Native.Nat.{◌-◌, ◌+◌}
+use Prim.Native.Nat.{◌+◌}
 use native.Mathlib.Omega.{arith}
 use lib.ListN.{length}
 use Rattle.text.proofs.count_lf.Goals as goal

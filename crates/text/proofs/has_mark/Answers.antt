@@ -2,7 +2,6 @@
 use Rattle.text.proofs.Lines.{any_turn, any_over}
 use Rattle.text.specs.Fields.{is_mark}
 use mathlib.Core.Path.{refl}
-use Prim.Native.Nat.{◌-◌}
 use native.Mathlib.Omega.{arith}
 use Rattle.text.proofs.has_mark.Goals as goal
 

@@ -1,7 +1,6 @@
 -- `text::has_stray` meets its contract.
 use Rattle.text.proofs.Fields.{stray_tab, stray_cr, stray_next, stray_over}
 use mathlib.Core.Path.{refl}
-use Prim.Native.Nat.{◌-◌}
 use native.Mathlib.Omega.{arith}
 use Rattle.text.proofs.has_stray.Goals as goal
 

@@ -2,7 +2,6 @@
 use Rattle.text.proofs.Spans.{run_next, run_done}
 use Rattle.meaning.specs.Bytes.{quoting}
 use mathlib.Core.Path.{refl, ◌∙◌}
-use Prim.Native.Nat.{◌-◌}
 use native.Mathlib.Omega.{arith}
 use Rattle.text.proofs.last_state.Goals as goal
 

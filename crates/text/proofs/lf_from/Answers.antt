@@ -1,7 +1,6 @@
 -- `text::lf_from` meets its contract.
 use Rattle.text.proofs.Lines.{first_here, first_next, first_over}
 use Rattle.text.specs.Lines.{is_lf}
-use Prim.Native.Nat.{◌-◌}
 use native.Mathlib.Omega.{arith}
 use borrow.Author.Tests.{eq-eqb, ne_eqb}
 use Rattle.text.proofs.lf_from.Goals as goal

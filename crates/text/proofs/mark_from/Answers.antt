@@ -2,7 +2,6 @@
 use Rattle.text.proofs.Lines.{first_here, first_next, first_over}
 use Rattle.text.specs.Fields.{is_mark}
 use mathlib.Core.Path.{refl}
-use Prim.Native.Nat.{◌-◌}
 use native.Mathlib.Omega.{arith}
 use borrow.Author.Tests.{eq-eqb, ne_eqb}
 use Rattle.text.proofs.mark_from.Goals as goal

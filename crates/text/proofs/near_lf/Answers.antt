@@ -1,7 +1,7 @@
 -- `text::near_lf` meets its contract.
 use Rattle.text.proofs.Lines.{to_lf_block}
 use mathlib.Core.Path.{refl}
-use Prim.Native.Nat.{◌-◌, ◌+◌}
+use Prim.Native.Nat.{◌+◌}
 use native.Mathlib.Omega.{arith}
 use Rattle.text.proofs.near_lf.Goals as goal
 

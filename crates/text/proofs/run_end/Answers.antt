@@ -2,7 +2,6 @@
 use Rattle.text.proofs.Runs.{run_ended, run_yes, run_no, run_over, run_end_within}
 use Rattle.meaning.specs.Bytes.{quoting}
 use mathlib.Core.Path.{refl, sym, ◌∙◌}
-use Prim.Native.Nat.{◌-◌}
 use native.Mathlib.Omega.{arith}
 use borrow.Author.Rules.{rules}
 use Rattle.text.proofs.run_end.Goals as goal

@@ -1,7 +1,6 @@
 -- `text::same_content` meets its contract.
 use Rattle.text.proofs.Values.{same_turn, same_differ, same_longer, same_over}
 use mathlib.Core.Path.{refl}
-use Prim.Native.Nat.{◌-◌}
 use native.Mathlib.Omega.{arith}
 use Rattle.text.proofs.same_content.Goals as goal
 

@@ -1,7 +1,5 @@
 -- `text::undoubled_length` meets its contract.
 use Rattle.text.proofs.Values.{length_turn, length_over}
-use mathlib.Core.Bool.{true}
-use Prim.Native.Nat.{◌-◌}
 use native.Mathlib.Omega.{arith}
 use Rattle.text.proofs.undoubled_length.Goals as goal
 

@@ -3,7 +3,7 @@ use Rattle.text.proofs.Fields.{from_start, field_found, field_none}
 use Rattle.text.proofs.Spans.{note_length, told_first, told_next, told_last, told_rest, count_first, count_on, count_last, count_rest, note_on, note_last, note_rest, up_some}
 use Rattle.meaning.specs.Bytes.{quoting}
 use mathlib.Core.Path.{◌≡◌, refl, sym, ◌∙◌}
-use Prim.Native.Nat.{◌-◌, ◌+◌}
+use Prim.Native.Nat.{◌+◌}
 use native.Mathlib.Omega.{arith}
 use Rattle.text.proofs.walk_fields.Goals as goal
 

@@ -2,11 +2,10 @@
 use Rattle.text.proofs.Fields.{step_over, step_to, end_within}
 use Rattle.text.proofs.Spans.{left_kept, left_over, left_asked, out_ended, out_over}
 use Rattle.meaning.specs.Bytes.{start}
-use mathlib.Core.Logic.{⊎_elim}
 use mathlib.Core.Path.{refl}
-use Prim.Native.Nat.{◌-◌}
 use native.Mathlib.Omega.{arith}
 use Rattle.text.proofs.Cursor.next_by.Goals as goal
+use Rattle.text.proofs.Cursor.next_by.Goals.{else-loop-q-test, then-loop-q-test+then-l-i}
 
 pub returns-then-l-at : goal.returns-then-l-at
 returns-then-l-at c = step_over _ _ c.if-l-at.true
@@ -44,18 +43,19 @@ pub overflow_add-result-2 : goal.overflow_add-result-2
 overflow_add-result-2 c =
     let v = c.loop-q.invariant in
     let z = end_within c.args.l.now c.args.self.at _ c.if-l-at.false refl in
-    let e =
-    ⊎_elim
-    (λ w. out_ended _ _ _ _ _ v.2 _ w.0.left w.1)
-    (λ w. out_over _ _ _ _ _ v.2 _ v.0 w.0.taken _ w.1.ensures.0 w.2.taken w.3)
-    c.loop-q-test.branch in
-    omega (arith, e.0, c.well_formed)
+    elim c.loop-q-test.branch [
+      | else-loop-q-test w ↦ let e = out_ended _ _ _ _ _ v.2 _ w.loop-q-test.false w.i-is in omega (arith, e.0, c.well_formed)
+      | then-loop-q-test+then-l-i w ↦
+          let e = out_over _ _ _ _ _ v.2 _ v.0 w.loop-q-test.true _ w.asked_from-i.ensures.0 w.if-l-i.true w.i-is in
+          omega (arith, e.0, c.well_formed)
+    ]
 
 pub returns : goal.returns
 returns c =
     let v = c.loop-q.invariant in
     step_to _ _ _ _ c.if-l-at.false
-    (⊎_elim
-    (λ w. out_ended _ _ _ _ _ v.2 _ w.0.left w.1)
-    (λ w. out_over _ _ _ _ _ v.2 _ v.0 w.0.taken _ w.1.ensures.0 w.2.taken w.3)
-    c.loop-q-test.branch)
+    (elim c.loop-q-test.branch [
+      | else-loop-q-test w ↦ out_ended _ _ _ _ _ v.2 _ w.loop-q-test.false w.i-is
+      | then-loop-q-test+then-l-i w ↦
+          out_over _ _ _ _ _ v.2 _ v.0 w.loop-q-test.true _ w.asked_from-i.ensures.0 w.if-l-i.true w.i-is
+    ])
