@@ -5,7 +5,6 @@ use Rattle.records.specs.Waiting.{written_of}
 use Rattle.tables.proofs.Turns.{first_room, walk_first}
 use Rattle.records.proofs.References.{sought_blank}
 use Rattle.tables.proofs.Feeds.{settled_zeroed}
-use Prim.Native.Nat.{◌-◌}
 use native.Mathlib.Omega.{arith}
 use Rattle.tables.proofs.fill.Goals as goal
 

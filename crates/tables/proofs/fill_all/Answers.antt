@@ -7,7 +7,6 @@ use Rattle.tables.proofs.Behind.{behind, fit_each, cover_each, all_filled}
 use Rattle.tables.proofs.SecondWalk.{filled_beyond}
 use Rattle.tables.proofs.TripLines.{noted_kept}
 use mathlib.Core.Path.{refl, ◌∙◌}
-use Prim.Native.Nat.{◌-◌}
 use native.Mathlib.Omega.{arith}
 use Rattle.tables.proofs.fill_all.Goals as goal
 
@@ -43,7 +42,7 @@ fill_times-requires c =
     let s = fit_each c.args.files _ _ _ _ _ _ (c.requires.room, (c.requires.room_2, (c.requires.fits, (c.requires.room_3, (c.requires.room_4, (c.requires.fits_2, c.requires.blank)))))) in
     let trips = c.order_all-n.ensures.ordered_3 in
     let long = cover_each c.args.files c.args.marks.now s.1.1.1.1.1.1.1 in
-    let size = c.order_all-n.auto.1.1.1.1.1.1.1.1.1.1.0 in record {
+    let size = c.order_all-n.auto.marks in record {
       room = (s.1.1.1.1.0, (omega (arith, trips.count, s.1.1.1.0.few), omega (arith, c.order_all-n.ensures.ordered.count, s.0.few)));
       indexed = indexed_times _ _ _ _ _ _
           (settled_index 4 (omega arith) _ _ _ _ _ trips c.settle_services.ensures.kept_at)
@@ -98,13 +97,13 @@ pub returns : goal.returns
 unfolding width_of widths waits sought_ids
 returns c =
     let a = c.args in
-    let b₁ = behind a.t1 0 in
-    let b₂ = behind a.t1 1 in
-    let b₃ = behind a.t1 2 in
-    let b₄ = behind a.t1 3 in
-    let b₅ = behind a.t1 4 in
-    let b₆ = behind a.t1 5 in
-    let pre = fit_each a.t1 _ _ _ _ _ _ (c.requires.room, (c.requires.room_2, (c.requires.fits, (c.requires.room_3, (c.requires.room_4, (c.requires.fits_2, c.requires.blank)))))) in
+    let b₁ = behind a.files 0 in
+    let b₂ = behind a.files 1 in
+    let b₃ = behind a.files 2 in
+    let b₄ = behind a.files 3 in
+    let b₅ = behind a.files 4 in
+    let b₆ = behind a.files 5 in
+    let pre = fit_each a.files _ _ _ _ _ _ (c.requires.room, (c.requires.room_2, (c.requires.fits, (c.requires.room_3, (c.requires.room_4, (c.requires.fits_2, c.requires.blank)))))) in
     let w = six b₁ b₂ b₃ b₄ b₅ b₆ in
     let e1 = stop_ids_lem b₁ b₂ b₃ b₄ b₅ b₆ in
     let e2 = route_ids_lem b₁ b₂ b₃ b₄ b₅ b₆ in
@@ -120,7 +119,7 @@ returns c =
     let calendar = c.fill_alone-2.ensures w (settled_none 3 w _ _ refl) ∙ lacked_filled 3 _ _ _ _ c.order_all-n.ensures.ordered_if (omega arith) (omega arith) pre.1.1.0 w in
     let routes = c.fill_alone-3.ensures w (settled_none 2 w _ _ refl) ∙ filled_beyond 2 (omega arith) (omega arith) w _ pre.1.0.lines _ _ c.order_all-n.ensures.ordered_2.beyond in
     let stops = c.fill_alone-4.ensures w (settled_named 1 (omega arith) _ _ _ _ _ c.order_all-n.ensures.ordered c.settle_parents.ensures.kept_at w (c.settle_parents.ensures.by_index (stop_ids w) (ordered_lists 1 _ _ _ _ c.order_all-n.ensures.ordered _ e1)))
-    ∙ filled_beyond 1 (omega arith) (omega arith) w _ pre.0.lines _ _ (settled_past 1 (omega arith) _ _ _ _ _ c.order_all-n.ensures.ordered c.settle_parents.ensures.kept_at) in let every = all_filled a.t1 _ _ _ _ _ _ c.well_formed.0.1.0.1 _ _ _ _ _ _ _ stops routes calendar trips times.0 dates (noted_kept w _ _ c.fill_times.ensures.by_index_2 (c.order_all-n.ensures.by_index b₅)) times.1 in record {
+    ∙ filled_beyond 1 (omega arith) (omega arith) w _ pre.0.lines _ _ (settled_past 1 (omega arith) _ _ _ _ _ c.order_all-n.ensures.ordered c.settle_parents.ensures.kept_at) in let every = all_filled a.files _ _ _ _ _ _ (omega arith) _ _ _ _ _ _ _ stops routes calendar trips times.0 dates (noted_kept w _ _ c.fill_times.ensures.by_index_2 (c.order_all-n.ensures.by_index b₅)) times.1 in record {
       dates_table_after = every.0;
       noted = every.1;
     }

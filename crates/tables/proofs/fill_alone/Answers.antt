@@ -3,7 +3,6 @@ use Rattle.records.proofs.References.{refers_none, indexed_none}
 use Rattle.tables.proofs.Written.{written_filled}
 use Rattle.tables.proofs.Feeds.{fits_room, filled_none}
 use mathlib.Core.Path.{◌∙◌}
-use Prim.Native.Nat.{◌-◌}
 use native.Mathlib.Omega.{arith}
 use Rattle.tables.proofs.fill_alone.Goals as goal
 

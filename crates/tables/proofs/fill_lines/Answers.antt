@@ -11,7 +11,6 @@ use Rattle.tables.proofs.Turns.{three_wide, walk_inside, walk_room, walk_count, 
 use Rattle.tables.proofs.Ids.{row_here}
 use Rattle.tables.proofs.SecondWalk.{settled_here}
 use mathlib.Core.Path.{refl, sym, ◌∙◌}
-use Prim.Native.Nat.{◌-◌}
 use native.Mathlib.Omega.{arith}
 use Rattle.tables.proofs.fill_lines.Goals as goal
 
@@ -56,7 +55,7 @@ loop-start-preserved c =
       (
         line_next text _ c.loop-start.here c.loop-start.r c.loop-start.invariant.1.0 _ _ _ h,
         (
-          (omega arith, (c.put_record.auto.1.1.1.1.1.1.1.1.1.0 ∙ c.loop-start.invariant.1.1.0.1.0, c.put_record.auto.1.1.1.1.1.1.1.1.1.1.1.1.1.0 ∙ c.loop-start.invariant.1.1.0.1.1)),
+          (omega arith, (c.put_record.auto.a_memo ∙ c.loop-start.invariant.1.1.0.1.0, c.put_record.auto.b_memo ∙ c.loop-start.invariant.1.1.0.1.1)),
           (
             c.put_record.ensures.sought_2,
             λ w lent refs parents e.

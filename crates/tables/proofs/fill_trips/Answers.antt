@@ -3,7 +3,6 @@ use Rattle.records.proofs.References.{indexed_trips, refers_trips}
 use Rattle.tables.proofs.Written.{written_filled}
 use Rattle.tables.proofs.Feeds.{none_index, none_lists}
 use mathlib.Core.Path.{◌∙◌}
-use Prim.Native.Nat.{◌-◌}
 use native.Mathlib.Omega.{arith}
 use Rattle.tables.proofs.fill_trips.Goals as goal
 

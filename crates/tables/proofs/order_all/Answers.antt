@@ -1,7 +1,6 @@
 -- `tables::order_all` meets its contract.
 use Rattle.tables.proofs.Marking.{noted_all, none_told}
 use mathlib.Core.List.{[]}
-use Prim.Native.Nat.{◌-◌}
 use native.Mathlib.Omega.{arith}
 use Rattle.tables.proofs.order_all.Goals as goal
 

@@ -1,6 +1,5 @@
 -- `tables::parents::settle_parents` meets its contract.
 use Rattle.memo.proofs.Laws.{ready_blank}
-use Prim.Native.Nat.{◌-◌}
 use Rattle.tables.proofs.parents.settle_parents.Goals as goal
 
 pub settle_with-requires : goal.settle_with-requires

@@ -3,7 +3,6 @@ use Rattle.records.proofs.Readings.{referred}
 use Rattle.tables.proofs.Settling.{lists_as, kept_three, named_start, settle_kept, settle_ready, settle_turn, named_end}
 use Rattle.ordering.proofs.Laws.{kept_self, room_row}
 use mathlib.Core.Path.{refl, ◌∙◌}
-use Prim.Native.Nat.{◌-◌}
 use native.Mathlib.Omega.{arith}
 use Rattle.tables.proofs.parents.settle_with.Goals as goal
 
@@ -31,7 +30,7 @@ loop-r-preserved c =
     let kept = c.loop-r.invariant.1.1.0 in (
       (omega arith, omega (arith, c.loop-r-test.true)),
       (
-        c.waiting_parent-parent.auto.1.1.1.1.0 ∙ c.loop-r.invariant.1.0,
+        c.waiting_parent-parent.auto.memo ∙ c.loop-r.invariant.1.0,
         (
           settle_kept 7 _ _ (omega arith) c.loop-r.invariant.0.0 below _ _ _ c.settle.ensures _ kept,
           (

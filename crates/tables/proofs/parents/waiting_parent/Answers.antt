@@ -1,5 +1,4 @@
 -- `tables::parents::waiting_parent` meets its contract.
-use Prim.Native.Nat.{◌-◌}
 use Rattle.tables.proofs.parents.waiting_parent.Goals as goal
 
 pub returns : goal.returns

@@ -5,7 +5,7 @@ use Rattle.meaning.specs.Tables.{day}
 use Rattle.tables.specs.Walk.{date_key}
 use mathlib.Core.Path.{refl, sym, ap, ◌∙◌}
 use mathlib.Core.List.{List}
-use Prim.Native.Nat.{ℕ, ◌-◌}
+use Prim.Native.Nat.{ℕ}
 use native.Mathlib.Omega.{arith}
 use borrow.Author.Tests.{eq-eqb, ne_eqb}
 use Rattle.tables.proofs.placing.date_key.Goals as goal

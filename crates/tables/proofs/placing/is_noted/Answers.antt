@@ -1,6 +1,5 @@
 -- `tables::placing::is_noted` meets its contract.
 use Rattle.tables.proofs.Marking.{noted_stop, noted_short, noted_long, noted_none}
-use Prim.Native.Nat.{◌-◌}
 use Rattle.tables.proofs.placing.is_noted.Goals as goal
 
 pub returns-then-f-eq-FILE : goal.returns-then-f-eq-FILE

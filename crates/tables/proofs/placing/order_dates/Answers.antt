@@ -4,7 +4,6 @@ use Rattle.tables.proofs.Feeds.{fits_room, ordered_count}
 use Rattle.tables.proofs.FirstWalk.{order_room, placed_length, walked_is, walked_kept, ordered_is, dates_keyed}
 use Rattle.tables.proofs.Marking.{marking_none, marking_by, repeated_dates}
 use mathlib.Core.Path.{refl, ap, ◌∙◌}
-use Prim.Native.Nat.{◌-◌}
 use native.Mathlib.Omega.{arith}
 use lib.ListN.{length}
 use Rattle.tables.proofs.placing.order_dates.Goals as goal

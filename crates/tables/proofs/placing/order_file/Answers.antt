@@ -4,7 +4,6 @@ use Rattle.tables.proofs.Feeds.{ordered_count}
 use Rattle.tables.proofs.Marking.{marking_by, repeated_ids}
 use Rattle.tables.proofs.Turns.{three_wide}
 use mathlib.Core.Path.{ap, ◌∙◌}
-use Prim.Native.Nat.{◌-◌}
 use native.Mathlib.Omega.{arith}
 use lib.ListN.{length}
 use Rattle.tables.proofs.placing.order_file.Goals as goal

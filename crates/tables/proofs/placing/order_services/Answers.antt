@@ -2,7 +2,6 @@
 use Rattle.tables.proofs.Feeds.{fits_room}
 use Rattle.tables.proofs.Marking.{marking_none}
 use mathlib.Core.Path.{refl}
-use Prim.Native.Nat.{◌-◌}
 use native.Mathlib.Omega.{arith}
 use Rattle.tables.proofs.placing.order_services.Goals as goal
 

@@ -3,7 +3,6 @@ use Rattle.tables.specs.Walk.{placing}
 use Rattle.meaning.specs.Columns.{places, header_of}
 use Rattle.meaning.specs.Bytes.{lines_of}
 use Rattle.tables.proofs.Turns.{first_room, walk_first}
-use Prim.Native.Nat.{◌-◌}
 use native.Mathlib.Omega.{arith}
 use Rattle.tables.proofs.placing.place_file.Goals as goal
 

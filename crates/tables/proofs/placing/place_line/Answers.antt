@@ -1,7 +1,6 @@
 -- `tables::placing::place_line` meets its contract.
 use Rattle.values.proofs.Readings.{located, within}
 use Rattle.records.proofs.LineRecords.{lies}
-use Prim.Native.Nat.{◌-◌}
 use native.Mathlib.Omega.{arith}
 use Rattle.tables.proofs.placing.place_line.Goals as goal
 

@@ -10,7 +10,6 @@ use Rattle.tables.proofs.Written.{placing_wide}
 use Rattle.tables.proofs.Ids.{row_here}
 use Rattle.tables.proofs.Marking.{telling_start, telling_turn}
 use mathlib.Core.Path.{◌≡◌, refl, sym, ◌∙◌}
-use Prim.Native.Nat.{◌-◌}
 use native.Mathlib.Omega.{arith}
 use Rattle.tables.proofs.placing.place_lines.Goals as goal
 

@@ -2,7 +2,6 @@
 use Rattle.tables.proofs.Written.{places_record}
 use Rattle.records.proofs.Readings.{put_as}
 use Rattle.tables.proofs.Turns.{eight_wide}
-use Prim.Native.Nat.{◌-◌}
 use native.Mathlib.Omega.{arith}
 use Rattle.tables.proofs.placing.put_places.Goals as goal
 

@@ -1,7 +1,6 @@
 -- `tables::placing::waiting_column` meets its contract.
 use Rattle.records.specs.Waiting.{waiting_column}
 use borrow.Author.Tests.{eq-eqb, ne_eqb}
-use Prim.Native.Nat.{◌-◌}
 use native.Mathlib.Omega.{arith}
 use Rattle.tables.proofs.placing.waiting_column.Goals as goal
 

@@ -1,6 +1,5 @@
 -- `tables::services::settle_among` meets its contract.
 use Rattle.memo.proofs.Laws.{ready_blank}
-use Prim.Native.Nat.{◌-◌}
 use Rattle.tables.proofs.services.settle_among.Goals as goal
 
 pub settle_with-requires : goal.settle_with-requires

@@ -1,6 +1,5 @@
 -- `tables::services::settle_services` meets its contract.
 use Rattle.tables.proofs.Feeds.{none_index, none_lists}
-use Prim.Native.Nat.{◌-◌}
 use native.Mathlib.Omega.{arith}
 use Rattle.tables.proofs.services.settle_services.Goals as goal
 

@@ -3,7 +3,7 @@ use Rattle.ordering.proofs.Laws.{kept_self, row_fits}
 use Rattle.records.proofs.Readings.{referred}
 use Rattle.tables.proofs.Settling.{named_start, settle_kept, settle_turn, named_end}
 use mathlib.Core.Path.{refl, ◌∙◌}
-use Prim.Native.Nat.{◌≤◌, ◌-◌, ◌+◌, ◌*◌}
+use Prim.Native.Nat.{◌≤◌, ◌+◌, ◌*◌}
 use native.Mathlib.Omega.{arith}
 use lib.ListN.{length}
 use Rattle.tables.proofs.services.settle_with.Goals as goal
@@ -33,7 +33,7 @@ loop-r-preserved c =
     let row : (c.loop-r.r + 1) * 8 ≤ length c.loop-r.t = rw kept.size (row_fits c.loop-r.r _ 8 _ below c.requires.n_in_bounds.0) in (
       (omega arith, omega (arith, below)),
       (
-        c.waiting_service-dated.auto.1.1.1.1.1.1.0 ∙ c.loop-r.invariant.1.0,
+        c.waiting_service-dated.auto.memo ∙ c.loop-r.invariant.1.0,
         (
           settle_kept 8 _ _ (omega arith) c.loop-r.invariant.0.0 below _ _ _ c.settle.ensures _ kept,
           (

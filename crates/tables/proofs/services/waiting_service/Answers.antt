@@ -1,5 +1,4 @@
 -- `tables::services::waiting_service` meets its contract.
-use Prim.Native.Nat.{◌-◌}
 use Rattle.tables.proofs.services.waiting_service.Goals as goal
 
 pub returns : goal.returns

@@ -4,7 +4,6 @@ use Rattle.tables.proofs.TripLines.{trip_count, trips_noted}
 use Rattle.records.specs.Waiting.{waits}
 use Rattle.tables.proofs.Feeds.{settled_none}
 use mathlib.Core.Path.{refl}
-use Prim.Native.Nat.{◌-◌}
 use native.Mathlib.Omega.{arith}
 use Rattle.tables.proofs.times.fill_times.Goals as goal
 
@@ -18,14 +17,14 @@ fill-n-requires c = record {
 pub mark_times-requires : goal.mark_times-requires
 unfolding width_of widths
 mark_times-requires c = record {
-  n_in_bounds = (omega (arith, c.requires.room.0.room, c.fill-n.ensures.result_value, c.fill-n.auto.1.1.0), (omega (arith, c.requires.room.0.few, c.fill-n.ensures.result_value), omega (arith, c.requires.s_in_bounds.0, c.fill-n.ensures.result_value)));
+  n_in_bounds = (omega (arith, c.requires.room.0.room, c.fill-n.ensures.result_value, c.fill-n.auto.t), (omega (arith, c.requires.room.0.few, c.fill-n.ensures.result_value), omega (arith, c.requires.s_in_bounds.0, c.fill-n.ensures.result_value)));
   untold = λ k i h l. c.requires.by_index k i h;
 }
 
 pub settle_times-requires : goal.settle_times-requires
 unfolding width_of widths
 settle_times-requires c =
-    (omega (arith, c.requires.room.0.room, c.fill-n.ensures.result_value, c.fill-n.auto.1.1.0, c.mark_times.auto.1.0), omega (arith, c.requires.room.0.few, c.fill-n.ensures.result_value))
+    (omega (arith, c.requires.room.0.room, c.fill-n.ensures.result_value, c.fill-n.auto.t, c.mark_times.auto.t), omega (arith, c.requires.room.0.few, c.fill-n.ensures.result_value))
 
 pub returns : goal.returns
 unfolding width_of widths waits

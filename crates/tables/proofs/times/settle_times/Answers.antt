@@ -1,7 +1,6 @@
 -- `tables::times::settle_times` meets its contract.
 use Rattle.tables.proofs.Waits.{settle_start, settle_turn, settle_end}
 use mathlib.Core.Path.{refl, ◌∙◌}
-use Prim.Native.Nat.{◌-◌}
 use native.Mathlib.Omega.{arith}
 use Rattle.tables.proofs.times.settle_times.Goals as goal
 
@@ -22,7 +21,7 @@ loop-r-preserved c =
     let below = c.loop-r-test.true in (
       (omega arith, omega (arith, below)),
       (
-        c.settle.auto.0 ∙ c.loop-r.invariant.1.0,
+        c.settle.auto.t ∙ c.loop-r.invariant.1.0,
         λ w s lent count room kept.
             settle_turn w s lent (omega arith) _ count room _ kept _ _ _ c.loop-r.invariant.0.0 below (c.loop-r.invariant.1.1 w s lent count room kept) c.settle.ensures,
       ),
