@@ -1,7 +1,6 @@
 -- `values::packed_days` meets its contract.
 use Rattle.values.proofs.Readings.{pack_turn, bits_turn, bits_few, pack_first, pack_last}
 use mathlib.Core.Path.{refl}
-use Prim.Native.Nat.{◌-◌}
 use native.Mathlib.Omega.{arith}
 use Rattle.values.proofs.packed_days.Goals as goal
 
