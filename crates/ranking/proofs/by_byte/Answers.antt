@@ -1,7 +1,6 @@
 -- `ranking::by_byte` meets its contract.
 use Rattle.ranking.specs.Ranks.{by_byte}
 use borrow.Author.Tests.{lt-ltb, le-ltb}
-use Prim.Native.Nat.{◌-◌}
 use Rattle.ranking.proofs.by_byte.Goals as goal
 
 pub returns-then-x-y : goal.returns-then-x-y

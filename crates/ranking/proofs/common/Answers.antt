@@ -1,15 +1,14 @@
 -- `ranking::common` meets its contract.
 use Rattle.ranking.proofs.Laws.{rest, onward}
 use lib.ListN.{length-take, length-drop}
-use mathlib.Core.Logic.{⊎_elim}
 use borrow.Author.Tests.{not-false}
 use mathlib.Core.Path.{refl}
-use Prim.Native.Nat.{◌-◌}
 use native.Mathlib.Omega.{arith}
 use Rattle.ranking.proofs.common.Goals as goal
+use Rattle.ranking.proofs.common.Goals.{then-a-b, else-a-b}
 
 pub loop-i-init : goal.loop-i-init
-loop-i-init c = (refl, ⊎_elim (λ w. omega arith) (λ w. omega arith) c.if-a-b.branch)
+loop-i-init c = (refl, elim c.if-a-b.branch [ then-a-b w ↦ omega arith | else-a-b w ↦ omega arith ])
 
 pub same8-requires : goal.same8-requires
 same8-requires c = (simp (length-take, length-drop) (omega arith), simp (length-take, length-drop) (omega arith))

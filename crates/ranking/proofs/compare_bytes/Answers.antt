@@ -1,7 +1,6 @@
 -- `ranking::compare_bytes` meets its contract.
 use Rattle.ranking.proofs.Laws.{bytes, bytes_differ, bytes_longer, bytes_shorter, bytes_over}
 use mathlib.Core.Path.{◌∙◌}
-use Prim.Native.Nat.{◌-◌}
 use Rattle.ranking.proofs.compare_bytes.Goals as goal
 
 pub loop-i-init : goal.loop-i-init

@@ -1,7 +1,6 @@
 -- `ranking::compare_content` meets its contract.
 use Rattle.ranking.proofs.Laws.{turn, turn_differ, turn_longer, turn_shorter, turn_over}
 use mathlib.Core.Path.{refl, ◌∙◌}
-use Prim.Native.Nat.{◌-◌}
 use native.Mathlib.Omega.{arith}
 use Rattle.ranking.proofs.compare_content.Goals as goal
 

@@ -1,7 +1,6 @@
 -- `ranking::compare_values` meets its contract.
 use Rattle.ranking.proofs.Laws.{compare_marked, value_bare}
 use mathlib.Core.Path.{sym, ◌∙◌}
-use Prim.Native.Nat.{◌-◌}
 use Rattle.ranking.proofs.compare_values.Goals as goal
 
 pub returns-then-qa : goal.returns-then-qa

@@ -1,7 +1,6 @@
 -- `ranking::same4` meets its contract.
 use Rattle.ranking.proofs.Laws.{four}
 use borrow.Author.Tests.{eqb-true}
-use Prim.Native.Nat.{◌-◌}
 use Rattle.ranking.proofs.same4.Goals as goal
 
 pub returns : goal.returns

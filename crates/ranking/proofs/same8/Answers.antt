@@ -3,7 +3,6 @@ use Rattle.ranking.proofs.Laws.{rest, onward}
 use Rattle.meaning.proofs.ListLaws.{both}
 use mathlib.Core.Path.{refl}
 use mathlib.Core.Bool.{false}
-use Prim.Native.Nat.{◌-◌}
 use Rattle.ranking.proofs.same8.Goals as goal
 
 pub returns-then-same4 : goal.returns-then-same4

@@ -2,7 +2,6 @@
 use Rattle.ranking.proofs.Laws.{same_is}
 use Rattle.ranking.specs.declared.Order.TheVariants.{Less, Equal, Greater}
 use mathlib.Core.Path.{sym, ◌∙◌}
-use Prim.Native.Nat.{◌-◌}
 use Rattle.ranking.proofs.same_values.Goals as goal
 
 pub returns-in-Less : goal.returns-in-Less
