@@ -25,5 +25,5 @@ returns-in-Unreadable c =
     let e = sym c.verdict.ensures ∙ c.in-Unreadable.is in
     let six = length-map c.args.files (λ x. x.now) in record {
       asked_value = outcome_refused _ _ _ _ _ _ e;
-      small = small_refusal _ _ _ e (omega (arith, six, c.well_formed.0.1.0.1)) (omega (arith, six, c.well_formed.0.1.0.1));
+      small = small_refusal _ _ _ e (omega (arith, six)) (omega (arith, six));
     }

@@ -1,5 +1,5 @@
 -- `tusuchiy::checked_many` meets its contract.
-use mathlib.Core.Path.{◌≡◌, refl, ◌∙◌}
+use mathlib.Core.Path.{◌≡◌, refl}
 use mathlib.Core.List.{[], ◌∷◌, map}
 use lib.ListN.{length, length-map}
 use Rattle.tusuchiy.proofs.Laws.{few_lines_lem}
@@ -10,7 +10,7 @@ pub checked_with-requires : goal.checked_with-requires
 checked_with-requires c =
     let files = map (λ x. x.now) c.args.files in
     let tables = c.args.stops_table.now ∷ c.args.routes_table.now ∷ c.args.calendar_table.now ∷ c.args.trips_table.now ∷ c.args.stop_times_table.now ∷ c.args.calendar_dates_table.now ∷ [] in
-    let six : length files ≡ 6 = length-map c.args.files (λ x. x.now) ∙ c.well_formed.0.1.0.1 in record {
+    let six : length files ≡ 6 = omega (arith, length-map c.args.files (λ x. x.now)) in record {
       calendar_dates_table_value = c.requires.calendar_dates_table_value;
       counts_value = c.requires.counts_value;
       blank = (c.blank-marks.ensures, λ i h. omega (arith, few_lines_lem files tables six refl c.requires.calendar_dates_table_value _ c.requires.counts_value i h));

@@ -1,5 +1,5 @@
 -- `tusuchiy::checked_with` meets its contract.
-use mathlib.Core.Path.{◌≡◌, refl, ◌∙◌}
+use mathlib.Core.Path.{◌≡◌, refl}
 use mathlib.Core.List.{[], ◌∷◌, map}
 use lib.ListN.{length, length-map}
 use Rattle.meaning.specs.Refusals.{may_lack}
@@ -14,7 +14,7 @@ unfolding table_of may_lack
 fill_all-requires c =
     let files = map (λ x. x.now) c.args.files in
     let tables = c.args.stops_table.now ∷ c.args.routes_table.now ∷ c.args.calendar_table.now ∷ c.args.trips_table.now ∷ c.args.stop_times_table.now ∷ c.args.calendar_dates_table.now ∷ [] in
-    let six : length files ≡ 6 = length-map c.args.files (λ x. x.now) ∙ c.well_formed.0.1.0.1 in record {
+    let six : length files ≡ 6 = omega (arith, length-map c.args.files (λ x. x.now)) in record {
       room = roomy files tables six refl c.requires.calendar_dates_table_value 1 (omega arith) (omega arith) refl;
       room_2 = roomy files tables six refl c.requires.calendar_dates_table_value 2 (omega arith) (omega arith) refl;
       fits = fits files tables six refl c.requires.calendar_dates_table_value 3 (omega arith) (omega arith);
@@ -28,14 +28,14 @@ pub list_findings-k-requires : goal.list_findings-k-requires
 list_findings-k-requires c =
     let files = map (λ x. x.now) c.args.files in
     let tables = c.args.stops_table.now ∷ c.args.routes_table.now ∷ c.args.calendar_table.now ∷ c.args.trips_table.now ∷ c.args.stop_times_table.now ∷ c.args.calendar_dates_table.now ∷ [] in
-    let six : length files ≡ 6 = length-map c.args.files (λ x. x.now) ∙ c.well_formed.0.1.0.1 in
+    let six : length files ≡ 6 = omega (arith, length-map c.args.files (λ x. x.now)) in
     few_lines_lem files tables six refl c.requires.calendar_dates_table_value _ c.requires.counts_value
 
 pub returns : goal.returns
 returns c =
     let files = map (λ x. x.now) c.args.files in
     let tables = c.args.stops_table.now ∷ c.args.routes_table.now ∷ c.args.calendar_table.now ∷ c.args.trips_table.now ∷ c.args.stop_times_table.now ∷ c.args.calendar_dates_table.now ∷ [] in
-    let six : length files ≡ 6 = length-map c.args.files (λ x. x.now) ∙ c.well_formed.0.1.0.1 in
+    let six : length files ≡ 6 = omega (arith, length-map c.args.files (λ x. x.now)) in
     let h = c.list_findings-k.ensures.result_after _ (tabled files tables six refl c.requires.calendar_dates_table_value _ c.fill_all.ensures.dates_table_after _ c.requires.counts_value _ c.fill_all.ensures.noted.0 c.fill_all.ensures.noted.1) in record {
       asked_value = outcome_read files tables six refl c.requires.calendar_dates_table_value _ c.fill_all.ensures.dates_table_after c.args.findings.now _ c.args.from c.args.asked c.list_findings-k.result _ h c.answer_of.ensures;
       small = small_findings c.args.from _ c.args.findings.now _ c.list_findings-k.result _ h c.list_findings-k.ensures.total_bound c.answer_of.ensures;

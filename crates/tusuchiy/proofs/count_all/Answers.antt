@@ -1,5 +1,4 @@
 -- `tusuchiy::count_all` meets its contract.
-use Prim.Native.Nat.{◌-◌}
 use mathlib.Core.Path.{◌≡◌, refl, sym, ap, ◌∙◌}
 use mathlib.Core.List.{[], map}
 use native.Mathlib.Omega.{arith}
@@ -14,7 +13,7 @@ loop-i-init c = (omega arith, (refl, refl))
 pub loop-i-preserved : goal.loop-i-preserved
 loop-i-preserved c =
     let files = map (λ x. x.now) c.args.files in
-    let six : length files ≡ 6 = length-map c.args.files (λ x. x.now) ∙ c.well_formed.0.1.0.1 in
+    let six : length files ≡ 6 = omega (arith, length-map c.args.files (λ x. x.now)) in
     let n = c.count_lf.ensures.0 ∙ ap count_lf (sym (get_or-map (λ x. x.now) c.args.files c.loop-i.i _)) in (
       omega arith,
       (
@@ -26,5 +25,5 @@ loop-i-preserved c =
 pub returns : goal.returns
 returns c =
     let files = map (λ x. x.now) c.args.files in
-    let six : length files ≡ 6 = length-map c.args.files (λ x. x.now) ∙ c.well_formed.0.1.0.1 in
+    let six : length files ≡ 6 = omega (arith, length-map c.args.files (λ x. x.now)) in
     fill_all c.loop-i.counts _ c.loop-i.i (omega (arith, c.loop-i.invariant.1.0)) (rw (drop_of_length-le files {i = c.loop-i.i} (omega arith)) at c.loop-i.invariant.1.1)

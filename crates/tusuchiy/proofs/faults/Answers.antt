@@ -1,5 +1,5 @@
 -- `tusuchiy::faults` meets its contract.
-use Prim.Native.Nat.{ℕ, ◌+◌, ◌-◌}
+use Prim.Native.Nat.{ℕ, ◌+◌}
 use mathlib.Core.Path.{◌≡◌, refl, sym, ap, ◌∙◌}
 use mathlib.Core.List.{List, map}
 use mathlib.Core.Bool.{not}
@@ -23,13 +23,13 @@ pub loop-i-preserved : goal.loop-i-preserved
 unfolding file_of empty
 loop-i-preserved c =
     let files = map (λ x. x.now) c.args.files in
-    let six : length files ≡ 6 = length-map c.args.files (λ x. x.now) ∙ c.well_formed.0.1.0.1 in
+    let six : length files ≡ 6 = omega (arith, length-map c.args.files (λ x. x.now)) in
     let y = c.list_faults-k.ensures.by_index files (ap (λ (s : List ℕ). not (empty s)) (sym (get_or-map (λ x. x.now) c.args.files 5 _))) in (
       omega arith,
       (
         omega (arith, c.loop-i.invariant.1.0, c.list_faults-k.ensures.total_bound),
         (
-          omega (arith, c.loop-i.invariant.1.1.0, c.list_faults-k.auto.1.1.1.0),
+          omega (arith, c.loop-i.invariant.1.1.0, c.list_faults-k.auto.out),
           told_next c.args.from files c.loop-i.i _ _ c.loop-i.invariant.1.1.1 (omega arith) _ (y ∙ ap (λ (s : List ℕ). adding quad c.args.from (file_faults files (c.loop-i.i + 1) s) (state c.loop-i.list c.loop-i.k)) (sym (get_or-map (λ x. x.now) c.args.files c.loop-i.i _))),
         ),
       ),
@@ -38,7 +38,7 @@ loop-i-preserved c =
 pub returns : goal.returns
 returns c =
     let files = map (λ x. x.now) c.args.files in
-    let six : length files ≡ 6 = length-map c.args.files (λ x. x.now) ∙ c.well_formed.0.1.0.1 in
+    let six : length files ≡ 6 = omega (arith, length-map c.args.files (λ x. x.now)) in
     let e = told_over c.args.from files c.loop-i.i (state c.loop-i.list c.loop-i.k) _ c.loop-i.invariant.1.1.1 (omega arith) in record {
       result_after = e;
       written_le_total = (told_within c.args.from files _ _ e, omega (arith, c.loop-i.invariant.1.0));
