@@ -1,6 +1,5 @@
 -- `forms::to_point` meets its contract. The loop keeps: what is left gives the same answer.
 use Rattle.forms.proofs.Laws.{point_here, point_turn, point_end}
-use Prim.Native.Nat.{◌-◌}
 use native.Mathlib.Omega.{arith}
 use Rattle.forms.proofs.to_point.Goals as goal
 
