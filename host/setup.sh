@@ -7,7 +7,7 @@ log=$top/host/target/setup.log
 sources=("$top"/docs/{RULES.md,openapi.json} "$top/.cargo/config.toml" "$top"/host/{,tusuchiy/}Cargo.toml "$top"/host/tusuchiy/{build.rs,src})
 if [ -z "${TUSUCHIY_ARCHIVE_DIR:-}" ]; then
     unset TUSUCHIY_ARCHIVE_DIR
-    archive=$top/target/staticlib/libtusuchiy_c.a
+    archive=$top/crates/tusuchiy_c/out/libtusuchiy_c.a
     sources+=("$top/crates" "$top/crates.txt")
 else
     # Cargo runs in another folder.
@@ -22,9 +22,9 @@ fail() {
     exit 3
 }
 
-# host_newer THAN PATHS: is one of these files, or a file in one of these folders, newer than THAN?
+# host_newer THAN PATHS: is one of these files, or a file in one of these folders, newer than THAN? What rt makes in a crate's out/ is no source.
 host_newer() {
-    [ -n "$(find "${@:2}" -newer "$1" -type f -print -quit 2>/dev/null)" ]
+    [ -n "$(find "${@:2}" -type d -name out -prune -o -newer "$1" -type f -print -quit 2>/dev/null)" ]
 }
 
 # step WORDS COMMAND: one line on standard error, with the time it took; what the command says goes to the log.
@@ -125,9 +125,9 @@ can_prove() {
 # host_archive: proves the check and writes the archive.
 host_archive() {
     rm -f "$archive"
-    # rt staticlib proves crates one by one, rt check as many at a time as there are processors.
-    step "proving the check" in_folder "$top" rt check tusuchiy_c || exit 3
-    step "writing its archive" in_folder "$top" rt staticlib tusuchiy_c || exit 3
+    # rt lib takes what rt check keeps.
+    step "proving the check" in_folder "$top/crates/tusuchiy_c" rt check || exit 3
+    step "writing its archive" in_folder "$top/crates/tusuchiy_c" rt lib || exit 3
     [ -f "$archive" ] || fail "rt wrote no $archive; what it said stands in $log"
     touch -r "$begun" "$archive"
 }

@@ -78,6 +78,9 @@ impl Desk<'_> {
             let Some(path) = self.feeds.get(number) else { return };
             let done = guarded(|| work(path));
             let mut turn = self.turn(number);
+            if number + 1 == self.feeds.len() {
+                last_words();
+            }
             let status = guarded(|| done.and_then(print));
             self.worst.fetch_max(status.unwrap_or_else(|message| crate::complain(&message)), Ordering::Relaxed);
             *turn += 1;
@@ -133,6 +136,13 @@ pub fn status(report: &Report) -> u8 {
 pub fn guarded<Done>(work: impl FnOnce() -> Result<Done, String>) -> Result<Done, String> {
     let fault = |_| Err("a fault of the command itself, not of the feed".to_string());
     panic::catch_unwind(AssertUnwindSafe(work)).unwrap_or_else(fault)
+}
+
+/// What is printed from now on is the last: where it goes to a terminal, no line of progress comes behind it, however long memory takes to be given back.
+pub fn last_words() {
+    if io::stdout().is_terminal() {
+        progress::over();
+    }
 }
 
 /// How much is written at a time: a list may have gigabytes.

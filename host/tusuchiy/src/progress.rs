@@ -144,6 +144,11 @@ impl Drop for Hidden {
     }
 }
 
+/// Takes the line away for good: the last words are said.
+pub fn over() {
+    mem::forget(hidden());
+}
+
 fn hide(by: impl FnOnce(usize) -> usize) {
     if let Some(line) = line().as_mut() {
         line.hidden = by(line.hidden);

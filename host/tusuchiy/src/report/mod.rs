@@ -54,6 +54,7 @@ pub fn run(asked: &Asked) -> Result<u8, String> {
         (Some(path), Some((folder, name))) => {
             to_file(&folder, name, &feed, &report).map_err(|error| cannot(path, error))?;
             let verdict = text::verdict(&report, style::of_output(When::Auto, true));
+            many::last_words();
             many::write(|out| writeln!(out, "{verdict}"))?;
         }
         _ => many::write(|out| write(out, &feed, &report))?,
