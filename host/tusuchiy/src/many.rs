@@ -138,7 +138,7 @@ pub fn guarded<Done>(work: impl FnOnce() -> Result<Done, String>) -> Result<Done
     panic::catch_unwind(AssertUnwindSafe(work)).unwrap_or_else(fault)
 }
 
-/// What is printed from now on is the last: where it goes to a terminal, no line of progress comes behind it, however long memory takes to be given back.
+/// What is printed from now on is the last: where it goes to a terminal no line of progress comes behind it, however long it takes to give memory back.
 pub fn last_words() {
     if io::stdout().is_terminal() {
         progress::over();

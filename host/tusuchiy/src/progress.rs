@@ -25,7 +25,8 @@ struct Line {
 }
 
 static LINE: Mutex<Option<Line>> = Mutex::new(None);
-static OVER: Condvar = Condvar::new();
+/// A line that stands says something else, or there is none any more.
+static CHANGED: Condvar = Condvar::new();
 
 /// Does somebody look, so that steps are worth their words?
 static WATCHED: AtomicBool = AtomicBool::new(false);
@@ -58,7 +59,7 @@ impl Drop for Watch {
         if let Some(thread) = self.0.take() {
             WATCHED.store(false, Ordering::Relaxed);
             *line() = None;
-            OVER.notify_all();
+            CHANGED.notify_all();
             let _ = thread.join();
         }
     }
@@ -68,7 +69,7 @@ impl Drop for Watch {
 fn draw_all() {
     let (mut shown, mut last) = (line(), String::new());
     while shown.is_some() {
-        shown = OVER.wait_timeout(shown, TICK).unwrap_or_else(PoisonError::into_inner).0;
+        shown = CHANGED.wait_timeout(shown, TICK).unwrap_or_else(PoisonError::into_inner).0;
         if let Some(line) = shown.as_ref().filter(|line| line.hidden == 0) {
             let text = format!("{WIPE}tusuchiy: {}, {} s", line.step, line.since.elapsed().as_secs());
             if !is_drawn() || text != last {
@@ -117,6 +118,10 @@ fn tell(words: impl FnOnce() -> String, many: bool) {
         let same = mem::replace(&mut line.many, many) && many;
         line.since = if same { line.since } else { Instant::now() };
         line.step = words();
+        // A line that stands says it at once: the step may be over by the next tick.
+        if is_drawn() {
+            CHANGED.notify_all();
+        }
     }
 }
 
