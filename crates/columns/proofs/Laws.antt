@@ -11,7 +11,7 @@ use lib.ListN.{length, get_or, take, drop, set, replicate, length-take, length-d
 use lib.Seq.{get_or-drop, get_or-take, drop-drop}
 use borrow.Author.Tests.{eq-eqb, ne_eqb, eqb-true, eqb-false, lt-ltb, le-ltb, ltb-true, ltb-false}
 use Rattle.meaning.specs.declared.Bounds.{Bounds}
-use Rattle.meaning.specs.Lists.{same, some, place, find}
+use Rattle.meaning.specs.Lists.{some, find}
 use Rattle.meaning.specs.Bytes.{bounds, part, value, fields}
 use Rattle.meaning.specs.Columns.{schema, column_of, count_of, places, field_at, cell, row_of}
 use Rattle.meaning.specs.Refusals.{rule9}

@@ -10,7 +10,7 @@ use lib.Dec.{eqb, ltb}
 use lib.ListN.{length, get_or, set, drop, replicate, length-set, get_or-replicate}
 use lib.Seq.{get_or-set_same, get_or-set_other, ext_get_or}
 use borrow.Author.Tests.{eq-eqb, ne_eqb, eqb-true, ltb-true, ltb-false}
-use Rattle.meaning.specs.Lists.{same, place, find, find_again, least}
+use Rattle.meaning.specs.Lists.{same, place, find, find_again}
 use Rattle.meaning.specs.declared.Bounds.{Bounds}
 use Rattle.meaning.specs.Bytes.{bounds, part, value, fields, values_of, values}
 use Rattle.meaning.specs.Columns.{name_of, count_of, places, field_at}

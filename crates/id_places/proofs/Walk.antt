@@ -1,11 +1,11 @@
 -- A walk along the lines of a file that notes where the field in a column of each begins.
-use mathlib.Core.Path.{◌≡◌, refl, sym, ap, ◌∙◌}
+use mathlib.Core.Path.{◌≡◌, ◌∙◌}
 use mathlib.Core.List.{List, []}
-use Prim.Native.Nat.{ℕ, ◌+◌, ◌*◌, ◌-◌, ◌^◌, ◌≤◌, ◌<◌}
+use Prim.Native.Nat.{ℕ, ◌+◌, ◌*◌, ◌^◌, ◌≤◌, ◌<◌}
 use native.Mathlib.Omega.{arith}
 use lib.IntN.{ℤ, pos}
 use lib.ListN.{length, get_or, set, drop}
-use Rattle.meaning.specs.Bytes.{Line, bounds, part, count_lf, lines_from, lines_of}
+use Rattle.meaning.specs.Bytes.{bounds, part, count_lf, lines_from, lines_of}
 use Rattle.meaning.specs.Columns.{field_at}
 use Rattle.meaning.specs.Tables.{id_column}
 use Rattle.meaning.specs.Refusals.{max_bytes}

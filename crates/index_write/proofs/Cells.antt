@@ -1,21 +1,19 @@
 -- Bytes where fields begin, sorted by the fields' values: the cell of one, found by halving, and values that repeat.
-use mathlib.Core.Path.{◌≡◌, refl, sym, ap, ◌∙◌}
+use mathlib.Core.Path.{◌≡◌, refl, sym, ◌∙◌}
 use mathlib.Core.Bool.{Bool, true, false}
 use mathlib.Core.List.{List}
-use Prim.Native.Nat.{ℕ, suc, ◌+◌, ◌*◌, ◌-◌, ◌≤◌, ◌<◌}
+use Prim.Native.Nat.{ℕ, ◌≤◌, ◌<◌}
 use native.Mathlib.Omega.{arith}
 use lib.Dec.{leb, ltb}
 use lib.IntN.{ℤ}
-use lib.ListN.{length}
 use borrow.Author.Tests.{le-leb, leb-true, leb-false, ltb-true, ltb-false}
-use Rattle.meaning.specs.Lists.{same, some}
-use Rattle.meaning.proofs.ListLaws.{both, same_equal, same_self}
+use Rattle.meaning.proofs.ListLaws.{both, same_self}
 use Rattle.ranking.specs.declared.Order.{Order}
 use Rattle.ranking.specs.declared.Order.TheVariants.{Less, Equal, Greater}
 use Rattle.ranking.specs.Ranks.{before, compare, settle, turned}
 use Rattle.ranking.proofs.Laws.{compare_turned, compare_self, compare_equal, less_before}
 use Rattle.ordering.specs.Cells.{cell_at}
-use Rattle.ordering.specs.Ids.{value_on, no_later, in_order, alike, Sorted, Stands, Apart}
+use Rattle.ordering.specs.Ids.{value_on, no_later, in_order, alike, Sorted, Apart}
 use Rattle.ordering.specs.declared.By.TheVariants.{Field}
 
 module _ (s : List ℕ) (t : List ℤ) (w : ℕ) where

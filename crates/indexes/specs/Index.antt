@@ -1,6 +1,5 @@
 -- An index beside the feed: its bytes, and the refusals of its reader and its writer.
 use Rattle.std.specs.Prelude.{ℕ, zero, suc, ◌+◌, ◌*◌, ◌-◌, ◌/◌, ◌%◌, Bool, cond, not, ◌&&◌, ◌||◌, List, [], ◌∷◌, ◌++◌, map, length, get_or, take, ltb, eqb}
-use Rattle.meaning.specs.declared.Refusal.{Refusal}
 use Rattle.meaning.specs.declared.Verdict.{Verdict}
 use Rattle.meaning.specs.declared.Verdict.TheVariants.{Readable, Unreadable}
 use Rattle.meaning.specs.Lists.{ascii, same, some, flat, laid}

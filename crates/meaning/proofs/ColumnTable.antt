@@ -11,7 +11,7 @@ use lib.ListN.{length, get_or, length-map}
 use lib.Dec.{ltb, eqb}
 use borrow.Author.Tests.{ltb-true, ltb-false, le-ltb, not-true}
 use Rattle.meaning.specs.declared.Column.{Column}
-use Rattle.meaning.specs.Lists.{ascii, same, empty, any, place, find, stands}
+use Rattle.meaning.specs.Lists.{ascii, same, empty, any, find, stands}
 use Rattle.meaning.specs.Columns.{Known, Row, any_text, a_time, a_date, a_latitude, a_longitude, a_sequence, up_to1, up_to2, up_to3, a_route_type, an_exception, up_to4, never, all_but_inner, all_but_placeless, always, unknown, stops_columns, routes_columns, calendar_columns, trips_columns, stop_times_columns, calendar_dates_columns, schemas, schema, known_at, name_of, column_of, count_of, places, cell, row_of}
 use Rattle.meaning.specs.declared.Choice.{Choice}
 use Rattle.meaning.specs.declared.Choice.TheVariants.{Picked, NoChoice}

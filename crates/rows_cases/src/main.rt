@@ -1,11 +1,13 @@
 // Writes and reads records and findings at the edges, and compares them with values found by hand.
-use libc::STDOUT_FILENO;
+#![tactic(auto)]
+
 use listing::Sink;
 use meaning::{Bounds, Place, Time};
 use rows::{
     Calendar, DateRow, Dates, RouteRow, Routes, ServiceRow, StopRow, StopTimes, Stops, TimeRow,
     TripRow, Trips,
 };
+use std::io;
 
 // Whether two runs of numbers are equal.
 fn same(a: &[i32], b: &[i32]) -> bool {
@@ -23,12 +25,12 @@ fn same(a: &[i32], b: &[i32]) -> bool {
 }
 
 // One line: the case, and whether it came out as expected.
-fn told(name: &[u8], good: bool) {
-    io::write_all(STDOUT_FILENO, name);
+fn told(rt: &impl Print, name: &[u8], good: bool) -> io::Result<()> {
+    rt.write_all(name)?;
     if good {
-        io::write_all(STDOUT_FILENO, b" good\n");
+        rt.write_all(b" good\n")
     } else {
-        io::write_all(STDOUT_FILENO, b" DIFFERS\n");
+        rt.write_all(b" DIFFERS\n")
     }
 }
 
@@ -42,22 +44,24 @@ fn both(a: bool, b: bool) -> bool {
 
 // The places of a second record's id and of its parent's field wait; then its parent, which goes to its number, and negative coordinates.
 // The first record and what follows stay.
-fn stops() {
+fn stops(rt: &impl Print) -> io::Result<()> {
     let mut t = [7i32; 15];
     let id = Bounds { start: 36, end: 37 };
     let field = Bounds { start: 41, end: 44 };
     rows::cells::put_places(&mut t, 1, Stops::WIDTH, id, 0, field);
     told(
+        rt,
         b"places",
         same(&t, &[7, 7, 7, 7, 7, 7, 7, 36, 37, 0, 41, 44, 0, 0, 7]),
-    );
+    )?;
     let place = Stops::waiting_at(&t, StopRow(1));
-    told(b"waiting", both(place.start == 41, place.end == 44));
+    told(rt, b"waiting", both(place.start == 41, place.end == 44))?;
     Stops::settle(&mut t, StopRow(1), StopRow(3));
     told(
+        rt,
         b"settled",
         same(&t, &[7, 7, 7, 7, 7, 7, 7, 36, 37, 0, 41, 44, 0, 3, 7]),
-    );
+    )?;
     Stops::put(&mut t, StopRow(1), id, -338674999, -1800000000, 2, 1);
     let want = [
         7,
@@ -76,11 +80,11 @@ fn stops() {
         1,
         7,
     ];
-    told(b"stops", same(&t, &want));
+    told(rt, b"stops", same(&t, &want))
 }
 
 // Record 0 and a record of the largest number.
-fn routes() {
+fn routes(rt: &impl Print) -> io::Result<()> {
     let mut t = [7i32; 7];
     let id = Bounds {
         start: 39,
@@ -88,26 +92,30 @@ fn routes() {
     };
     rows::cells::zero_record(&mut t, Routes::WIDTH);
     Routes::put(&mut t, RouteRow(1), id, 12);
-    told(b"routes", same(&t, &[0, 0, 0, 39, 2147483647, 12, 7]));
+    told(rt, b"routes", same(&t, &[0, 0, 0, 39, 2147483647, 12, 7]))
 }
 
 // The first and the last date.
-fn calendar() {
+fn calendar(rt: &impl Print) -> io::Result<()> {
     let mut t = [7i32; 6];
     let id = Bounds { start: 0, end: 0 };
     Calendar::put(&mut t, ServiceRow(0), id, 127, 10101, 99991231);
-    told(b"calendar", same(&t, &[0, 0, 127, 10101, 99991231, 7]));
+    told(rt, b"calendar", same(&t, &[0, 0, 127, 10101, 99991231, 7]))
 }
 
 // No direction. The place of the service's field waits, with zeros behind it; the eighth number is settled, and stays when the others are written.
-fn trips() {
+fn trips(rt: &impl Print) -> io::Result<()> {
     let mut t = [7i32; 9];
     let id = Bounds { start: 5, end: 6 };
     let field = Bounds { start: 7, end: 10 };
     rows::cells::put_places(&mut t, 0, Trips::WIDTH, id, 0, field);
-    told(b"a service waits", same(&t, &[5, 6, 0, 7, 10, 0, 0, 0, 7]));
+    told(
+        rt,
+        b"a service waits",
+        same(&t, &[5, 6, 0, 7, 10, 0, 0, 0, 7]),
+    )?;
     let place = Trips::waiting_at(&t, TripRow(0));
-    told(b"its place", both(place.start == 7, place.end == 10));
+    told(rt, b"its place", both(place.start == 7, place.end == 10))?;
     Trips::settle(&mut t, TripRow(0), DateRow(65535));
     Trips::put(
         &mut t,
@@ -119,33 +127,41 @@ fn trips() {
         2,
         1,
     );
-    told(b"trips", same(&t, &[5, 6, 0, 65535, -1, 2, 1, 65535, 7]));
     told(
+        rt,
+        b"trips",
+        same(&t, &[5, 6, 0, 65535, -1, 2, 1, 65535, 7]),
+    )?;
+    told(
+        rt,
         b"a trip's dates",
         Trips::dated_at(&t, TripRow(0)).0 == 65535,
-    );
+    )
 }
 
 // A service on the last date: its key while it is ordered, then its record. Number 3 is the order's cell until then.
-fn dates() {
+fn dates(rt: &impl Print) -> io::Result<()> {
     let mut t = [7i32; 9];
     let id = Bounds { start: 31, end: 34 };
     let none = Bounds { start: 0, end: 0 };
     rows::cells::put_places(&mut t, 1, Dates::WIDTH, id, 99991231, none);
     told(
+        rt,
         b"a date waits",
         same(&t, &[7, 7, 7, 7, 31, 34, 99991231, 0, 7]),
-    );
+    )?;
     Dates::put(&mut t, DateRow(1), id, 99991231, 2);
     told(
+        rt,
         b"calendar_dates",
         same(&t, &[7, 7, 7, 7, 31, 34, 99991231, 2, 7]),
-    );
+    )?;
     let date = Dates::date_at(&t, DateRow(1)) == 99991231;
     told(
+        rt,
         b"date and type",
         both(date, Dates::kind_at(&t, DateRow(1)) == 2),
-    );
+    )
 }
 
 // The order's cell of record 1 of stop_times is used.
@@ -156,7 +172,7 @@ fn order(t: &mut [i32]) {
 }
 
 // A record that waits, with the largest stop and trip_id, no trip and no timepoint; settled, whatever stands in the order's cell. The record before and what follows stay.
-fn waiting_times() {
+fn waiting_times(rt: &impl Print) -> io::Result<()> {
     let mut t = [7i32; 17];
     let field = Bounds {
         start: 41,
@@ -178,17 +194,17 @@ fn waiting_times() {
     let waits = [
         7, 7, 7, 7, 7, 7, 7, 7, 0, 2147483636, 999999999, -1, 359999, 41, 2147483647, 0, 7,
     ];
-    told(b"stop_times wait", same(&t, &waits));
+    told(rt, b"stop_times wait", same(&t, &waits))?;
     order(&mut t);
     StopTimes::settle(&mut t, TimeRow(1));
     let settled = [
         7, 7, 7, 7, 7, 7, 7, 7, 0, 33554431, 999999999, -1, 359999, 3, 1, -1, 7,
     ];
-    told(b"stop_times settled", same(&t, &settled));
+    told(rt, b"stop_times settled", same(&t, &settled))
 }
 
 // Timepoints 0 and 1, in two records.
-fn timepoints() {
+fn timepoints(rt: &impl Print) -> io::Result<()> {
     let mut t = [7i32; 16];
     let field = Bounds { start: 0, end: 1 };
     StopTimes::put_waiting(
@@ -220,33 +236,39 @@ fn timepoints() {
     let waits = [
         1, 154, 4, 28800, -1, 0, 1, 0, 2147483647, 13, 0, 0, 0, 0, 1, 0,
     ];
-    told(b"timepoints wait", same(&t, &waits));
+    told(rt, b"timepoints wait", same(&t, &waits))?;
     StopTimes::settle(&mut t, TimeRow(0));
     StopTimes::settle(&mut t, TimeRow(1));
     let settled = [1, 2, 4, 28800, -1, 1, 2, 1, 2147483647, 0, 0, 0, 0, 0, 3, 0];
-    told(b"timepoints settled", same(&t, &settled));
+    told(rt, b"timepoints settled", same(&t, &settled))
 }
 
 // A negative number is one past every file and every record.
-fn negative() {
+fn negative(rt: &impl Print) -> io::Result<()> {
     let t = [36, -1, -338674999, 1800000000, 2, -2147483648, 1];
     let id = Stops::id_at(&t, StopRow(0));
-    told(b"id", both(id.start == 36, id.end == 4294967295));
-    told(b"parent", Stops::parent_at(&t, StopRow(0)).0 == 4294967295);
+    told(rt, b"id", both(id.start == 36, id.end == 4294967295))?;
+    told(
+        rt,
+        b"parent",
+        Stops::parent_at(&t, StopRow(0)).0 == 4294967295,
+    )
 }
 
 // What lies outside the table is 0, whatever the row; a record that is cut off is read as far as it goes.
-fn outside() {
+fn outside(rt: &impl Print) -> io::Result<()> {
     let t = [0, 0, 0, 0, 0, 0, 0, 50, 51, 9];
     let id = Stops::id_at(&t, StopRow(1));
     told(
+        rt,
         b"cut",
         both(id.end == 51, Stops::kind_at(&t, StopRow(1)) == 0),
-    );
+    )?;
     told(
+        rt,
         b"far",
         Stops::kind_at(&t, StopRow(18446744073709551615)) == 0,
-    );
+    )
 }
 
 // Whether a time is so many seconds.
@@ -268,28 +290,31 @@ fn untimed(x: Time) -> bool {
 }
 
 // Times: 0 is midnight, -1 is none.
-fn times() {
+fn times(rt: &impl Print) -> io::Result<()> {
     let t = [9, 8, 999999999, -1, 0, 0, 0, 1];
     let none = untimed(StopTimes::arrival_at(&t, TimeRow(0)));
     told(
+        rt,
         b"times",
         both(none, lasts(StopTimes::departure_at(&t, TimeRow(0)), 0)),
-    );
+    )?;
     let sequence = StopTimes::sequence_at(&t, TimeRow(0)) == 999999999;
     told(
+        rt,
         b"sequence",
         both(sequence, StopTimes::timepoint_at(&t, TimeRow(0)) == 1),
-    );
+    )
 }
 
 // Rows of the two kinds.
-fn references() {
+fn references(rt: &impl Print) -> io::Result<()> {
     let t = [0, 0, 0, 0, 0, 0, 0, 0, 4, 5];
     let trip = StopTimes::trip_at(&t, TimeRow(1)).0 == 4;
     told(
+        rt,
         b"references",
         both(trip, StopTimes::stop_at(&t, TimeRow(1)).0 == 5),
-    );
+    )
 }
 
 // Three findings among five claims.
@@ -313,101 +338,119 @@ fn noted(out: &mut [i32], p: Place) -> Sink {
 }
 
 // A call with a lent list, from a starting place: the list, the written and the total.
-fn page(name: &[u8], t: &mut [i32], p: Place, want: &[i32], written: usize) {
+fn page(
+    rt: &impl Print,
+    name: &[u8],
+    t: &mut [i32],
+    p: Place,
+    want: &[i32],
+    written: usize,
+) -> io::Result<()> {
     let k = noted(t, p);
     told(
+        rt,
         name,
         both(same(t, want), both(k.written == written, k.total == 3)),
-    );
+    )
 }
 
 // Lists too short for a finding.
-fn no_room() {
+fn no_room(rt: &impl Print) -> io::Result<()> {
     let p = Place {
         file: 0,
         line: 0,
         rule: 0,
     };
     let mut t0 = [9i32; 0];
-    page(b"none in 0", &mut t0, p, &[9i32; 0], 0);
+    page(rt, b"none in 0", &mut t0, p, &[9i32; 0], 0)?;
     let mut t1 = [9i32; 1];
-    page(b"none in 1", &mut t1, p, &[9], 0);
+    page(rt, b"none in 1", &mut t1, p, &[9], 0)?;
     let mut t2 = [9i32; 2];
-    page(b"none in 2", &mut t2, p, &[9, 9], 0);
+    page(rt, b"none in 2", &mut t2, p, &[9, 9], 0)
 }
 
 // Lists for one, two and more, with a rest that stays.
-fn rooms() {
+fn rooms(rt: &impl Print) -> io::Result<()> {
     let p = Place {
         file: 0,
         line: 0,
         rule: 0,
     };
     let mut t4 = [9i32; 4];
-    page(b"one in 4", &mut t4, p, &[1, 2, 20, 9], 1);
+    page(rt, b"one in 4", &mut t4, p, &[1, 2, 20, 9], 1)?;
     let mut t8 = [9i32; 8];
-    page(b"two in 8", &mut t8, p, &[1, 2, 20, 4, 3, 21, 9, 9], 2);
+    page(rt, b"two in 8", &mut t8, p, &[1, 2, 20, 4, 3, 21, 9, 9], 2)?;
     let mut t13 = [9i32; 13];
     page(
+        rt,
         b"all in 13",
         &mut t13,
         p,
         &[1, 2, 20, 4, 3, 21, 4, 3, 30, 9, 9, 9, 9],
         3,
-    );
+    )
 }
 
 // A call from a starting place, into a list for two.
-fn from(name: &[u8], file: i32, line: i32, rule: i32, want: &[i32], written: usize) {
+fn from(
+    rt: &impl Print,
+    name: &[u8],
+    file: i32,
+    line: i32,
+    rule: i32,
+    want: &[i32],
+    written: usize,
+) -> io::Result<()> {
     let mut t = [9i32; 7];
-    page(name, &mut t, Place { file, line, rule }, want, written);
+    page(rt, name, &mut t, Place { file, line, rule }, want, written)
 }
 
 // Starting places before the findings, at one and between two.
-fn starts() {
-    from(b"negative", -1, 99, 99, &[1, 2, 20, 4, 3, 21, 9], 2);
-    from(b"at the first", 1, 2, 20, &[4, 3, 21, 4, 3, 30, 9], 2);
+fn starts(rt: &impl Print) -> io::Result<()> {
+    from(rt, b"negative", -1, 99, 99, &[1, 2, 20, 4, 3, 21, 9], 2)?;
+    from(rt, b"at the first", 1, 2, 20, &[4, 3, 21, 4, 3, 30, 9], 2)?;
     from(
+        rt,
         b"lowest line",
         4,
         -2147483648,
         99,
         &[4, 3, 21, 4, 3, 30, 9],
         2,
-    );
-    from(b"between rules", 4, 3, 22, &[4, 3, 30, 9, 9, 9, 9], 1);
+    )?;
+    from(rt, b"between rules", 4, 3, 22, &[4, 3, 30, 9, 9, 9, 9], 1)
 }
 
 // Starting places at the last finding and beyond it.
-fn ends() {
-    from(b"at the last", 4, 3, 30, &[9, 9, 9, 9, 9, 9, 9], 0);
-    from(b"beyond", 2147483647, -1, -1, &[9, 9, 9, 9, 9, 9, 9], 0);
+fn ends(rt: &impl Print) -> io::Result<()> {
+    from(rt, b"at the last", 4, 3, 30, &[9, 9, 9, 9, 9, 9, 9], 0)?;
+    from(rt, b"beyond", 2147483647, -1, -1, &[9, 9, 9, 9, 9, 9, 9], 0)
 }
 
 // All tables.
-fn tables() {
-    stops();
-    routes();
-    calendar();
-    trips();
-    waiting_times();
-    timepoints();
-    dates();
+fn tables(rt: &impl Print) -> io::Result<()> {
+    stops(rt)?;
+    routes(rt)?;
+    calendar(rt)?;
+    trips(rt)?;
+    waiting_times(rt)?;
+    timepoints(rt)?;
+    dates(rt)
 }
 
 // All that is read back.
-fn cells() {
-    negative();
-    outside();
-    times();
-    references();
+fn cells(rt: &impl Print) -> io::Result<()> {
+    negative(rt)?;
+    outside(rt)?;
+    times(rt)?;
+    references(rt)
 }
 
-fn main() {
-    tables();
-    cells();
-    no_room();
-    rooms();
-    starts();
-    ends();
+fn main(rt: HostRuntime) -> io::Result<()> {
+    tables(&rt)?;
+    cells(&rt)?;
+    no_room(&rt)?;
+    rooms(&rt)?;
+    starts(&rt)?;
+    ends(&rt)
 }

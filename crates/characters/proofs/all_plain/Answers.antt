@@ -1,7 +1,6 @@
 -- `characters::all_plain` meets its contract.
 use Rattle.characters.proofs.Laws.{plain_turn, plain_all}
 use mathlib.Core.Path.{refl}
-use Prim.Native.Nat.{◌-◌}
 use native.Mathlib.Omega.{arith}
 use Rattle.characters.proofs.all_plain.Goals as goal
 

@@ -2,7 +2,6 @@
 use Rattle.text.proofs.Lines.{first_here, first_next, first_over}
 use Rattle.characters.specs.States.{is_high}
 use mathlib.Core.Path.{refl}
-use Prim.Native.Nat.{◌-◌}
 use native.Mathlib.Omega.{arith}
 use borrow.Author.Tests.{le-leb, lt-leb}
 use Rattle.characters.proofs.ascii_end.Goals as goal

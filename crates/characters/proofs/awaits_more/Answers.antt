@@ -2,7 +2,6 @@
 use Rattle.characters.proofs.Laws.{started, passed, turned, ended}
 use Rattle.characters.specs.States.{next_states, class_letters}
 use mathlib.Core.Path.{refl}
-use Prim.Native.Nat.{◌-◌}
 use native.Mathlib.Omega.{arith}
 use Rattle.characters.proofs.awaits_more.Goals as goal
 

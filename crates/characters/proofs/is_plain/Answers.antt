@@ -1,6 +1,5 @@
 -- `characters::is_plain` meets its contract.
 use Rattle.characters.proofs.Laws.{plain_low, plain_high, plain_next, plain_over}
-use Prim.Native.Nat.{◌-◌}
 use native.Mathlib.Omega.{arith}
 use Rattle.characters.proofs.is_plain.Goals as goal
 

@@ -1,7 +1,7 @@
 -- `characters::past_plain` meets its contract.
 use Rattle.characters.proofs.Laws.{plain_block}
 use mathlib.Core.Path.{refl}
-use Prim.Native.Nat.{◌-◌, ◌+◌}
+use Prim.Native.Nat.{◌+◌}
 use native.Mathlib.Omega.{arith}
 use Rattle.characters.proofs.past_plain.Goals as goal
 

@@ -3,7 +3,6 @@ use Rattle.columns.proofs.Laws.{field_here, field_next, fields_over, fields_firs
 use Rattle.text.proofs.Fields.{field_found, field_none}
 use Rattle.meaning.specs.declared.Bounds.{Bounds}
 use mathlib.Core.Path.{sym, ap, ◌∙◌}
-use Prim.Native.Nat.{◌-◌}
 use native.Mathlib.Omega.{arith}
 use Rattle.columns.proofs.field_start.Goals as goal
 

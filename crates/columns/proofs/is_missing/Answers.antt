@@ -1,5 +1,4 @@
 -- `columns::is_missing` meets its contract.
-use Prim.Native.Nat.{◌-◌}
 use Rattle.columns.proofs.is_missing.Goals as goal
 
 pub returns-then-c : goal.returns-then-c

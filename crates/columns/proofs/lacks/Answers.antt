@@ -3,7 +3,6 @@ use Rattle.columns.proofs.Laws.{some_over, some_here, some_next}
 use Rattle.columns.specs.Columns.{lacking}
 use native.Mathlib.Nat.{sub-zero}
 use mathlib.Core.Path.{sym, ◌∙◌}
-use Prim.Native.Nat.{◌-◌}
 use native.Mathlib.Omega.{arith}
 use Rattle.columns.proofs.lacks.Goals as goal
 

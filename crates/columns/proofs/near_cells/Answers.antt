@@ -2,7 +2,6 @@
 use Rattle.columns.proofs.Laws.{tab_none_yet, tab_more, tab_map}
 use Rattle.columns.specs.Columns.{field_by}
 use mathlib.Core.Path.{◌≡◌, ap}
-use Prim.Native.Nat.{◌-◌}
 use native.Mathlib.Omega.{arith}
 use lib.ListN.{length}
 use Rattle.meaning.specs.declared.Bounds.{Bounds}
@@ -27,7 +26,7 @@ pub returns : goal.returns
 returns c =
     let a = c.args in
     let i = c.loop-k.invariant in
-    let w : length a.t3 ≡ 10 = omega arith in (
-      tab_map (λ p. (field_by a.count a.starts.now p).start) a.t3 _ 10 c.loop-k-test.false i.0 w _ i.1,
-      tab_map (λ p. (field_by a.count a.starts.now p).end) a.t3 _ 10 c.loop-k-test.false i.0 w _ i.2,
+    let w : length a.at ≡ 10 = omega arith in (
+      tab_map (λ p. (field_by a.count a.starts.now p).start) a.at _ 10 c.loop-k-test.false i.0 w _ i.1,
+      tab_map (λ p. (field_by a.count a.starts.now p).end) a.at _ 10 c.loop-k-test.false i.0 w _ i.2,
     )

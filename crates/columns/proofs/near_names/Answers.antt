@@ -3,7 +3,6 @@ use Rattle.columns.proofs.Standings.{near_first, near_next, near_last}
 use Rattle.columns.proofs.Laws.{by_line_lem, inside_by, past_some}
 use Rattle.meaning.specs.Bytes.{part}
 use mathlib.Core.Path.{◌∙◌}
-use Prim.Native.Nat.{◌-◌}
 use native.Mathlib.Omega.{arith}
 use Rattle.columns.proofs.near_names.Goals as goal
 

@@ -1,11 +1,10 @@
 -- `columns::note_field` meets its contract.
 use Rattle.columns.proofs.Laws.{note_yes, note_no}
 use Rattle.columns.specs.Columns.{noted}
-use mathlib.Core.Logic.{⊎_elim}
 use mathlib.Core.Path.{◌≡◌, refl}
-use Prim.Native.Nat.{◌-◌}
 use native.Mathlib.Omega.{arith}
 use Rattle.columns.proofs.note_field.Goals as goal
+use Rattle.columns.proofs.note_field.Goals.{then-at-k, else-at-k}
 
 pub loop-k-init : goal.loop-k-init
 unfolding noted
@@ -14,10 +13,10 @@ loop-k-init c = (omega arith, (refl, refl))
 pub loop-k-preserved : goal.loop-k-preserved
 loop-k-preserved c =
     let i = c.loop-k.invariant.1 in
-    ⊎_elim
-    (λ w. (omega arith, (rw w.1 (note_yes _ _ _ _ (omega arith) _ _ i.0 w.0.taken), rw w.2 (note_yes _ _ _ _ (omega arith) _ _ i.1 w.0.taken))))
-    (λ w. (omega arith, (rw w.1 (note_no _ _ _ _ (omega arith) _ _ i.0 w.0.left), rw w.2 (note_no _ _ _ _ (omega arith) _ _ i.1 w.0.left))))
-    c.if-at-k.branch
+    elim c.if-at-k.branch [
+      | then-at-k w ↦ (omega arith, (rw w.start-is (note_yes _ _ _ _ (omega arith) _ _ i.0 w.if-at-k.true), rw w.end-is (note_yes _ _ _ _ (omega arith) _ _ i.1 w.if-at-k.true)))
+      | else-at-k w ↦ (omega arith, (rw w.start-is (note_no _ _ _ _ (omega arith) _ _ i.0 w.if-at-k.false), rw w.end-is (note_no _ _ _ _ (omega arith) _ _ i.1 w.if-at-k.false)))
+    ]
 
 pub returns : goal.returns
 returns c =

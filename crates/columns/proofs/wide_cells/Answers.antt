@@ -3,7 +3,7 @@ use Rattle.columns.proofs.Laws.{seen_first, seen_turn, seen_last, field_here, fi
 use Rattle.columns.specs.Columns.{starts_of, ends_of}
 use Rattle.text.proofs.Fields.{field_found, field_none}
 use mathlib.Core.Path.{◌≡◌, refl, sym, ◌∙◌}
-use Prim.Native.Nat.{◌≤◌, ◌-◌}
+use Prim.Native.Nat.{◌≤◌}
 use native.Mathlib.Omega.{arith}
 use lib.ListN.{length}
 use Rattle.columns.proofs.wide_cells.Goals as goal
@@ -33,8 +33,8 @@ loop-start-preserved c =
       omega arith,
       omega arith,
       field_next _ _ _ i.1 i.3 _ _ _ s,
-      c.note_field-cells.ensures.0 ∙ rw i.4 (seen_turn (λ c. c.start-1) _ _ _ 10 _ w (rw h)),
-      c.note_field-cells.ensures.1 ∙ rw i.5 (seen_turn (λ c. c.end) _ _ _ 10 _ w (rw h)),
+      c.note_field-cells.ensures.0 ∙ rw i.4 (seen_turn (λ b. b.start) _ _ _ 10 _ w (rw h)),
+      c.note_field-cells.ensures.1 ∙ rw i.5 (seen_turn (λ b. b.end) _ _ _ 10 _ w (rw h)),
     )
 
 pub returns-in-Done : goal.returns-in-Done
@@ -42,4 +42,4 @@ unfolding starts_of ends_of
 returns-in-Done c =
     let i = c.loop-start.invariant in
     let o = fields_over _ _ _ i.1 i.3 (field_none _ _ (sym c.next.ensures ∙ c.in-Done.is)) in
-    (i.4 ∙ seen_last (λ c. c.start-1) refl _ _ _ o, i.5 ∙ seen_last (λ c. c.end) refl _ _ _ o)
+    (i.4 ∙ seen_last (λ b. b.start) refl _ _ _ o, i.5 ∙ seen_last (λ b. b.end) refl _ _ _ o)

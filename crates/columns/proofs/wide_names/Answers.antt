@@ -3,7 +3,6 @@ use Rattle.columns.proofs.Standings.{walk_first, walk_next, walk_last}
 use Rattle.text.proofs.Fields.{field_found, values_none}
 use Rattle.meaning.specs.Bytes.{part}
 use mathlib.Core.Path.{sym, ◌∙◌}
-use Prim.Native.Nat.{◌-◌}
 use native.Mathlib.Omega.{arith}
 use Rattle.columns.proofs.wide_names.Goals as goal
 

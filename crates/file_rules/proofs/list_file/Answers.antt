@@ -1,6 +1,5 @@
 -- `file_rules::list_file` meets its contract. The loop's invariant: what is left of the findings brings the list to what all of them are to bring it to.
 use mathlib.Core.Path.{refl}
-use Prim.Native.Nat.{◌-◌}
 use native.Mathlib.Omega.{arith}
 use borrow.Author.Rules.{rules}
 use Rattle.meaning.specs.declared.Profile.TheVariants.{Boards}

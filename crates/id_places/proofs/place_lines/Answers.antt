@@ -4,7 +4,7 @@ use Rattle.text.proofs.Lines.{line_found, line_none}
 use Rattle.text.proofs.Walk.{line_next}
 use Rattle.id_places.proofs.Walk.{noted_first, turn_inside, turn_fits, turn_noted, turn_past}
 use mathlib.Core.Path.{refl, sym, ◌∙◌}
-use Prim.Native.Nat.{◌+◌, ◌*◌, ◌≤◌, ◌-◌}
+use Prim.Native.Nat.{◌+◌, ◌*◌, ◌≤◌}
 use native.Mathlib.Omega.{arith}
 use lib.ListN.{length}
 use Rattle.id_places.proofs.place_lines.Goals as goal

@@ -3,7 +3,6 @@ use Rattle.index_check.proofs.Laws.{entry_fits}
 use Rattle.columns.proofs.Laws.{some_over, some_here, some_next}
 use Rattle.indexes.specs.Index.{rule43}
 use mathlib.Core.Path.{sym, ◌∙◌}
-use Prim.Native.Nat.{◌-◌}
 use native.Mathlib.Numerals.{unary_clauses}
 use Rattle.index_check.proofs.has_stray.Goals as goal
 

@@ -2,7 +2,7 @@
 use Rattle.columns.proofs.Laws.{some_over, some_here, some_next}
 use Rattle.ordering.proofs.Laws.{room_less}
 use mathlib.Core.Path.{refl, sym, ◌∙◌}
-use Prim.Native.Nat.{◌+◌, ◌-◌}
+use Prim.Native.Nat.{◌+◌}
 use native.Mathlib.Omega.{arith}
 use Rattle.index_write.proofs.has_repeat.Goals as goal
 

@@ -6,7 +6,7 @@ use Rattle.id_places.proofs.Walk.{turn_inside, turn_fits, turn_past}
 use Rattle.index_write.proofs.Bytes.{within_self, within_trans}
 use Rattle.index_write.proofs.Entries.{start_is, entered_turn, entered_none}
 use mathlib.Core.Path.{◌≡◌, sym, ◌∙◌}
-use Prim.Native.Nat.{◌+◌, ◌≤◌, ◌-◌}
+use Prim.Native.Nat.{◌+◌, ◌≤◌}
 use native.Mathlib.Omega.{arith}
 use Rattle.index_write.proofs.put_entries.Goals as goal
 

@@ -1,7 +1,6 @@
 -- `index_write::put_start` meets its contract.
 use Rattle.index_write.proofs.Bytes.{copy_turn, copy_end}
 use mathlib.Core.Path.{◌≡◌, refl}
-use Prim.Native.Nat.{◌-◌}
 use lib.ListN.{length-set}
 use native.Mathlib.Omega.{arith}
 use Rattle.index_write.proofs.put_start.Goals as goal

@@ -1,6 +1,5 @@
 -- `marks::mark_if` meets its contract.
 use Rattle.marks.proofs.Tests.{marked_yes, marked_no}
-use Prim.Native.Nat.{◌-◌}
 use Rattle.marks.proofs.mark_if.Goals as goal
 
 pub returns-then-p : goal.returns-then-p

@@ -1,6 +1,5 @@
 -- `memo::first_record` meets its contract.
 use Rattle.memo.proofs.Laws.{hit_first, ready_set, found_own}
-use Prim.Native.Nat.{◌-◌}
 use Rattle.memo.proofs.first_record.Goals as goal
 
 pub returns-then-is_hit : goal.returns-then-is_hit

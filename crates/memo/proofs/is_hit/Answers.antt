@@ -3,7 +3,6 @@ use Rattle.memo.proofs.Laws.{hit_is}
 use Rattle.meaning.proofs.ListLaws.{both}
 use mathlib.Core.Path.{refl}
 use mathlib.Core.Bool.{false}
-use Prim.Native.Nat.{◌-◌}
 use Rattle.memo.proofs.is_hit.Goals as goal
 
 pub returns-then-r-eq0 : goal.returns-then-r-eq0

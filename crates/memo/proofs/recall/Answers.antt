@@ -1,7 +1,6 @@
 -- `memo::recall` meets its contract.
 use lib.ListN.{get_or-eq_default}
 use mathlib.Core.Path.{refl, sym}
-use Prim.Native.Nat.{◌-◌}
 use native.Mathlib.Omega.{arith}
 use Rattle.memo.proofs.recall.Goals as goal
 

@@ -1,7 +1,6 @@
 -- `memo::remember` meets its contract.
 use lib.Seq.{set_out}
 use mathlib.Core.Path.{sym}
-use Prim.Native.Nat.{◌-◌}
 use Rattle.memo.proofs.remember.Goals as goal
 
 pub returns-else-h-memo : goal.returns-else-h-memo

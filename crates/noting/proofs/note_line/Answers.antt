@@ -1,5 +1,4 @@
 -- `noting::note_line` meets its contract. The loop's invariant: the first i rules are noted.
-use Prim.Native.Nat.{◌-◌}
 use mathlib.Core.Path.{◌≡◌}
 use native.Mathlib.Omega.{arith}
 use borrow.Author.Rules.{rules}

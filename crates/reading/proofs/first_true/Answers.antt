@@ -1,7 +1,6 @@
 -- `reading::first_true` meets its contract. The loop keeps: what is left gives the same answer.
 use Rattle.reading.proofs.Wholes.{mark_here, mark_next, mark_none}
 use mathlib.Core.Path.{refl}
-use Prim.Native.Nat.{◌-◌}
 use native.Mathlib.Omega.{arith}
 use Rattle.reading.proofs.first_true.Goals as goal
 

@@ -1,15 +1,10 @@
 -- `reading::is_of_form` meets its contract.
-use Rattle.reading.proofs.Values.{past}
 use Rattle.meaning.specs.Forms.{shape, shapes}
-use Prim.Native.Nat.{zero-le}
+use native.Mathlib.Omega.{arith}
 use Rattle.reading.proofs.is_of_form.Goals as goal
 
 pub is_of_late_form-requires : goal.is_of_late_form-requires
-is_of_late_form-requires c =
-    let r = c.in_default.rest in
-    let n = c.args.form in
-    let h = past n 2 (past n 1 (past n 0 zero-le r.0.0.0.0.1) r.0.0.0.1) r.0.0.1 in
-    past n 4 (past n 3 h r.0.1) r.1
+is_of_late_form-requires c = omega arith
 
 pub returns-in-0 : goal.returns-in-0
 unfolding shape shapes

@@ -1,6 +1,7 @@
 -- `reading::is_of_late_form` meets its contract.
-use Rattle.reading.proofs.Values.{past, no_form}
+use Rattle.reading.proofs.Values.{no_form}
 use Rattle.meaning.specs.Forms.{shape, shapes}
+use native.Mathlib.Omega.{arith}
 use Rattle.reading.proofs.is_of_late_form.Goals as goal
 
 pub returns-in-5 : goal.returns-in-5
@@ -32,8 +33,4 @@ unfolding shape shapes
 returns-in-11 c = rw c.in-11.is c.is_choice-in-11.ensures
 
 pub returns-in_default : goal.returns-in_default
-returns-in_default c =
-    let r = c.in_default.rest in
-    let n = c.args.form in
-    let h = past n 7 (past n 6 (past n 5 c.requires r.0.0.0.0.0.0.1) r.0.0.0.0.0.1) r.0.0.0.0.1 in
-    no_form _ _ (past n 11 (past n 10 (past n 9 (past n 8 h r.0.0.0.1) r.0.0.1) r.0.1) r.1)
+returns-in_default c = no_form _ _ (omega arith)

@@ -2,7 +2,6 @@
 use Rattle.reading.proofs.Wholes.{rule_stop, rule_next, rules_over}
 use Rattle.reading.specs.Wholes.{whole_claims}
 use mathlib.Core.Path.{refl}
-use Prim.Native.Nat.{◌-◌}
 use native.Mathlib.Omega.{arith}
 use Rattle.reading.proofs.order.Goals as goal
 

@@ -3,7 +3,6 @@ use Rattle.reading.proofs.Files.{lines_over, lines_stop, lines_next}
 use Rattle.text.proofs.Lines.{line_found, line_none}
 use Rattle.meaning.specs.Bytes.{part}
 use mathlib.Core.Path.{refl, sym, ◌∙◌}
-use Prim.Native.Nat.{◌-◌}
 use native.Mathlib.Omega.{arith}
 use Rattle.reading.proofs.read_lines.Goals as goal
 

@@ -5,7 +5,7 @@ use Rattle.meaning.specs.Bytes.{count_lf}
 use Rattle.meaning.specs.Refusals.{speaks}
 use Rattle.meaning.specs.Lists.{empty}
 use Rattle.meaning.specs.Tables.{file_of}
-use Prim.Native.Nat.{ℕ, ◌+◌, ◌-◌}
+use Prim.Native.Nat.{ℕ, ◌+◌}
 use mathlib.Core.Path.{◌≡◌, refl, sym, ap, ◌∙◌}
 use mathlib.Core.Bool.{Bool}
 use mathlib.Core.List.{List, [], map}
@@ -27,7 +27,7 @@ pub loop-i-preserved : goal.loop-i-preserved
 unfolding file_of empty
 loop-i-preserved c =
     let files = map (λ x. x.now) c.args.files in
-    let six : length files ≡ 6 = length-map c.args.files (λ x. x.now) ∙ c.well_formed.0.1.0.1 in
+    let six : length files ≡ 6 = length-map c.args.files (λ x. x.now) ∙ omega arith in
     let rooms : length c.args.rooms ≡ 6 = omega (arith, c.well_formed) in
     let w = c.whole_of.ensures files (rw (← get_or-map (λ x. x.now) c.args.files 5 _)) in (
       omega arith,
@@ -40,5 +40,5 @@ loop-i-preserved c =
 pub returns : goal.returns
 returns c =
     let files = map (λ x. x.now) c.args.files in
-    let six : length files ≡ 6 = length-map c.args.files (λ x. x.now) ∙ c.well_formed.0.1.0.1 in
+    let six : length files ≡ 6 = length-map c.args.files (λ x. x.now) ∙ omega arith in
     c.order.ensures ∙ ap (λ (ws : List (List Bool)). speaks (whole_claims ws)) (wholes_all files c.args.rooms c.loop-i.wholes c.loop-i.i c.loop-i.invariant.1.1 (omega arith) (omega (arith, c.loop-i.invariant.1.0)))

@@ -3,10 +3,9 @@ use Rattle.reading.proofs.First.{row_end, row_kept, row_none, row_turn}
 use Rattle.columns.proofs.Laws.{located_inside, located_cell}
 use Rattle.values.proofs.Readings.{located_there, within}
 use Rattle.meaning.specs.Bytes.{part}
-use mathlib.Core.Logic.{⊎_elim}
-use Prim.Native.Nat.{◌-◌}
 use native.Mathlib.Omega.{arith}
 use Rattle.reading.proofs.row_fault.Goals as goal
+use Rattle.reading.proofs.row_fault.Goals.{then-t-ne0, else-t-ne0}
 
 pub cells_of-cells-requires : goal.cells_of-cells-requires
 cells_of-cells-requires c = c.requires.count_value
@@ -38,10 +37,10 @@ loop-k-preserved c =
     let g = c.cells_of-cells.ensures in
     let known = c.requires.f_bound.1 c.loop-k.k (omega arith) in
     let cell = located_cell _ _ _ _ g.0 g.1 c.loop-k.k in
-    ⊎_elim
-    (λ w. (omega arith, rw w.2 (row_turn _ _ _ _ _ _ _ _ c.loop-k.invariant.1 _ known _ cell c.value_fault-t.ensures w.1.ensures)))
-    (λ w. (omega arith, rw w.1 (row_kept _ _ _ _ _ _ _ c.loop-k.invariant.1 _ known _ cell c.value_fault-t.ensures w.0.left)))
-    c.if-t-ne0.branch
+    elim c.if-t-ne0.branch [
+      | then-t-ne0 w ↦ (omega arith, rw w.fault-is (row_turn _ _ _ _ _ _ _ _ c.loop-k.invariant.1 _ known _ cell c.value_fault-t.ensures w.earlier-fault.ensures))
+      | else-t-ne0 w ↦ (omega arith, rw w.fault-is (row_kept _ _ _ _ _ _ _ c.loop-k.invariant.1 _ known _ cell c.value_fault-t.ensures w.if-t-ne0.false))
+    ]
 
 pub returns : goal.returns
 returns c =

@@ -7,7 +7,6 @@ use Rattle.records.proofs.Readings.{file_room, file_put, file_named, fifth}
 use Rattle.records.proofs.References.{sought_trips, sought_times}
 use Rattle.meaning.specs.Columns.{row_of}
 use mathlib.Core.Path.{refl}
-use Prim.Native.Nat.{◌-◌}
 use Rattle.records.proofs.put_record.Goals as goal
 
 pub put_stop-requires : goal.put_stop-requires

@@ -5,7 +5,6 @@ use Rattle.records.proofs.Readings.{put_as, referred}
 use Rattle.values.specs.Located.{value_in}
 use Rattle.num.proofs.Laws.{kept_is}
 use mathlib.Core.Path.{sym, ◌∙◌}
-use Prim.Native.Nat.{◌-◌}
 use native.Mathlib.Omega.{arith}
 use Rattle.records.proofs.put_time.Goals as goal
 

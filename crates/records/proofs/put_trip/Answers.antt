@@ -3,7 +3,6 @@ use Rattle.records.proofs.LineRecords.{trip_record}
 use Rattle.records.proofs.Readings.{referred}
 use Rattle.num.proofs.Laws.{kept_is}
 use mathlib.Core.Path.{◌∙◌}
-use Prim.Native.Nat.{◌-◌}
 use native.Mathlib.Omega.{arith}
 use Rattle.records.proofs.put_trip.Goals as goal
 

@@ -2,10 +2,9 @@
 use Rattle.ordering.proofs.Laws.{room_row, room_less}
 use Rattle.repeats.proofs.Laws.{walk_start, walk_on, walk_mark, walk_end}
 use mathlib.Core.Path.{sym, ◌∙◌}
-use Prim.Native.Nat.{◌-◌}
 use native.Mathlib.Omega.{arith}
-use mathlib.Core.Logic.{⊎_elim}
 use Rattle.repeats.proofs.mark_repeats.Goals as goal
+use Rattle.repeats.proofs.mark_repeats.Goals.{then-is_repeat, else-is_repeat}
 
 pub loop-k-init : goal.loop-k-init
 loop-k-init c = walk_start _ _ _ _ _ _ c.requires.0 _ _
@@ -26,10 +25,10 @@ loop-k-preserved c =
     let p = c.requires.0 in
     let h = c.loop-k-test.true in
     let e = c.is_repeat.ensures in
-    ⊎_elim
-    (λ v. rw v.6 (walk_mark _ _ _ _ _ _ p _ _ _ c.loop-k.k c.loop-k.invariant h _ _ v.2.ensures.0 v.3.ensures (sym v.0.taken ∙ e)))
-    (λ v. rw v.1 (walk_on _ _ _ _ _ _ p _ _ _ c.loop-k.k c.loop-k.invariant h (sym v.0.left ∙ e)))
-    c.if-is_repeat.branch
+    elim c.if-is_repeat.branch [
+      | then-is_repeat v ↦ rw v.m-is (walk_mark _ _ _ _ _ _ p _ _ _ c.loop-k.k c.loop-k.invariant h _ _ v.get.ensures.0 v.mark.ensures (sym v.if-is_repeat.true ∙ e))
+      | else-is_repeat v ↦ rw v.m-is (walk_on _ _ _ _ _ _ p _ _ _ c.loop-k.k c.loop-k.invariant h (sym v.if-is_repeat.false ∙ e))
+    ]
 
 pub returns : goal.returns
 returns c = walk_end _ _ _ _ _ _ c.requires.0 _ _ _ c.loop-k.k c.loop-k-test.false c.loop-k.invariant

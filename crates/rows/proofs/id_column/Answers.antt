@@ -1,7 +1,6 @@
 -- `rows::id_column` meets its contract.
 use Rattle.meaning.specs.Tables.{id_column}
 use borrow.Author.Tests.{eq-eqb, ne_eqb}
-use Prim.Native.Nat.{◌-◌}
 use native.Mathlib.Omega.{arith}
 use Rattle.rows.proofs.id_column.Goals as goal
 

@@ -2,7 +2,6 @@
 use Rattle.rows.specs.Waiting.{unmark}
 use Rattle.rows.proofs.Waiting.{unmark_some}
 use mathlib.Core.Path.{◌∙◌}
-use Prim.Native.Nat.{◌-◌}
 use native.Mathlib.Omega.{arith}
 use mir.Syntax.{w32}
 use mir.ValLaws.{to_z_pos}

@@ -1,5 +1,4 @@
 -- `rules::list_tables` meets its contract.
-use Prim.Native.Nat.{◌-◌}
 use mathlib.Core.Path.{refl}
 use native.Mathlib.Omega.{arith}
 use lib.ListN.{get_or-map}
@@ -18,7 +17,7 @@ loop-i-preserved c = (
   (
     sum_next c.loop-i.i _ _ c.loop-i.invariant.1.0 c.list_counted-k.ensures.total_bound,
     (
-      omega (arith, c.loop-i.invariant.1.1.0, c.list_counted-k.auto.1.1.1.1.1.0),
+      omega (arith, c.loop-i.invariant.1.1.0, c.list_counted-k.auto.out),
       λ w h. note_next _ w _ c.loop-i.i _ _ (c.loop-i.invariant.1.1.1 w h) (omega arith) _ (c.list_counted-k.ensures.result_after w (ready_at c.loop-i.i (omega arith) w _ _ _ h _ _ (get_or-map (λ x. x.now) c.args.tables c.loop-i.i _) (get_or-map (λ x. x.now) c.args.tables 0 _))),
     ),
   ),

@@ -2,7 +2,6 @@
 use Rattle.schema.proofs.Laws.{columns_more}
 use Rattle.meaning.specs.Columns.{column_of}
 use mathlib.Core.Path.{◌∙◌}
-use Prim.Native.Nat.{◌-◌}
 use native.Mathlib.Omega.{arith}
 use native.Mathlib.Nat.{not-suc-le-zero}
 use lib.ListN.{length-set}

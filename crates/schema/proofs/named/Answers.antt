@@ -7,7 +7,6 @@ use Rattle.meaning.specs.Columns.{name_of}
 use mathlib.Core.Bool.{true, false}
 use Rattle.schema.specs.Named.{named_by}
 use mathlib.Core.Path.{◌≡◌, refl, sym, ◌∙◌}
-use Prim.Native.Nat.{◌-◌}
 use native.Mathlib.Omega.{arith}
 use borrow.Author.Rules.{rules}
 use Rattle.schema.proofs.named.Goals as goal

@@ -1,7 +1,6 @@
 -- What the loop of `schema::named` keeps.
 use Rattle.meaning.specs.Lists.{same, place}
 use Rattle.meaning.specs.Bytes.{value}
-use Rattle.meaning.specs.Columns as X
 use Rattle.meaning.specs.Columns.{schema}
 use Rattle.schema.specs.Named.{named_by}
 use mathlib.Core.Path.{◌≡◌}

@@ -3,7 +3,6 @@ use Rattle.seeking.proofs.Laws.{seek_past, seek_none, seek_found, same_cell}
 use Rattle.ordering.proofs.Laws.{room_row}
 use Rattle.ordering.specs.Ids.{in_order, no_later}
 use mathlib.Core.Path.{◌∙◌}
-use Prim.Native.Nat.{◌-◌}
 use borrow.Author.Rules.{rules}
 use Rattle.seeking.proofs.first_record.Goals as goal
 
@@ -26,8 +25,11 @@ pub returns-then-same_values : goal.returns-then-same_values
 unfolding in_order no_later
 returns-then-same_values c =
     let p = c.requires in
-    let e = same_cell _ _ c.args.w c.lower-at.result _ _ _ _ c.get-r.ensures.0 c.raw_id.ensures c.same_values.ensures ∙ c.if-same_values.true in  -- TODO record of first, upper_bound
-    rw c.get-r.ensures.0 (seek_found _ _ _ _ _ p.0 p.1.whole p.1.sorted _ c.lower-at.ensures c.if-n-at.false e)
+    let e = same_cell _ _ c.args.w c.lower-at.result _ _ _ _ c.get-r.ensures.0 c.raw_id.ensures c.same_values.ensures ∙ c.if-same_values.true in
+    let every = seek_found _ _ _ _ _ p.0 p.1.whole p.1.sorted _ c.lower-at.ensures c.if-n-at.false e in record {
+      first = rw c.get-r.ensures.0 every.0;
+      upper_bound = rw c.get-r.ensures.0 every.1;
+    }
 
 pub returns : goal.returns
 unfolding in_order no_later

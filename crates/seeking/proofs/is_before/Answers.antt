@@ -2,7 +2,6 @@
 use Rattle.seeking.proofs.Laws.{before_cell}
 use Rattle.ranking.specs.declared.Order.TheVariants.{Less, Equal, Greater}
 use mathlib.Core.Path.{sym, ◌∙◌}
-use Prim.Native.Nat.{◌-◌}
 use Rattle.seeking.proofs.is_before.Goals as goal
 
 pub returns-in-Less : goal.returns-in-Less

@@ -2,7 +2,6 @@
 use Rattle.seeking.proofs.Laws.{halve_start, halve_up, halve_down, halve_end}
 use Rattle.ordering.proofs.Laws.{room_less, room_count}
 use mathlib.Core.Path.{sym, ◌∙◌}
-use Prim.Native.Nat.{◌-◌}
 use native.Mathlib.Omega.{arith}
 use Rattle.seeking.proofs.lower.Goals as goal
 

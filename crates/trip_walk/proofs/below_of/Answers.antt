@@ -1,6 +1,5 @@
 -- `trip_walk::below_of` meets its contract.
 use mathlib.Core.Path.{◌∙◌}
-use Prim.Native.Nat.{◌-◌}
 use Rattle.trip_walk.proofs.below_of.Goals as goal
 
 pub returns : goal.returns

@@ -1,6 +1,5 @@
 -- `trip_walk::close` meets its contract.
 use Rattle.trip_walk.proofs.Turns.{closed_going, closed_first, closed_ended}
-use Prim.Native.Nat.{◌-◌}
 use Rattle.trip_walk.proofs.close.Goals as goal
 
 pub returns-then-link : goal.returns-then-link

@@ -1,7 +1,6 @@
 -- `trip_walk::goes_on` meets its contract.
 use Rattle.trip_walk.proofs.File.{goes_linked, goes_fresh, goes_out}
 use mathlib.Core.Path.{refl}
-use Prim.Native.Nat.{◌-◌}
 use Rattle.trip_walk.proofs.goes_on.Goals as goal
 
 pub returns-then-is_after : goal.returns-then-is_after

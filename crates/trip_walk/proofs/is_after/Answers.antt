@@ -1,7 +1,6 @@
 -- `trip_walk::is_after` meets its contract.
 use Rattle.trip_walk.proofs.File.{after_is}
 use mathlib.Core.Path.{refl}
-use Prim.Native.Nat.{◌-◌}
 use Rattle.trip_walk.proofs.is_after.Goals as goal
 
 pub returns : goal.returns

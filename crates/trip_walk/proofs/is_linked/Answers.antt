@@ -1,6 +1,5 @@
 -- `trip_walk::is_linked` meets its contract.
 use Rattle.trip_walk.proofs.Turns.{linked_here, linked_one}
-use Prim.Native.Nat.{◌-◌}
 use Rattle.trip_walk.proofs.is_linked.Goals as goal
 
 pub returns-then-k-gt1 : goal.returns-then-k-gt1

@@ -1,5 +1,4 @@
 -- `trip_walk::is_open` meets its contract.
-use Prim.Native.Nat.{◌-◌}
 use Rattle.trip_walk.proofs.is_open.Goals as goal
 
 pub returns : goal.returns

@@ -1,6 +1,5 @@
 -- `trip_walk::is_repeat` meets its contract.
 use Rattle.trip_walk.proofs.Turns.{repeats_here, repeats_not}
-use Prim.Native.Nat.{◌-◌}
 use Rattle.trip_walk.proofs.is_repeat.Goals as goal
 
 pub returns-then-link : goal.returns-then-link

@@ -4,7 +4,6 @@ use Rattle.meaning.proofs.ListLaws.{both}
 use Rattle.trip_walk.proofs.File.{file_start, file_turn, file_end, file_stop}
 use mathlib.Core.Path.{◌≡◌, refl, sym}
 use mathlib.Core.Bool.{false}
-use Prim.Native.Nat.{◌-◌}
 use native.Mathlib.Omega.{arith}
 use Rattle.trip_walk.proofs.is_steady.Goals as goal
 

@@ -1,5 +1,4 @@
 -- `trip_walk::is_untimed` meets its contract.
-use Prim.Native.Nat.{◌-◌}
 use Rattle.trip_walk.proofs.is_untimed.Goals as goal
 
 pub returns : goal.returns

@@ -1,6 +1,5 @@
 -- `trip_walk::larger_of` meets its contract.
 use borrow.Author.Tests.{lt-ltb, le-ltb}
-use Prim.Native.Nat.{◌-◌}
 use Rattle.trip_walk.proofs.larger_of.Goals as goal
 
 pub returns-then-a-b : goal.returns-then-a-b

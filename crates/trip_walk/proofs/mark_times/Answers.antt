@@ -1,6 +1,5 @@
 -- `trip_walk::mark_times` meets its contract.
 use mathlib.Core.Path.{◌∙◌}
-use Prim.Native.Nat.{◌-◌}
 use native.Mathlib.Omega.{arith}
 use Rattle.trip_walk.proofs.Table.{told_kept}
 use Rattle.trip_walk.proofs.mark_times.Goals as goal

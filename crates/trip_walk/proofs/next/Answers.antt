@@ -1,6 +1,5 @@
 -- `trip_walk::next` meets its contract.
 use mathlib.Core.Path.{refl, ◌∙◌}
-use Prim.Native.Nat.{◌-◌}
 use Rattle.trip_walk.proofs.next.Goals as goal
 
 pub returns : goal.returns

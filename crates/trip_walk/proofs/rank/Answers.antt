@@ -1,5 +1,4 @@
 -- `trip_walk::rank` meets its contract.
-use Prim.Native.Nat.{◌-◌}
 use native.Mathlib.Omega.{arith}
 use Rattle.ordering.proofs.Laws.{kept_trans}
 use Rattle.trip_walk.proofs.Ranks.{ranged_file, ranged_sorted}

@@ -1,6 +1,5 @@
 -- `trip_walk::raw_trip` meets its contract.
 use Rattle.trip_walk.proofs.Turns.{raw_is}
-use Prim.Native.Nat.{◌-◌}
 use Rattle.trip_walk.proofs.raw_trip.Goals as goal
 
 pub returns : goal.returns

@@ -1,6 +1,5 @@
 -- `trip_walk::same_trip` meets its contract.
 use Rattle.trip_walk.proofs.Turns.{trips_differ, trips_stand, trips_stray}
-use Prim.Native.Nat.{◌-◌}
 use Rattle.trip_walk.proofs.same_trip.Goals as goal
 
 pub returns-then-a-b : goal.returns-then-a-b

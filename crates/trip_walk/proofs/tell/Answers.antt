@@ -1,6 +1,5 @@
 -- `trip_walk::tell` meets its contract.
 use Rattle.trip_walk.proofs.Telling.{told_both}
-use Prim.Native.Nat.{◌-◌}
 use native.Mathlib.Omega.{arith}
 use Rattle.trip_walk.proofs.tell.Goals as goal
 

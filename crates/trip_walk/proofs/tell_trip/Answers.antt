@@ -1,6 +1,5 @@
 -- `trip_walk::tell_trip` meets its contract.
 use Rattle.trip_walk.proofs.Turns.{trip_told}
-use Prim.Native.Nat.{◌-◌}
 use native.Mathlib.Omega.{arith}
 use Rattle.trip_walk.proofs.tell_trip.Goals as goal
 

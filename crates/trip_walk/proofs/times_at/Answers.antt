@@ -1,6 +1,5 @@
 -- `trip_walk::times_at` meets its contract.
 use Rattle.trip_walk.specs.Table.{timed_in}
-use Prim.Native.Nat.{◌-◌}
 use Rattle.trip_walk.proofs.times_at.Goals as goal
 
 pub returns : goal.returns

@@ -1,6 +1,5 @@
 -- `trip_walk::turn` meets its contract.
 use Rattle.trip_walk.proofs.Turns.{turned}
-use Prim.Native.Nat.{◌-◌}
 use Rattle.trip_walk.proofs.turn.Goals as goal
 
 pub returns : goal.returns

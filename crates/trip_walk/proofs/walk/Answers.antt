@@ -1,6 +1,5 @@
 -- `trip_walk::walk` meets its contract.
 use Rattle.trip_walk.proofs.Walking.{table_start, table_turn, table_end}
-use Prim.Native.Nat.{◌-◌}
 use native.Mathlib.Omega.{arith}
 use Rattle.trip_walk.proofs.walk.Goals as goal
 
