@@ -1,10 +1,12 @@
 // Runs the whole check on feeds: both sides of each rule, tables, pages, starting places and lists; `stdout` has what host/model makes of them.
 // A line of standard input is a title, after #, or a case: list length, a blank or, where the profile for boards is asked for, a b, starting place, which table to write, and six files, each after a bar; one without a bar has no bytes.
-ghost use Rattle.std.specs.Prelude.{◌<◌, ◌≤◌, ◌≡◌, length, take};
-ghost use Rattle.io.specs.Counts.{IsPrefixLen};
+#![tactic(auto)]
 
-use libc::{STDIN_FILENO, STDOUT_FILENO};
+ghost use Rattle.std.specs.Prelude.{◌<◌, ◌≤◌, ◌≡◌, IfOk, length, take};
+
 use meaning::{Answer, Bounds, Place, Profile};
+use std::io;
+use std::io::Read;
 use text::LineStep;
 
 // The feed without a finding that most cases differ from in one file: there = stands for the others.
@@ -26,51 +28,52 @@ const DATES: [u8; 57] = *b"service_id,date,exception_type\nW,20240704,2\nX,20241
 const LENT: i32 = -777;
 
 // Writes bytes.
-fn say(word: &[u8]) {
-    io::write_all(STDOUT_FILENO, word);
+fn say(rt: &impl Print, word: &[u8]) -> io::Result<()> {
+    rt.write_all(word)
 }
 
 // Writes a number after a blank.
-fn tell(n: usize) {
-    say(b" ");
-    io::print_decimal(STDOUT_FILENO, n as u64);
+fn tell(rt: &impl Print, n: usize) -> io::Result<()> {
+    say(rt, b" ")?;
+    rt.print(n)
 }
 
 // Writes the answer.
-fn tell_answer(a: Answer) {
+fn tell_answer(rt: &impl Print, a: Answer) -> io::Result<()> {
     match a {
-        Answer::Accepted => say(b"accepted"),
+        Answer::Accepted => say(rt, b"accepted"),
         Answer::Findings { written, total } => {
-            say(b"findings");
-            tell(written);
-            tell(total);
+            say(rt, b"findings")?;
+            tell(rt, written)?;
+            tell(rt, total)
         }
         Answer::Refused(r) => {
-            say(b"refused");
-            tell(r.number);
-            tell(r.file);
-            tell(r.line);
-            tell(r.column);
+            say(rt, b"refused")?;
+            tell(rt, r.number)?;
+            tell(rt, r.file)?;
+            tell(rt, r.line)?;
+            tell(rt, r.column)
         }
     }
 }
 
 // Writes a number of a table or list after a blank.
-fn tell_signed(z: i32) {
-    say(b" ");
+fn tell_signed(rt: &impl Print, z: i32) -> io::Result<()> {
+    say(rt, b" ")?;
     if z < 0 {
-        say(b"-");
+        say(rt, b"-")?;
     }
-    io::print_decimal(STDOUT_FILENO, num::size(z) as u64);
+    rt.print(num::size(z))
 }
 
 // Writes numbers.
-fn tell_numbers(t: &[i32]) {
+fn tell_numbers(rt: &impl Print, t: &[i32]) -> io::Result<()> {
     let mut i = 0;
     while i < t.len() {
-        tell_signed(t[i]);
+        tell_signed(rt, t[i])?;
         i += 1;
     }
+    Ok(())
 }
 
 // How many numbers there are up to the last that isn't as lent.
@@ -88,16 +91,17 @@ fn used(t: &[i32]) -> usize
 }
 
 // Writes a table as far as it isn't as lent.
-fn tell_used(name: &[u8], t: &[i32]) {
-    say(name);
-    say(b":");
+fn tell_used(rt: &impl Print, name: &[u8], t: &[i32]) -> io::Result<()> {
+    say(rt, name)?;
+    say(rt, b":")?;
     let n = used(t);
-    tell_numbers(&t[..n]);
-    say(b"\n");
+    tell_numbers(rt, &t[..n])?;
+    say(rt, b"\n")
 }
 
 // Writes the table of the file whose number is given; none for another mark.
 fn tell_table(
+    rt: &impl Print,
     file: u8,
     stops: &[i32],
     routes: &[i32],
@@ -105,15 +109,15 @@ fn tell_table(
     trips: &[i32],
     stop_times: &[i32],
     calendar_dates: &[i32],
-) {
+) -> io::Result<()> {
     match file {
-        b'1' => tell_used(b"stops", stops),
-        b'2' => tell_used(b"routes", routes),
-        b'3' => tell_used(b"calendar", calendar),
-        b'4' => tell_used(b"trips", trips),
-        b'5' => tell_used(b"stop_times", stop_times),
-        b'6' => tell_used(b"calendar_dates", calendar_dates),
-        _ => {}
+        b'1' => tell_used(rt, b"stops", stops),
+        b'2' => tell_used(rt, b"routes", routes),
+        b'3' => tell_used(rt, b"calendar", calendar),
+        b'4' => tell_used(rt, b"trips", trips),
+        b'5' => tell_used(rt, b"stop_times", stop_times),
+        b'6' => tell_used(rt, b"calendar_dates", calendar_dates),
+        _ => Ok(()),
     }
 }
 
@@ -198,7 +202,7 @@ fn taken(s: &[u8], i: usize) -> Written
 
 // The bytes that are written from a place on.
 fn decode(s: &[u8], from: usize, out: &mut [u8]) -> usize
-    ensures { IsPrefixLen result out.new }
+    ensures { (result ≤ length out.new) × (result ≡ length (take result out.new)) }
 {
     let mut i = from;
     let mut n = 0;
@@ -300,6 +304,7 @@ fn given<'a>(file: &'a [u8], standard: &'a [u8]) -> &'a [u8] {
 
 // The check of six files with tables as lent, and the table that is asked for.
 fn check_files<'a>(
+    rt: &impl Print,
     stops: &'a [u8],
     routes: &'a [u8],
     calendar: &'a [u8],
@@ -310,7 +315,7 @@ fn check_files<'a>(
     from: Place,
     asked: Profile,
     told: u8,
-) -> Answer {
+) -> io::Result<Answer> {
     let mut stops_table = [LENT; 256];
     let mut routes_table = [LENT; 256];
     let mut calendar_table = [LENT; 256];
@@ -330,6 +335,7 @@ fn check_files<'a>(
         asked,
     );
     tell_table(
+        rt,
         told,
         &stops_table,
         &routes_table,
@@ -337,12 +343,13 @@ fn check_files<'a>(
         &trips_table,
         &stop_times_table,
         &calendar_dates_table,
-    );
-    a
+    )?;
+    Ok(a)
 }
 
 // The same, with the standard files for those that aren't given.
 fn check_given<'a>(
+    rt: &impl Print,
     stops: &'a [u8],
     routes: &'a [u8],
     calendar: &'a [u8],
@@ -353,8 +360,9 @@ fn check_given<'a>(
     from: Place,
     asked: Profile,
     told: u8,
-) -> Answer {
+) -> io::Result<Answer> {
     check_files(
+        rt,
         given(stops, &STOPS),
         given(routes, &ROUTES),
         given(calendar, &CALENDAR),
@@ -369,7 +377,14 @@ fn check_given<'a>(
 }
 
 // The check of six files, each after a bar.
-fn check_feed(s: &[u8], list: &mut [i32], from: Place, asked: Profile, told: u8) -> Answer {
+fn check_feed(
+    rt: &impl Print,
+    s: &[u8],
+    list: &mut [i32],
+    from: Place,
+    asked: Profile,
+    told: u8,
+) -> io::Result<Answer> {
     let p = part(s, 0);
     let stops = p.start;
     let stops_end = p.end;
@@ -389,6 +404,7 @@ fn check_feed(s: &[u8], list: &mut [i32], from: Place, asked: Profile, told: u8)
     let dates = p.start;
     let dates_end = p.end;
     check_given(
+        rt,
         &s[stops..stops_end],
         &s[routes..routes_end],
         &s[calendar..calendar_end],
@@ -403,57 +419,73 @@ fn check_feed(s: &[u8], list: &mut [i32], from: Place, asked: Profile, told: u8)
 }
 
 // The check with a list, and what both say.
-fn run_feed(s: &[u8], list: &mut [i32], from: Place, asked: Profile, told: u8) {
-    tell_answer(check_feed(s, list, from, asked, told));
-    say(b":");
-    tell_numbers(list);
-    say(b"\n");
+fn run_feed(
+    rt: &impl Print,
+    s: &[u8],
+    list: &mut [i32],
+    from: Place,
+    asked: Profile,
+    told: u8,
+) -> io::Result<()> {
+    tell_answer(rt, check_feed(rt, s, list, from, asked, told)?)?;
+    say(rt, b":")?;
+    tell_numbers(rt, list)?;
+    say(rt, b"\n")
 }
 
 // The check with a list's first numbers.
-fn run_part(s: &[u8], list: &mut [i32], k: usize, from: Place, asked: Profile, told: u8) {
+fn run_part(
+    rt: &impl Print,
+    s: &[u8],
+    list: &mut [i32],
+    k: usize,
+    from: Place,
+    asked: Profile,
+    told: u8,
+) -> io::Result<()> {
     if list.len() < k {
-        return;
+        return Ok(());
     }
-    run_feed(s, &mut list[..k], from, asked, told);
+    run_feed(rt, s, &mut list[..k], from, asked, told)
 }
 
 // A case.
-fn run_case(l: &[u8]) {
-    let mut buf = io::buffer();
+fn run_case(rt: &impl Print, l: &[u8]) -> io::Result<()> {
+    let mut buf = [0u8; 4096];
     let n = decode(l, 21, &mut buf);
     let mut list = [99i32; 64];
     run_part(
+        rt,
         &buf[..n],
         &mut list,
         list_length(l),
         start_place(l),
         asked_for(l),
         byte_at(l, 20),
-    );
+    )
 }
 
 // A title or a case.
-fn run_line(l: &[u8]) {
+fn run_line(rt: &impl Print, l: &[u8]) -> io::Result<()> {
     if byte_at(l, 0) == 35 {
-        say(l);
-        say(b"\n");
+        say(rt, l)?;
+        say(rt, b"\n")
     } else {
-        run_case(l);
+        run_case(rt, l)
     }
 }
 
 // The lines of standard input.
-fn run_lines(s: &[u8]) {
+fn run_lines(rt: &impl Print, s: &[u8]) -> io::Result<()> {
     let mut at = 0;
     loop {
         match text::next_line(s, at) {
             LineStep::Line { start, end, next } => {
-                run_line(&s[start..end]);
+                run_line(rt, &s[start..end])?;
                 at = next;
             }
             LineStep::Done => {
-                return;
+                return Ok(());
             }
         }
     }
@@ -466,8 +498,24 @@ fn room() -> [u8; 262144]
     [0; 262144]
 }
 
-fn main() {
+// Reads until the room is full or the input ends, and answers how many bytes it read.
+fn read_full(rt: &impl Input, room: &mut [u8]) -> io::Result<usize>
+    ensures { IfOk result (λ n. n ≤ length room.new) }
+{
+    let mut input = rt.reader();
+    let mut n = 0;
+    while n < room.len() {
+        let got = input.read(&mut room[n..])?;
+        if got == 0 {
+            return Ok(n);
+        }
+        n += got;
+    }
+    Ok(n)
+}
+
+fn main(rt: HostRuntime) -> io::Result<()> {
     let mut input = room();
-    let n = io::read_full(STDIN_FILENO, &mut input);
-    run_lines(&input[..n]);
+    let n = read_full(&rt, &mut input)?;
+    run_lines(&rt, &input[..n])
 }

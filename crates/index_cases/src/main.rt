@@ -1,6 +1,8 @@
 // Writes what the index's writer and reader answer, and what the writer leaves in its buffer; the file `stdout` has what document 02's E4 and E9 say.
+#![tactic(auto)]
+
 use indexes::IndexAnswer;
-use libc::STDOUT_FILENO;
+use std::io;
 
 // What a buffer's bytes are as lent; no index here has it.
 const LENT: u8 = 0xEE;
@@ -9,256 +11,284 @@ const LENT: u8 = 0xEE;
 const ROUTES: [u8; 35] = *b"route_id,route_type\nB,3\n\"A\",3\nAB,3\n";
 
 // Writes bytes.
-fn say(word: &[u8]) {
-    io::write_all(STDOUT_FILENO, word);
+fn say(rt: &impl Print, word: &[u8]) -> io::Result<()> {
+    rt.write_all(word)
 }
 
 // Writes a number after a blank.
-fn tell(n: usize) {
-    say(b" ");
-    io::print_decimal(STDOUT_FILENO, n as u64);
+fn tell(rt: &impl Print, n: usize) -> io::Result<()> {
+    say(rt, b" ")?;
+    rt.print(n)
 }
 
 // Writes the answer's numbers.
-fn tell_answer(a: IndexAnswer) {
+fn tell_answer(rt: &impl Print, a: IndexAnswer) -> io::Result<()> {
     match a {
         IndexAnswer::Whole(length) => {
-            say(b" whole");
-            tell(length);
+            say(rt, b" whole")?;
+            tell(rt, length)
         }
         IndexAnswer::Unread(r) => {
-            say(b" unread");
-            tell(r.number);
-            tell(r.file);
-            tell(r.line);
-            tell(r.column);
+            say(rt, b" unread")?;
+            tell(rt, r.number)?;
+            tell(rt, r.file)?;
+            tell(rt, r.line)?;
+            tell(rt, r.column)
         }
         IndexAnswer::Barred(number) => {
-            say(b" barred");
-            tell(number);
+            say(rt, b" barred")?;
+            tell(rt, number)
         }
     }
 }
 
 // Writes a byte in hex after a blank.
-fn tell_byte(b: u8) {
-    say(b" ");
-    io::print_hex(STDOUT_FILENO, b as u64, 2);
+fn tell_byte(rt: &impl Print, b: u8) -> io::Result<()> {
+    say(rt, b" ")?;
+    print!(rt; "{b:02x}")
 }
 
 // Writes bytes in hex.
-fn tell_bytes(b: &[u8]) {
+fn tell_bytes(rt: &impl Print, b: &[u8]) -> io::Result<()> {
     let mut i = 0;
     while i < b.len() {
-        tell_byte(b[i]);
+        tell_byte(rt, b[i])?;
         i += 1;
     }
+    Ok(())
 }
 
 // The writer: its answer, and the buffer that it leaves.
-fn write(name: &[u8], f: usize, s: &[u8], b: &mut [u8]) {
-    say(name);
-    tell_answer(index_write::write_index(f, s, b));
-    say(b":");
-    tell_bytes(b);
-    say(b"\n");
+fn write(rt: &impl Print, name: &[u8], f: usize, s: &[u8], b: &mut [u8]) -> io::Result<()> {
+    say(rt, name)?;
+    tell_answer(rt, index_write::write_index(f, s, b))?;
+    say(rt, b":")?;
+    tell_bytes(rt, b)?;
+    say(rt, b"\n")
 }
 
 // The reader: its answer.
-fn read(name: &[u8], f: usize, s: &[u8], b: &[u8]) {
-    say(name);
-    tell_answer(index_check::check_index(f, s, b));
-    say(b"\n");
+fn read(rt: &impl Print, name: &[u8], f: usize, s: &[u8], b: &[u8]) -> io::Result<()> {
+    say(rt, name)?;
+    tell_answer(rt, index_check::check_index(f, s, b))?;
+    say(rt, b"\n")
 }
 
 // The reader, beside the routes above.
-fn judge(name: &[u8], b: &[u8]) {
-    read(name, 2, &ROUTES, b);
+fn judge(rt: &impl Print, name: &[u8], b: &[u8]) -> io::Result<()> {
+    read(rt, name, 2, &ROUTES, b)
 }
 
 // What is written into a buffer of 12, and read back.
-fn two(name: &[u8], f: usize, s: &[u8]) {
+fn two(rt: &impl Print, name: &[u8], f: usize, s: &[u8]) -> io::Result<()> {
     let mut b = [LENT; 12];
-    write(name, f, s, &mut b);
-    read(b"  read back", f, s, &b);
+    write(rt, name, f, s, &mut b)?;
+    read(rt, b"  read back", f, s, &b)
 }
 
 // The same with one of 14.
-fn three(name: &[u8], f: usize, s: &[u8]) {
+fn three(rt: &impl Print, name: &[u8], f: usize, s: &[u8]) -> io::Result<()> {
     let mut b = [LENT; 14];
-    write(name, f, s, &mut b);
-    read(b"  read back", f, s, &b);
+    write(rt, name, f, s, &mut b)?;
+    read(rt, b"  read back", f, s, &b)
 }
 
 // The same with one of 16.
-fn four(name: &[u8], f: usize, s: &[u8]) {
+fn four(rt: &impl Print, name: &[u8], f: usize, s: &[u8]) -> io::Result<()> {
     let mut b = [LENT; 16];
-    write(name, f, s, &mut b);
-    read(b"  read back", f, s, &b);
+    write(rt, name, f, s, &mut b)?;
+    read(rt, b"  read back", f, s, &b)
 }
 
 // Ids rise as byte strings, of their values.
-fn orders() {
-    three(b"routes", 2, &ROUTES);
+fn orders(rt: &impl Print) -> io::Result<()> {
+    three(rt, b"routes", 2, &ROUTES)?;
     four(
+        rt,
         b"prefixes",
         1,
         b"stop_id,stop_name,stop_lat,stop_lon\n\"AB\",x,1,2\nA,x,1,2\n\"A,\",x,1,2\n\"A\"\"\",x,1,2\n",
-    );
+    )?;
     two(
+        rt,
         b"services",
         3,
         b"service_id,monday,tuesday,wednesday,thursday,friday,saturday,sunday,start_date,end_date\nW,1,1,1,1,1,0,0,20240101,20241231\nS,0,0,0,0,0,1,1,20240101,20241231\n",
-    );
+    )?;
     three(
+        rt,
         b"above 127",
         4,
         b"route_id,service_id,trip_id\nR,W,\xC3\xA9\nR,W,z\nR,W,\xC3\xA8\n",
-    );
+    )?;
     two(
+        rt,
         b"marked, CR LF",
         2,
         b"\xEF\xBB\xBFroute_id,route_type\r\nb,3\r\nB,3\r\n",
-    );
+    )
 }
 
 // The buffer: too short, too long, and for no records.
-fn rooms() {
+fn rooms(rt: &impl Print) -> io::Result<()> {
     let mut short = [LENT; 13];
-    write(b"a byte short", 2, &ROUTES, &mut short);
+    write(rt, b"a byte short", 2, &ROUTES, &mut short)?;
     let mut long = [LENT; 24];
-    write(b"longer", 2, &ROUTES, &mut long);
+    write(rt, b"longer", 2, &ROUTES, &mut long)?;
     let mut head = [LENT; 8];
-    write(b"no records", 2, b"route_id,route_type\n", &mut head);
-    read(b"  read back", 2, b"route_id,route_type\n", &head);
+    write(rt, b"no records", 2, b"route_id,route_type\n", &mut head)?;
+    read(rt, b"  read back", 2, b"route_id,route_type\n", &head)?;
     let mut less = [LENT; 7];
     write(
+        rt,
         b"no records, a byte short",
         2,
         b"route_id,route_type\n",
         &mut less,
-    );
+    )
 }
 
 // The writer's other refusals, which leave the buffer as lent.
-fn refusals() {
+fn refusals(rt: &impl Print) -> io::Result<()> {
     let mut b = [LENT; 12];
     write(
+        rt,
         b"repeated",
         2,
         b"route_id,route_type\nA,3\n\"A\",3\n",
         &mut b,
-    );
-    write(b"file 0", 0, &ROUTES, &mut b);
-    write(b"file 5", 5, b"", &mut b);
-    write(b"empty calendar", 3, b"", &mut b);
-    write(b"tab", 2, b"route_id,route_type\nA\t,3\n", &mut b);
+    )?;
+    write(rt, b"file 0", 0, &ROUTES, &mut b)?;
+    write(rt, b"file 5", 5, b"", &mut b)?;
+    write(rt, b"empty calendar", 3, b"", &mut b)?;
+    write(rt, b"tab", 2, b"route_id,route_type\nA\t,3\n", &mut b)?;
     let mut short = [LENT; 4];
     write(
+        rt,
         b"repeated, short",
         2,
         b"route_id,route_type\nA,3\n\"A\",3\n",
         &mut short,
-    );
+    )
 }
 
 // The reader refuses by an index's head and length.
-fn heads() {
+fn heads(rt: &impl Print) -> io::Result<()> {
     judge(
+        rt,
         b"accepted",
         b"TTX\x01\x00\x02\x03\x00\x02\x00\x03\x00\x01\x00",
-    );
-    judge(b"no bytes", b"");
-    judge(b"7 bytes", b"TTX\x01\x00\x02\x03");
+    )?;
+    judge(rt, b"no bytes", b"")?;
+    judge(rt, b"7 bytes", b"TTX\x01\x00\x02\x03")?;
     judge(
+        rt,
         b"wrong mark",
         b"TTx\x01\x00\x02\x03\x00\x02\x00\x03\x00\x01\x00",
-    );
+    )?;
     judge(
+        rt,
         b"wrong mark, version 2",
         b"TXT\x02\x00\x02\x03\x00\x02\x00\x03\x00\x01\x00",
-    );
+    )?;
     judge(
+        rt,
         b"version 2",
         b"TTX\x02\x00\x02\x03\x00\x02\x00\x03\x00\x01\x00",
-    );
+    )?;
     judge(
+        rt,
         b"version 257",
         b"TTX\x01\x01\x02\x03\x00\x02\x00\x03\x00\x01\x00",
-    );
+    )?;
     judge(
+        rt,
         b"version 2, file byte 3",
         b"TTX\x02\x00\x03\x03\x00\x02\x00\x03\x00\x01\x00",
-    );
+    )?;
     judge(
+        rt,
         b"file byte 3",
         b"TTX\x01\x00\x03\x03\x00\x02\x00\x03\x00\x01\x00",
-    );
-    judge(b"count 2", b"TTX\x01\x00\x02\x02\x00\x02\x00\x03\x00");
+    )?;
+    judge(rt, b"count 2", b"TTX\x01\x00\x02\x02\x00\x02\x00\x03\x00")?;
     judge(
+        rt,
         b"a byte more",
         b"TTX\x01\x00\x02\x03\x00\x02\x00\x03\x00\x01\x00\x00",
-    );
+    )?;
     judge(
+        rt,
         b"a byte less",
         b"TTX\x01\x00\x02\x03\x00\x02\x00\x03\x00\x01",
-    );
+    )
 }
 
 // The reader refuses by an index's entries.
-fn entries() {
+fn entries(rt: &impl Print) -> io::Result<()> {
     judge(
+        rt,
         b"record 0",
         b"TTX\x01\x00\x02\x03\x00\x02\x00\x03\x00\x00\x00",
-    );
+    )?;
     judge(
+        rt,
         b"record 4",
         b"TTX\x01\x00\x02\x03\x00\x04\x00\x03\x00\x01\x00",
-    );
+    )?;
     judge(
+        rt,
         b"record 258",
         b"TTX\x01\x00\x02\x03\x00\x02\x01\x03\x00\x01\x00",
-    );
+    )?;
     judge(
+        rt,
         b"swapped, record 0",
         b"TTX\x01\x00\x02\x03\x00\x03\x00\x02\x00\x00\x00",
-    );
+    )?;
     judge(
+        rt,
         b"swapped",
         b"TTX\x01\x00\x02\x03\x00\x03\x00\x02\x00\x01\x00",
-    );
+    )?;
     judge(
+        rt,
         b"last two swapped",
         b"TTX\x01\x00\x02\x03\x00\x02\x00\x01\x00\x03\x00",
-    );
+    )?;
     judge(
+        rt,
         b"record 2 twice",
         b"TTX\x01\x00\x02\x03\x00\x02\x00\x02\x00\x01\x00",
-    );
+    )
 }
 
 // The reader takes versions 1 and 2, and version 2 of no three records.
-fn versions() {
+fn versions(rt: &impl Print) -> io::Result<()> {
     judge(
+        rt,
         b"version 0",
         b"TTX\x00\x00\x02\x03\x00\x02\x00\x03\x00\x01\x00",
-    );
+    )?;
     judge(
+        rt,
         b"version 3",
         b"TTX\x03\x00\x02\x03\x00\x02\x00\x03\x00\x01\x00",
-    );
+    )?;
     judge(
+        rt,
         b"version 2, whole",
         b"TTX\x02\x00\x02\x03\x00\x00\x00\x02\x00\x00\x00\x03\x00\x00\x00\x01\x00\x00\x00",
-    );
-    judge(b"version 2, 8 bytes", b"TTX\x02\x00\x02\x03\x00");
-    judge(b"version 2, 9 bytes", b"TTX\x02\x00\x02\x03\x00\x00");
+    )?;
+    judge(rt, b"version 2, 8 bytes", b"TTX\x02\x00\x02\x03\x00")?;
+    judge(rt, b"version 2, 9 bytes", b"TTX\x02\x00\x02\x03\x00\x00")?;
     read(
+        rt,
         b"version 2, no records",
         2,
         b"route_id,route_type\n",
         b"TTX\x02\x00\x02\x00\x00\x00\x00",
-    );
+    )
 }
 
 // As many routes as have an index of version 2 at the least.
@@ -347,68 +377,69 @@ fn many_routes() -> [u8; 458772] {
 }
 
 // Writes how bytes begin, and how they end.
-fn tell_ends(b: &[u8]) {
+fn tell_ends(rt: &impl Print, b: &[u8]) -> io::Result<()> {
     if b.len() < 18 {
-        return;
+        return Ok(());
     }
-    tell_bytes(&b[..18]);
-    say(b" ..");
-    tell_bytes(&b[b.len() - 8..]);
+    tell_bytes(rt, &b[..18])?;
+    say(rt, b" ..")?;
+    tell_bytes(rt, &b[b.len() - 8..])
 }
 
 // The writer: its answer, and how the buffer that it leaves begins and ends.
-fn write_long(name: &[u8], s: &[u8], b: &mut [u8]) {
-    say(name);
-    tell_answer(index_write::write_index(2, s, b));
-    say(b":");
-    tell_ends(b);
-    say(b"\n");
+fn write_long(rt: &impl Print, name: &[u8], s: &[u8], b: &mut [u8]) -> io::Result<()> {
+    say(rt, name)?;
+    tell_answer(rt, index_write::write_index(2, s, b))?;
+    say(rt, b":")?;
+    tell_ends(rt, b)?;
+    say(rt, b"\n")
 }
 
 // Version 1 up to 65,535 records.
-fn first() {
+fn first(rt: &impl Print) -> io::Result<()> {
     let s = few_routes();
     let mut b = room_of_few();
-    write_long(b"65,535 routes", &s, &mut b);
-    read(b"  read back", 2, &s, &b);
-    read(b"  beside 65,536", 2, &many_routes(), &b);
+    write_long(rt, b"65,535 routes", &s, &mut b)?;
+    read(rt, b"  read back", 2, &s, &b)?;
+    read(rt, b"  beside 65,536", 2, &many_routes(), &b)
 }
 
 // Version 2 above.
-fn second() {
+fn second(rt: &impl Print) -> io::Result<()> {
     let s = many_routes();
     let mut short = short_room();
-    write_long(b"65,536 routes, a byte short", &s, &mut short);
+    write_long(rt, b"65,536 routes, a byte short", &s, &mut short)?;
     let mut b = room_of_many();
-    write_long(b"65,536 routes", &s, &mut b);
-    read(b"  read back", 2, &s, &b);
-    read(b"  beside 65,535", 2, &few_routes(), &b);
+    write_long(rt, b"65,536 routes", &s, &mut b)?;
+    read(rt, b"  read back", 2, &s, &b)?;
+    read(rt, b"  beside 65,535", 2, &few_routes(), &b)?;
     b[8] = 0;
-    read(b"  its count in 16 bits", 2, &s, &b);
+    read(rt, b"  its count in 16 bits", 2, &s, &b)
 }
 
 // The reader answers of the file first.
-fn files() {
-    read(b"of file 0", 0, &ROUTES, b"");
-    read(b"of file 5", 5, b"", b"");
-    read(b"of an empty calendar", 3, b"", b"");
-    read(b"of a tab", 2, b"route_id,route_type\nA\t,3\n", b"TTX");
+fn files(rt: &impl Print) -> io::Result<()> {
+    read(rt, b"of file 0", 0, &ROUTES, b"")?;
+    read(rt, b"of file 5", 5, b"", b"")?;
+    read(rt, b"of an empty calendar", 3, b"", b"")?;
+    read(rt, b"of a tab", 2, b"route_id,route_type\nA\t,3\n", b"TTX")?;
     read(
+        rt,
         b"of a repeated id",
         2,
         b"route_id,route_type\nA,3\n\"A\",3\n",
         b"TTX\x01\x00\x02\x02\x00\x01\x00\x02\x00",
-    );
+    )
 }
 
-fn main() {
-    orders();
-    rooms();
-    refusals();
-    heads();
-    entries();
-    versions();
-    first();
-    second();
-    files();
+fn main(rt: HostRuntime) -> io::Result<()> {
+    orders(&rt)?;
+    rooms(&rt)?;
+    refusals(&rt)?;
+    heads(&rt)?;
+    entries(&rt)?;
+    versions(&rt)?;
+    first(&rt)?;
+    second(&rt)?;
+    files(&rt)
 }

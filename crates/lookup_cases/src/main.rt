@@ -1,6 +1,8 @@
 // Asks for codes at the counter and writes what is answered; the file `stdout` has what document 02's E5 and E9 say.
-use libc::STDOUT_FILENO;
+#![tactic(auto)]
+
 use lookups::LookupAnswer;
+use std::io;
 
 // Record 1 is B, record 2 is A in quotes, record 3 is AB: their ids stand from 36 to 37, 44 to 47 and 54 to 56.
 const STOPS: [u8; 63] = *b"stop_id,stop_name,stop_lat,stop_lon\nB,x,1,2\n\"A\",y,1,2\nAB,z,1,2\n";
@@ -14,196 +16,221 @@ const TABLE: [i32; 28] = [
 const INDEX: [u8; 14] = *b"TTX\x01\x00\x01\x03\x00\x02\x00\x03\x00\x01\x00";
 
 // Writes bytes.
-fn say(word: &[u8]) {
-    io::write_all(STDOUT_FILENO, word);
+fn say(rt: &impl Print, word: &[u8]) -> io::Result<()> {
+    rt.write_all(word)
 }
 
 // Writes an answer after a blank: a record, "none", or 50.
-fn tell_answer(a: LookupAnswer) {
+fn tell_answer(rt: &impl Print, a: LookupAnswer) -> io::Result<()> {
     match a {
         LookupAnswer::Found(r) => {
             if r == 0 {
-                say(b" none");
+                say(rt, b" none")
             } else {
-                say(b" record ");
-                io::print_decimal(STDOUT_FILENO, r as u64);
+                say(rt, b" record ")?;
+                rt.print(r)
             }
         }
-        LookupAnswer::Refused => {
-            say(b" 50");
-        }
+        LookupAnswer::Refused => say(rt, b" 50"),
     }
 }
 
 // Asks for a code.
-fn ask(name: &[u8], s: &[u8], t: &[i32], b: &[u8], code: &[u8]) {
-    say(name);
-    tell_answer(lookup::look_up(s, t, b, code));
-    say(b"\n");
+fn ask(rt: &impl Print, name: &[u8], s: &[u8], t: &[i32], b: &[u8], code: &[u8]) -> io::Result<()> {
+    say(rt, name)?;
+    tell_answer(rt, lookup::look_up(s, t, b, code))?;
+    say(rt, b"\n")
 }
 
 // Asks for a code by the index above.
-fn find(name: &[u8], code: &[u8]) {
-    ask(name, &STOPS, &TABLE, &INDEX, code);
+fn find(rt: &impl Print, name: &[u8], code: &[u8]) -> io::Result<()> {
+    ask(rt, name, &STOPS, &TABLE, &INDEX, code)
 }
 
 // Asks for A by another index.
-fn by(name: &[u8], b: &[u8]) {
-    ask(name, &STOPS, &TABLE, b, b"A");
+fn by(rt: &impl Print, name: &[u8], b: &[u8]) -> io::Result<()> {
+    ask(rt, name, &STOPS, &TABLE, b, b"A")
 }
 
 // Asks for A where record 1, the only one that is listed, has its id from a to e.
-fn place(name: &[u8], s: &[u8], a: i32, e: i32) {
+fn place(rt: &impl Print, name: &[u8], s: &[u8], a: i32, e: i32) -> io::Result<()> {
     let t = [0i32, 0, 0, 0, 0, 0, 0, a, e, 9, 9, 9, 9, 9];
-    ask(name, s, &t, b"TTX\x01\x00\x01\x01\x00\x01\x00", b"A");
+    ask(rt, name, s, &t, b"TTX\x01\x00\x01\x01\x00\x01\x00", b"A")
 }
 
 // The record with that id, or none: the code is a value.
-fn codes() {
-    find(b"A", b"A");
-    find(b"AB", b"AB");
-    find(b"B", b"B");
-    find(b"before all", b"@");
-    find(b"between A and AB", b"AA");
-    find(b"between AB and B", b"AC");
-    find(b"after all", b"C");
-    find(b"ABC", b"ABC");
-    find(b"A in quotes", b"\"A\"");
-    find(b"no code", b"");
+fn codes(rt: &impl Print) -> io::Result<()> {
+    find(rt, b"A", b"A")?;
+    find(rt, b"AB", b"AB")?;
+    find(rt, b"B", b"B")?;
+    find(rt, b"before all", b"@")?;
+    find(rt, b"between A and AB", b"AA")?;
+    find(rt, b"between AB and B", b"AC")?;
+    find(rt, b"after all", b"C")?;
+    find(rt, b"ABC", b"ABC")?;
+    find(rt, b"A in quotes", b"\"A\"")?;
+    find(rt, b"no code", b"")
 }
 
 // Before anything else is looked at, and after it.
-fn empties() {
+fn empties(rt: &impl Print) -> io::Result<()> {
     let none: [i32; 0] = [];
-    ask(b"no code, no index", b"", &none, b"", b"");
+    ask(rt, b"no code, no index", b"", &none, b"", b"")?;
     ask(
+        rt,
         b"no code, another file",
         &STOPS,
         &TABLE,
         b"TTX\x01\x00\x02\x00\x00",
         b"",
-    );
-    ask(b"no entries", b"", &none, b"TTX\x01\x00\x01\x00\x00", b"A");
+    )?;
     ask(
+        rt,
+        b"no entries",
+        b"",
+        &none,
+        b"TTX\x01\x00\x01\x00\x00",
+        b"A",
+    )?;
+    ask(
+        rt,
         b"no entries, a byte more",
         b"",
         &none,
         b"TTX\x01\x00\x01\x00\x00\x00",
         b"A",
-    );
+    )
 }
 
 // Indexes that are answered 50.
-fn indexes() {
-    by(b"no index", b"");
-    by(b"7 bytes", b"TTX\x01\x00\x01\x00");
-    by(b"another mark", b"TTY\x01\x00\x01\x01\x00\x02\x00");
-    by(b"version 0", b"TTX\x00\x00\x01\x01\x00\x02\x00");
-    by(b"version 3", b"TTX\x03\x00\x01\x01\x00\x02\x00");
-    by(b"version 257", b"TTX\x01\x01\x01\x01\x00\x02\x00");
-    by(b"file 0", b"TTX\x01\x00\x00\x01\x00\x02\x00");
-    by(b"file 2", b"TTX\x01\x00\x02\x01\x00\x02\x00");
-    by(b"a byte more", b"TTX\x01\x00\x01\x01\x00\x02\x00\x00");
-    by(b"a byte less", b"TTX\x01\x00\x01\x01\x00\x02");
-    by(b"count 2 of 1", b"TTX\x01\x00\x01\x02\x00\x02\x00");
-    by(b"count 0 of 1", b"TTX\x01\x00\x01\x00\x00\x02\x00");
+fn indexes(rt: &impl Print) -> io::Result<()> {
+    by(rt, b"no index", b"")?;
+    by(rt, b"7 bytes", b"TTX\x01\x00\x01\x00")?;
+    by(rt, b"another mark", b"TTY\x01\x00\x01\x01\x00\x02\x00")?;
+    by(rt, b"version 0", b"TTX\x00\x00\x01\x01\x00\x02\x00")?;
+    by(rt, b"version 3", b"TTX\x03\x00\x01\x01\x00\x02\x00")?;
+    by(rt, b"version 257", b"TTX\x01\x01\x01\x01\x00\x02\x00")?;
+    by(rt, b"file 0", b"TTX\x01\x00\x00\x01\x00\x02\x00")?;
+    by(rt, b"file 2", b"TTX\x01\x00\x02\x01\x00\x02\x00")?;
+    by(rt, b"a byte more", b"TTX\x01\x00\x01\x01\x00\x02\x00\x00")?;
+    by(rt, b"a byte less", b"TTX\x01\x00\x01\x01\x00\x02")?;
+    by(rt, b"count 2 of 1", b"TTX\x01\x00\x01\x02\x00\x02\x00")?;
+    by(rt, b"count 0 of 1", b"TTX\x01\x00\x01\x00\x00\x02\x00")?;
     by(
+        rt,
         b"version 2 of one",
         b"TTX\x02\x00\x01\x01\x00\x00\x00\x02\x00\x00\x00",
-    );
-    by(b"version 2 of none", b"TTX\x02\x00\x01\x00\x00\x00\x00");
-    by(b"version 2, 8 bytes", b"TTX\x02\x00\x01\x00\x00");
-    by(b"version 2, 9 bytes", b"TTX\x02\x00\x01\x00\x00\x01");
+    )?;
+    by(rt, b"version 2 of none", b"TTX\x02\x00\x01\x00\x00\x00\x00")?;
+    by(rt, b"version 2, 8 bytes", b"TTX\x02\x00\x01\x00\x00")?;
+    by(rt, b"version 2, 9 bytes", b"TTX\x02\x00\x01\x00\x00\x01")
 }
 
 // Entries that are wrong: the answer is that of those that are probed.
-fn entries() {
-    by(b"one entry", b"TTX\x01\x00\x01\x01\x00\x02\x00");
-    by(b"two entries", b"TTX\x01\x00\x01\x02\x00\x02\x00\x03\x00");
-    by(b"record 4", b"TTX\x01\x00\x01\x01\x00\x04\x00");
-    by(b"record 65,535", b"TTX\x01\x00\x01\x01\x00\xFF\xFF");
-    by(b"record 0", b"TTX\x01\x00\x01\x01\x00\x00\x00");
+fn entries(rt: &impl Print) -> io::Result<()> {
+    by(rt, b"one entry", b"TTX\x01\x00\x01\x01\x00\x02\x00")?;
     by(
+        rt,
+        b"two entries",
+        b"TTX\x01\x00\x01\x02\x00\x02\x00\x03\x00",
+    )?;
+    by(rt, b"record 4", b"TTX\x01\x00\x01\x01\x00\x04\x00")?;
+    by(rt, b"record 65,535", b"TTX\x01\x00\x01\x01\x00\xFF\xFF")?;
+    by(rt, b"record 0", b"TTX\x01\x00\x01\x01\x00\x00\x00")?;
+    by(
+        rt,
         b"record 4 second of three",
         b"TTX\x01\x00\x01\x03\x00\x02\x00\x04\x00\x01\x00",
-    );
+    )?;
     by(
+        rt,
         b"record 4 third of three",
         b"TTX\x01\x00\x01\x03\x00\x02\x00\x03\x00\x04\x00",
-    );
+    )?;
     by(
+        rt,
         b"another's, first of three",
         b"TTX\x01\x00\x01\x03\x00\x01\x00\x03\x00\x01\x00",
-    );
+    )
 }
 
 // Id places.
-fn places() {
-    place(b"A", &STOPS, 45, 46);
-    place(b"A in quotes", &STOPS, 44, 47);
-    place(b"another", &STOPS, 36, 37);
-    place(b"start and end alike", &STOPS, 45, 45);
-    place(b"at the end", &STOPS, 63, 63);
-    place(b"backward", &STOPS, 46, 45);
-    place(b"a byte past the end", &STOPS, 62, 64);
-    place(b"past the end", &STOPS, 64, 64);
-    place(b"start -1", &STOPS, -1, 46);
-    place(b"end -1", &STOPS, 45, -1);
-    place(b"both -1", &STOPS, -1, -1);
-    place(b"least and greatest", &STOPS, -2147483648, 2147483647);
+fn places(rt: &impl Print) -> io::Result<()> {
+    place(rt, b"A", &STOPS, 45, 46)?;
+    place(rt, b"A in quotes", &STOPS, 44, 47)?;
+    place(rt, b"another", &STOPS, 36, 37)?;
+    place(rt, b"start and end alike", &STOPS, 45, 45)?;
+    place(rt, b"at the end", &STOPS, 63, 63)?;
+    place(rt, b"backward", &STOPS, 46, 45)?;
+    place(rt, b"a byte past the end", &STOPS, 62, 64)?;
+    place(rt, b"past the end", &STOPS, 64, 64)?;
+    place(rt, b"start -1", &STOPS, -1, 46)?;
+    place(rt, b"end -1", &STOPS, 45, -1)?;
+    place(rt, b"both -1", &STOPS, -1, -1)?;
+    place(rt, b"least and greatest", &STOPS, -2147483648, 2147483647)
 }
 
 // The bytes at an id place.
-fn fields() {
-    place(b"LF", b"A\n", 0, 2);
-    place(b"LF in quotes", b"\"A\n\"", 0, 4);
-    place(b"two fields", b"A,B", 0, 3);
-    place(b"a comma in quotes", b"\"A,B\"", 0, 5);
-    place(b"a mark that isn't closed", b"\"A", 0, 2);
-    place(b"a mark within", b"A\"", 0, 2);
-    place(b"text behind a mark", b"\"A\"B", 0, 4);
-    place(b"tab", b"A\t", 0, 2);
-    place(b"CR", b"A\r", 0, 2);
-    place(b"half a character", b"A\xC3", 0, 2);
+fn fields(rt: &impl Print) -> io::Result<()> {
+    place(rt, b"LF", b"A\n", 0, 2)?;
+    place(rt, b"LF in quotes", b"\"A\n\"", 0, 4)?;
+    place(rt, b"two fields", b"A,B", 0, 3)?;
+    place(rt, b"a comma in quotes", b"\"A,B\"", 0, 5)?;
+    place(rt, b"a mark that isn't closed", b"\"A", 0, 2)?;
+    place(rt, b"a mark within", b"A\"", 0, 2)?;
+    place(rt, b"text behind a mark", b"\"A\"B", 0, 4)?;
+    place(rt, b"tab", b"A\t", 0, 2)?;
+    place(rt, b"CR", b"A\r", 0, 2)?;
+    place(rt, b"half a character", b"A\xC3", 0, 2)
 }
 
 // A record that lies only partly in the table.
-fn cut() {
+fn cut(rt: &impl Print) -> io::Result<()> {
     let six = [0i32, 0, 0, 0, 0, 0, 0, 45, 46, 9, 9, 9, 9];
     ask(
+        rt,
         b"a number short",
         &STOPS,
         &six,
         b"TTX\x01\x00\x01\x01\x00\x01\x00",
         b"A",
-    );
+    )?;
     let two = [0i32, 0, 0, 0, 0, 0, 0, 45, 46];
     ask(
+        rt,
         b"its place alone",
         &STOPS,
         &two,
         b"TTX\x01\x00\x01\x01\x00\x01\x00",
         b"A",
-    );
+    )?;
     let long = [0i32, 0, 0, 0, 0, 0, 0, 45, 46, 9, 9, 9, 9, 9, 9];
     ask(
+        rt,
         b"a number more",
         &STOPS,
         &long,
         b"TTX\x01\x00\x01\x01\x00\x01\x00",
         b"A",
-    );
+    )
 }
 
 // Bytes above 127 are greater than all others.
-fn high() {
+fn high(rt: &impl Print) -> io::Result<()> {
     let t = [
         0i32, 0, 0, 0, 0, 0, 0, 0, 1, 9, 9, 9, 9, 9, 1, 3, 9, 9, 9, 9, 9,
     ];
     let b = *b"TTX\x01\x00\x01\x02\x00\x01\x00\x02\x00";
-    ask(b"z", b"z\xC3\xA9", &t, &b, b"z");
-    ask(b"two bytes above 127", b"z\xC3\xA9", &t, &b, b"\xC3\xA9");
-    ask(b"one of them", b"z\xC3\xA9", &t, &b, b"\xC3");
+    ask(rt, b"z", b"z\xC3\xA9", &t, &b, b"z")?;
+    ask(
+        rt,
+        b"two bytes above 127",
+        b"z\xC3\xA9",
+        &t,
+        &b,
+        b"\xC3\xA9",
+    )?;
+    ask(rt, b"one of them", b"z\xC3\xA9", &t, &b, b"\xC3")
 }
 
 // As many records as have an index of version 2 at the least.
@@ -339,49 +366,49 @@ fn second_index() -> [u8; 262154] {
 }
 
 // Both versions, of as many entries as they can have, and as they must have.
-fn many(s: &[u8], t: &[i32], b: &[u8]) {
-    ask(b"  first", s, t, b, b"aaaa");
-    ask(b"  second", s, t, b, b"aaab");
-    ask(b"  middle", s, t, b, b"iaaa");
-    ask(b"  last but one", s, t, b, b"pppo");
-    ask(b"  last", s, t, b, b"pppp");
-    ask(b"  before all", s, t, b, b"aaa");
-    ask(b"  between", s, t, b, b"iaaaa");
-    ask(b"  after all", s, t, b, b"q");
+fn many(rt: &impl Print, s: &[u8], t: &[i32], b: &[u8]) -> io::Result<()> {
+    ask(rt, b"  first", s, t, b, b"aaaa")?;
+    ask(rt, b"  second", s, t, b, b"aaab")?;
+    ask(rt, b"  middle", s, t, b, b"iaaa")?;
+    ask(rt, b"  last but one", s, t, b, b"pppo")?;
+    ask(rt, b"  last", s, t, b, b"pppp")?;
+    ask(rt, b"  before all", s, t, b, b"aaa")?;
+    ask(rt, b"  between", s, t, b, b"iaaaa")?;
+    ask(rt, b"  after all", s, t, b, b"q")
 }
 
 // The same with a record less in the table, and with an entry less.
-fn shorter(s: &[u8], t: &[i32], b: &[u8]) {
+fn shorter(rt: &impl Print, s: &[u8], t: &[i32], b: &[u8]) -> io::Result<()> {
     if t.len() < 7 || b.len() < 4 {
-        return;
+        return Ok(());
     }
-    ask(b"  a record less", s, &t[..t.len() - 7], b, b"pppp");
-    ask(b"  an entry less", s, t, &b[..b.len() - 4], b"aaaa");
+    ask(rt, b"  a record less", s, &t[..t.len() - 7], b, b"pppp")?;
+    ask(rt, b"  an entry less", s, t, &b[..b.len() - 4], b"aaaa")
 }
 
-fn first() {
-    say(b"65,535 entries\n");
-    many(&many_ids(), &many_records(), &first_index());
+fn first(rt: &impl Print) -> io::Result<()> {
+    say(rt, b"65,535 entries\n")?;
+    many(rt, &many_ids(), &many_records(), &first_index())
 }
 
-fn second() {
-    say(b"65,536 entries\n");
+fn second(rt: &impl Print) -> io::Result<()> {
+    say(rt, b"65,536 entries\n")?;
     let s = many_ids();
     let t = many_records();
     let b = second_index();
-    many(&s, &t, &b);
-    shorter(&s, &t, &b);
+    many(rt, &s, &t, &b)?;
+    shorter(rt, &s, &t, &b)
 }
 
-fn main() {
-    codes();
-    empties();
-    indexes();
-    entries();
-    places();
-    fields();
-    cut();
-    high();
-    first();
-    second();
+fn main(rt: HostRuntime) -> io::Result<()> {
+    codes(&rt)?;
+    empties(&rt)?;
+    indexes(&rt)?;
+    entries(&rt)?;
+    places(&rt)?;
+    fields(&rt)?;
+    cut(&rt)?;
+    high(&rt)?;
+    first(&rt)?;
+    second(&rt)
 }
