@@ -7,7 +7,7 @@ use native.Mathlib.Omega.{arith}
 use Rattle.records.proofs.put_trip.Goals as goal
 
 pub field_place-id-requires : goal.field_place-id-requires
-field_place-id-requires c = (omega arith, c.requires.lies.0)
+field_place-id-requires c = (omega arith, (c.requires.lies.0.0, omega (arith, c.requires.lies.0.1)))
 
 pub choice_or_minus-direction-requires : goal.choice_or_minus-direction-requires
 choice_or_minus-direction-requires c = (omega arith, c.requires.lies.0.0)

@@ -15,7 +15,7 @@ is_repeat-requires c = (room_less c.loop-k-test.true c.requires.0.room, omega (a
 pub get-requires : goal.get-requires
 get-requires c =
     let r = c.requires.0.room in
-    (r.wide, room_row r c.loop-k.k c.loop-k-test.true)
+    (r.wide, room_row r _ (omega (arith, c.loop-k-test.true)))
 
 pub mark-requires : goal.mark-requires
 mark-requires c = c.requires.1

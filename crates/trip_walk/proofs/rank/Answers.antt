@@ -22,7 +22,7 @@ returns-then-is_steady c = record {
 
 pub sort-requires : goal.sort-requires
 sort-requires c =
-    (record { wide = omega arith; narrow = omega arith; rows = rw c.list_all.ensures.kept_at.size c.requires.n_in_bounds.0 }, omega arith)
+    (record { wide = omega arith; narrow = omega arith; rows = omega (arith, c.list_all.ensures.kept_at.size, c.requires.n_in_bounds.0) }, omega arith)
 
 pub returns : goal.returns
 returns c = record {

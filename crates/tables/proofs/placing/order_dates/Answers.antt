@@ -28,11 +28,8 @@ pub arrange_from-requires : goal.arrange_from-requires
 unfolding width_of widths
 arrange_from-requires c =
     let room = fits_room 6 _ _ c.requires (omega (arith, c.if-s-eq0.false)) in
-    let k = order_room 2 6 (omega arith) c.args.s.now c.args.t.now _ _ room (c.mark_dates.ensures.kept_at.size ∙ ap length c.place_file-n.ensures.t_after ∙ placed_length 6 (omega arith) (omega arith) _ _ room) c.place_file-n.ensures.result_value in record {
-      room_at = (k.0, omega arith, k.1);
-      a_lt_w = (omega arith, λ e. omega arith);
-      whole = (c.mark_dates.ensures.arranged_by.whole, c.mark_dates.ensures.arranged_by.apart);
-    }
+    let k = order_room 2 6 (omega arith) c.args.s.now c.args.t.now _ _ room (c.mark_dates.ensures.kept_at.size ∙ ap length c.place_file-n.ensures.t_after ∙ placed_length 6 (omega arith) (omega arith) _ _ room) c.place_file-n.ensures.result_value in
+    record { room_at = (k.0, omega arith, k.1); a_lt_w = (omega arith, λ e. omega arith); whole = (c.mark_dates.ensures.arranged_by.whole, c.mark_dates.ensures.arranged_by.apart) }
 
 pub returns : goal.returns
 unfolding width_of widths
