@@ -28,7 +28,7 @@ class Browser:
                                         stdout=subprocess.DEVNULL, stderr=subprocess.DEVNULL, start_new_session=True)
         os.close(to_read)
         os.close(to_write)
-        self.rest, self.number, self.session, self.events, self.frame = b"", 0, None, [], None
+        self.rest, self.number, self.session, self.events = b"", 0, None, []
         self.call("Target.setDiscoverTargets", discover=False)
         target = self.call("Target.createTarget", url="about:blank")["targetId"]
         self.session = self.call("Target.attachToTarget", targetId=target, flatten=True)["sessionId"]
@@ -54,11 +54,11 @@ class Browser:
         text, self.rest = self.rest.split(b"\0", 1)
         return json.loads(text)
 
-    def call(self, method, session=None, **parameters):
+    def call(self, method, **parameters):
         self.number += 1
         asked = {"id": self.number, "method": method, "params": parameters}
-        if session or self.session:
-            asked["sessionId"] = session or self.session
+        if self.session:
+            asked["sessionId"] = self.session
         os.write(self.to, json.dumps(asked).encode() + b"\0")
         while True:
             said = self.message()
@@ -66,26 +66,11 @@ class Browser:
                 if "error" in said:
                     raise RuntimeError(f"{method}: {said['error']}")
                 return said["result"]
-            self.note(said)
-
-    # Keeps what happened; a frame of another origin has a session of its own.
-    def note(self, said):
-        self.events.append(said)
-        if said.get("method") == "Target.attachedToTarget" and said["params"]["targetInfo"]["type"] == "iframe":
-            self.frame = said["params"]["sessionId"]
-        if said.get("method") == "Target.detachedFromTarget" and said["params"]["sessionId"] == self.frame:
-            self.frame = None
-
-    # Waits for something to happen.
-    def event(self, method, seconds=20):
-        end = time.monotonic() + seconds
-        while not (found := [event for event in self.events if event.get("method") == method]):
-            self.note(self.message(max(0.1, end - time.monotonic())))
-        return found[-1]
+            self.events.append(said)
 
     # The value of an expression in the page; a promise is waited for.
-    def value(self, expression, session=None):
-        said = self.call("Runtime.evaluate", session=session, expression=expression, awaitPromise=True, returnByValue=True)
+    def value(self, expression):
+        said = self.call("Runtime.evaluate", expression=expression, awaitPromise=True, returnByValue=True)
         if "exceptionDetails" in said:
             raise RuntimeError(f"{expression}: {said['exceptionDetails']}")
         return said["result"].get("value")
@@ -100,32 +85,20 @@ class Browser:
 
     # Opens a file and waits until its script is through; gives the seconds that took.
     def open(self, path):
-        return self.go("file://" + os.path.abspath(path))
-
-    # The same with an address, and with what it shows in a frame.
-    def go(self, address):
         self.events = []
         began = time.monotonic()
-        self.call("Target.setAutoAttach", autoAttach=True, waitForDebuggerOnStart=False, flatten=True)
+        address = "file://" + os.path.abspath(path)
         self.call("Page.navigate", url=address)
         self.wait(f"location.href === '{address}' && document.documentElement?.dataset.ready !== undefined")
         return time.monotonic() - began
 
-    # Waits until a condition is true, on the page or where else `look` looks.
-    def wait(self, condition, seconds=60, look=None):
+    # Waits until a condition is true.
+    def wait(self, condition, seconds=60):
         end = time.monotonic() + seconds
-        while not (look or self.value)(condition):
+        while not self.value(condition):
             if time.monotonic() > end:
                 raise TimeoutError(condition)
             time.sleep(0.02)
-
-    # A value in the frame that the page shows, and a wait for one.
-    def framed(self, expression):
-        self.value("0")
-        return self.value(expression, session=self.frame) if self.frame else None
-
-    def wait_framed(self, condition, seconds=60):
-        self.wait(condition, seconds, self.framed)
 
     def click(self, x, y):
         for kind in ["mousePressed", "mouseReleased"]:

@@ -167,14 +167,3 @@ def long_trip(folder):
     calls = [f"T,{trip_time(place)},{trip_time(place)},A,{place}" for place in range(1, MOST_LINES)]
     return put(folder, ["stop_id,stop_name,stop_lat,stop_lon", "A,Alder,1,2"], ["route_id,route_short_name,route_type", "R,1,3"], CALENDAR + [WEEK],
                ["route_id,service_id,trip_id", "R,W,T"], ["trip_id,arrival_time,departure_time,stop_id,stop_sequence"] + calls)
-
-
-# An accepted feed whose lines of stop_times.txt stand in no order: its check takes some seconds, and its answer is short.
-def crowd(folder, count=200_000):
-    random.seed(47)
-    trips = count // 2
-    stops = ["stop_id,stop_name,stop_lat,stop_lon"] + [f"S{n},Stop {n},{n % 90},{n % 180}" for n in range(count)]
-    names = ["route_id,service_id,trip_id"] + [f"R,W,T{n}" for n in range(trips)]
-    calls = [f"T{n // 2},{8 + n % 2:02}:00:00,{8 + n % 2:02}:00:00,S{n},{n % 2}" for n in range(2 * trips)]
-    random.shuffle(calls)
-    return put(folder, stops, ["route_id,route_short_name,route_type", "R,1,3"], CALENDAR + [WEEK], names, ["trip_id,arrival_time,departure_time,stop_id,stop_sequence"] + calls)

@@ -10,11 +10,20 @@ import time
 sys.path.insert(0, os.path.dirname(os.path.abspath(__file__)))
 import feeds  # noqa: E402
 from browser import Browser  # noqa: E402
-from claims import holds, same  # noqa: E402
 
 TOP = os.path.dirname(os.path.dirname(os.path.abspath(__file__)))
 PROGRAM, PICTURES = sys.argv[1:-1], sys.argv[-1]
 PAGE = 50
+
+
+def same(what, have, wanted):
+    if have != wanted:
+        raise AssertionError(f"{what}:\n  have   {have!r}\n  wanted {wanted!r}")
+
+
+def holds(what, condition):
+    if not condition:
+        raise AssertionError(what)
 
 
 # A feed with its page and what the command says of it otherwise, with options that both take; all are made at the same time.

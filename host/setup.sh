@@ -4,7 +4,7 @@ program=$top/host/target/tusuchiy
 log=$top/host/target/setup.log
 
 # What the command is made from. The archive is made from the crates, unless one lies in TUSUCHIY_ARCHIVE_DIR.
-sources=("$top"/docs/{RULES.md,openapi.json} "$top/.cargo/config.toml" "$top"/host/{,tusuchiy/}Cargo.toml "$top"/host/tusuchiy/{build.rs,src})
+sources=("$top/docs/RULES.md" "$top/.cargo/config.toml" "$top"/host/{,tusuchiy/}Cargo.toml "$top"/host/tusuchiy/{build.rs,src})
 if [ -z "${TUSUCHIY_ARCHIVE_DIR:-}" ]; then
     unset TUSUCHIY_ARCHIVE_DIR
     archive=$top/crates/tusuchiy_c/out/libtusuchiy_c.a

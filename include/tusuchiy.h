@@ -1,4 +1,4 @@
-/* tusuchiy.h: the proved check of GTFS feeds, its list of faults, its index and its lookup, for C and C++.
+/* tusuchiy.h: the proved check of GTFS feeds, its list of faults and its index, for C and C++.
  * Link with libtusuchiy_c.a (x86-64 Linux). */
 #ifndef TUSUCHIY_H
 #define TUSUCHIY_H
@@ -11,8 +11,8 @@ extern "C" {
 #endif
 
 /* The version of the check, as a text and as a number: 10000 for each major, 100 for each minor step. */
-#define TUSUCHIY_VERSION "0.11.0"
-#define TUSUCHIY_VERSION_NUMBER 1100
+#define TUSUCHIY_VERSION "0.10.0"
+#define TUSUCHIY_VERSION_NUMBER 1000
 
 /* The six files have numbers: in `file` of an answer, of a finding and of a fault. */
 enum {
@@ -83,9 +83,7 @@ enum {
     TUSUCHIY_REFUSAL_INDEX_RECORD = 43,
     TUSUCHIY_REFUSAL_INDEX_ORDER = 44,
     TUSUCHIY_REFUSAL_INDEX_REPEATED_ID = 45,
-    TUSUCHIY_REFUSAL_INDEX_BUFFER = 46,
-    /* Of the lookup alone: the index or the table doesn't fit stops.txt. */
-    TUSUCHIY_REFUSAL_LOOKUP = 50
+    TUSUCHIY_REFUSAL_INDEX_BUFFER = 46
 };
 
 /* The rules of findings: 20 to 31 are tested by every call, 60 to 62 where the profile for boards is asked for. */
@@ -250,47 +248,6 @@ tusuchiy_index_answer tusuchiy_index_write(
  * file in which an id stands twice never do. */
 tusuchiy_index_answer tusuchiy_index_check(
     int32_t file_number, const uint8_t *file, size_t file_len, const uint8_t *index, size_t index_len);
-
-typedef struct {
-    int32_t number; /* 0 looked up, 50 refused */
-    int32_t record; /* the record of stops.txt whose id is the code; 0 where there is none, or 50 is answered */
-} tusuchiy_lookup_answer;
-
-/* Looks up one code: finds the stop with that id by halving the index, and reads no line.
- *
- * stops: the bytes of stops.txt. stops_table: its table, as tusuchiy_check leaves it, with a length in numbers.
- *   index: its index, as tusuchiy_index_write writes it. Any bytes and numbers may stand in all of these.
- * code: the id that is sought, as a value: without the quotation marks in which it may stand in the file, whose own
- *   would be part of it. It may have any bytes and any length.
- * All four are only read. Nothing is written.
- *
- * In this order:
- *   a code of length 0 has no record, whatever else is lent;
- *   50 where the index has fewer than 8 bytes or another mark; a version other than 1 and 2; another file number than 1;
- *   another length than that of its own count; or version 2 and a count of 65,535 or fewer. The count isn't compared
- *   with the file;
- *   an index of no entries has no record, whatever file and table are lent;
- *   then, while more than one entry is left, the id of the middle one (the later of two) is compared with the code: if
- *   the code comes before it, the entries before it are left, else it and those behind it. The one that is left at last
- *   answers: its record where the code is its id, else 0. 50 where a record on this way isn't whole in the table; where
- *   its id place has an end before its start, or isn't in the file; or where the bytes at that place aren't one field:
- *   misplaced quotation marks, a comma outside of them, or an LF. Any other byte may stand there, and so may none. A
- *   record past 2,147,483,647, which a table of less than fifteen billion numbers doesn't have, is answered 50 too.
- *
- * What the answer is worth: with the table that tusuchiy_check left for just these bytes of stops.txt, and an index that
- * tusuchiy_index_check accepts for them, it is that of reading every line, and never 50. Any other table or index is as
- * safe to lend, but nobody reads it all: the answer may hang on which entries are on the way, and may be a record, none
- * or 50. So make both anew when the file changes.
- *
- * Pointers and threads are as for tusuchiy_check; files, tables and indexes may overlap, since nothing is written, and
- * several threads may share them. The call allocates no memory, opens no file and holds no state between calls. It looks
- * at no more than 33 ids, in a file of 1,048,576 lines at 21, which in the check's tables are short; in another table a
- * place may be as long as the file, and all of it is read. A call uses at most 16 KiB of stack, whatever is lent. */
-tusuchiy_lookup_answer tusuchiy_lookup(
-    const uint8_t *stops, size_t stops_len,
-    const int32_t *stops_table, size_t stops_table_len,
-    const uint8_t *index, size_t index_len,
-    const uint8_t *code, size_t code_len);
 
 #ifdef __cplusplus
 }

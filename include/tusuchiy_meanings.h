@@ -4,7 +4,7 @@
 
 #include <stdint.h>
 
-/* The meaning of a refusal (1 to 14, 40 to 46, 50) or a rule (20 to 31, 60 to 62); "" for any other number. The words may change, the numbers don't. */
+/* The meaning of a refusal (1 to 14, 40 to 46) or a rule (20 to 31, 60 to 62); "" for any other number. The words may change, the numbers don't. */
 static inline const char *tusuchiy_meaning(int32_t number) {
     switch (number) {
     case 1: return "the file is longer than 134,217,728 bytes";
@@ -43,7 +43,6 @@ static inline const char *tusuchiy_meaning(int32_t number) {
     case 44: return "the ids don't rise from entry to entry of the index";
     case 45: return "an id stands on two lines, so the file has no index";
     case 46: return "the buffer lent for the index is too short";
-    case 50: return "the index or the table doesn't fit stops.txt";
     default: return "";
     }
 }

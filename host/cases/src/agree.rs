@@ -1,13 +1,12 @@
-//! A check, writer and reader of an index, the lookup by it, and the list of all faults, held to the customer's cases and to the model: by
-//! threads of this process, or by processes that have one thread each ([`crate::processes`]).
+//! A check, writer and reader of an index, and the list of all faults, held to the customer's cases and to the model: by threads of this process,
+//! or by processes that have one thread each ([`crate::processes`]).
 
 use crate::index::versions;
 use crate::large;
 use crate::large::families::FAMILIES;
 use crate::large::limits::{around_16_bits, at_the_limits, AROUND, FEEDS};
 use crate::listing::mend::{mendable, only_what_was_hidden, rounds};
-use crate::lookup::many;
-use crate::{by_model, difference, edges, generate, index, listing, lookup, vectors, Case, Outcome};
+use crate::{by_model, difference, edges, generate, index, listing, vectors, Case, Outcome};
 use model::faults::{faults, Fault};
 use model::{Answer, Files, Profile};
 use std::{panic, thread};
@@ -176,62 +175,6 @@ pub fn on_generated_calls_about_an_index(indexes: Indexes, seeds: usize) -> Comp
     Comparison::new(seeds, move |seed| {
         let case = index::generate::case(seed as u64);
         with_index_outcome(indexes, &case, &index::by_model(&case));
-    })
-}
-
-/// What a lookup answers to a call.
-pub type Lookups = fn(&lookup::Case) -> model::lookup::Answer;
-
-/// Fails where a lookup doesn't answer what is wanted.
-pub fn with_lookup_answer(lookups: Lookups, case: &lookup::Case, wanted: model::lookup::Answer) {
-    let got = lookups(case);
-    assert!(got == wanted, "wanted {wanted:?}, got {got:?}: {}", case.words());
-}
-
-/// The same, and what reading every line gives, where it has to be that. The latter knows of no halving.
-pub fn with_lookup_truth(lookups: Lookups, case: &lookup::Case, wanted: model::lookup::Answer) {
-    with_lookup_answer(lookups, case, wanted);
-    if let Some(truth) = lookup::truth(case) {
-        assert!(truth == wanted, "{wanted:?}, but by every line {truth:?}: {}", case.words());
-    }
-}
-
-/// The customer's lookups: what each must answer, and where that is left open what the model does.
-pub fn on_every_vector_about_a_lookup(lookups: Lookups) -> Comparison<'static> {
-    let vectors = vectors::lookups();
-    Comparison::new(vectors.len(), move |place| {
-        let (case, wanted) = &vectors[place];
-        let got = lookups(case);
-        assert!(case.is_answered(*wanted, got), "wanted {wanted:?}, got {got:?}: {}", case.words());
-        with_lookup_truth(lookups, case, lookup::by_model(case));
-    })
-}
-
-pub fn on_every_edge_case_about_a_lookup(lookups: Lookups) -> Comparison<'static> {
-    let calls = lookup::edges::cases();
-    Comparison::new(calls.len(), move |place| with_lookup_truth(lookups, &calls[place].0, calls[place].1))
-}
-
-/// Every index of three entries, whatever they list.
-pub fn on_lookups_by_every_list(lookups: Lookups) -> Comparison<'static> {
-    let cases = lookup::edges::every_list();
-    Comparison::new(cases.len(), move |place| {
-        with_lookup_truth(lookups, &cases[place], lookup::by_model(&cases[place]));
-    })
-}
-
-/// As many stops as version 1 of an index counts, and more. Which has which code is known beforehand.
-pub fn on_lookups_among_many(lookups: Lookups) -> Comparison<'static> {
-    Comparison::new(many::CALLS, move |place| {
-        let (case, wanted) = many::among_many(place);
-        with_lookup_answer(lookups, &case, wanted);
-    })
-}
-
-pub fn on_generated_lookups(lookups: Lookups, seeds: usize) -> Comparison<'static> {
-    Comparison::new(seeds, move |seed| {
-        let case = lookup::generate::case(seed as u64);
-        with_lookup_truth(lookups, &case, lookup::by_model(&case));
     })
 }
 
@@ -425,48 +368,6 @@ mod tests {
     #[should_panic(expected = "number: 44")]
     fn another_refusal_fails_on_vectors() {
         on_every_vector_about_an_index(one_refusal).on_threads();
-    }
-
-    /// The model's answer, but nobody is refused.
-    fn unrefused(case: &lookup::Case) -> model::lookup::Answer {
-        model::lookup::Answer { number: 0, ..lookup::by_model(case) }
-    }
-
-    #[test]
-    #[should_panic(expected = "got Answer { number: 0, record: 0 }")]
-    fn a_lookup_that_refuses_nothing_fails_on_vectors() {
-        on_every_vector_about_a_lookup(unrefused).on_threads();
-    }
-
-    #[test]
-    #[should_panic(expected = "got Answer { number: 0, record: 0 }")]
-    fn a_lookup_that_refuses_nothing_fails_on_edge_cases() {
-        on_every_edge_case_about_a_lookup(unrefused).on_threads();
-    }
-
-    #[test]
-    #[should_panic(expected = "got Answer { number: 0, record: 0 }")]
-    fn a_lookup_that_refuses_nothing_fails_by_some_list() {
-        on_lookups_by_every_list(unrefused).on_threads();
-    }
-
-    #[test]
-    #[should_panic(expected = "got Answer { number: 0, record: 0 }")]
-    fn a_lookup_that_refuses_nothing_fails_on_generated_calls() {
-        on_generated_lookups(unrefused, 100).on_threads();
-    }
-
-    /// The model's answer, but among so many stops as have version 2 none is found.
-    fn narrow(case: &lookup::Case) -> model::lookup::Answer {
-        let wide = case.index.get(3) == Some(&2);
-        let answer = lookup::by_model(case);
-        model::lookup::Answer { record: if wide { 0 } else { answer.record }, ..answer }
-    }
-
-    #[test]
-    #[should_panic(expected = "got Answer { number: 0, record: 0 }")]
-    fn a_lookup_that_takes_one_version_fails_among_many() {
-        on_lookups_among_many(narrow).on_threads();
     }
 
     /// The model's outcome, but no fault has a column.

@@ -15,7 +15,6 @@ pub mod large;
 pub mod limits;
 pub mod lines;
 pub mod listing;
-pub mod lookup;
 pub mod nodes;
 pub mod orders;
 pub mod processes;

@@ -1,39 +1,32 @@
-//! Reads vector files; their form is explained at the top of vectors/e5.txt.
+//! Reads vector files; their form is explained at the top of vectors/e9.txt.
 
 use crate::index::{self, Asked};
-use crate::lookup::{self, Wanted};
 use crate::{Case, Outcome};
 use model::{Answer, Files, Profile, Tables};
 
-/// The customer's vectors for document 01 with E2, E1, E6, E7, E4, E10, E13, E9 and E5; the first line says so.
-pub const E5: &str = include_str!("../vectors/e5.txt");
+/// The customer's vectors for document 01 with E2, E1, E6, E7, E4, E10, E13 and E9; the first line says so.
+pub const E9: &str = include_str!("../vectors/e9.txt");
 
-/// A case of a vector file with what the check must give, and the calls about indexes and the lookups with what each must give.
+/// A case of a vector file with what the check must give, and the calls about indexes with what each must give.
 #[derive(Debug)]
 pub struct Vector {
     pub case: Case,
     pub outcome: Outcome,
     pub indexes: Vec<(index::Case, index::Outcome)>,
-    pub lookups: Vec<(lookup::Case, Wanted)>,
 }
 
 /// The customer's cases with what each must give.
 pub fn customers() -> Vec<(Case, Outcome)> {
-    all_of_e5().into_iter().map(|vector| (vector.case, vector.outcome)).collect()
+    all_of_e9().into_iter().map(|vector| (vector.case, vector.outcome)).collect()
 }
 
 /// The customer's calls about indexes with what each must give.
 pub fn indexes() -> Vec<(index::Case, index::Outcome)> {
-    all_of_e5().into_iter().flat_map(|vector| vector.indexes).collect()
+    all_of_e9().into_iter().flat_map(|vector| vector.indexes).collect()
 }
 
-/// The customer's lookups with what each must answer.
-pub fn lookups() -> Vec<(lookup::Case, Wanted)> {
-    all_of_e5().into_iter().flat_map(|vector| vector.lookups).collect()
-}
-
-fn all_of_e5() -> Vec<Vector> {
-    read(E5).expect("vectors/e5.txt is well-formed")
+fn all_of_e9() -> Vec<Vector> {
+    read(E9).expect("vectors/e9.txt is well-formed")
 }
 
 /// The cases of a vector file, or what is wrong with it and where.
@@ -63,7 +56,7 @@ fn case(lines: &[Vec<&str>]) -> Result<Vector, String> {
     let mut case = Case::default();
     let mut answer = None;
     let mut held: Vec<(usize, Vec<i32>)> = Vec::new();
-    let (mut calls, mut asked): (Vec<&[&str]>, Vec<&[&str]>) = Default::default();
+    let mut calls: Vec<&[&str]> = Vec::new();
     for words in lines {
         match words[..] {
             ["case", name] => case.name = name.to_string(),
@@ -77,7 +70,6 @@ fn case(lines: &[Vec<&str>]) -> Result<Vector, String> {
             ["answer", ref words @ ..] => answer = Some(read_answer(words)?),
             ["held", table, ref numbers @ ..] => held.push((number(table)?, all(numbers)?)),
             ["index_write" | "wrote" | "buffer" | "index_check" | "judged", ..] => calls.push(words),
-            ["lookup" | "found", ..] => asked.push(words),
             _ => return Err(format!("unknown words: {words:?}")),
         }
     }
@@ -87,8 +79,7 @@ fn case(lines: &[Vec<&str>]) -> Result<Vector, String> {
         *slot(&mut outcome.tables, &mut outcome.list, table)? = numbers;
     }
     let indexes = indexes_of(&case, &calls)?;
-    let lookups = lookups_of(&case, &outcome, &asked)?;
-    Ok(Vector { case, outcome, indexes, lookups })
+    Ok(Vector { case, outcome, indexes })
 }
 
 /// The calls about indexes, each with what it answers and leaves.
@@ -113,33 +104,6 @@ fn indexes_of(of: &Case, calls: &[&[&str]]) -> Result<Vec<(index::Case, index::O
         indexes.push((index::Case { file, ..case }, index::Outcome { answer: index_answer(answer)?, lent: after }));
     }
     Ok(indexes)
-}
-
-/// The lookups, each with what it must answer.
-fn lookups_of(of: &Case, left: &Outcome, asked: &[&[&str]]) -> Result<Vec<(lookup::Case, Wanted)>, String> {
-    let call = |words: &[&[&str]]| {
-        let [["lookup", table, index, code], ["found", number, record, how]] = words else {
-            return Err(format!("not the words of a lookup: {words:?}"));
-        };
-        let table = if *table == "check" { left.tables[0].clone() } else { joined(table)? };
-        let [index, code] = [hex(index)?, hex(code)?];
-        let answer = model::lookup::Answer { number: self::number(number)?, record: self::number(record)? };
-        let wanted = match *how {
-            "exact" => Wanted::Exactly(answer),
-            "any" => Wanted::Any,
-            _ => return Err(format!("neither exact nor any: {how}")),
-        };
-        Ok((lookup::Case { name: of.name.clone(), stops: of.files[0].clone(), table, index, code }, wanted))
-    };
-    asked.chunks(2).map(call).collect()
-}
-
-/// Numbers joined by commas; "-" means none.
-fn joined(word: &str) -> Result<Vec<i32>, String> {
-    match word {
-        "-" => Ok(Vec::new()),
-        _ => all(&word.split(',').collect::<Vec<_>>()),
-    }
 }
 
 /// What a call about an index answers: five numbers.

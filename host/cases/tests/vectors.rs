@@ -1,13 +1,12 @@
 //! The model against the customer's sample of cases: answer, all tables and the list, whole.
 
 use cases::index::Asked;
-use cases::lookup::{self, Wanted};
 use cases::{by_model, difference, index, vectors, Case};
 use model::Profile;
 
 #[test]
 fn the_model_agrees_with_every_vector() {
-    assert_eq!(vectors::E5.lines().next(), Some("# Document 01 with requests E2,E1,E6,E7,E4,E10,E13,E9,E5 in force."));
+    assert_eq!(vectors::E9.lines().next(), Some("# Document 01 with requests E2,E1,E6,E7,E4,E10,E13,E9 in force."));
     let vectors = vectors::customers();
     assert_eq!(vectors.len(), 320);
     for (case, wanted) in &vectors {
@@ -24,21 +23,6 @@ fn the_model_agrees_with_every_vector_about_an_index() {
     for (case, wanted) in &vectors {
         assert_eq!(index::by_model(case), *wanted, "{}: {:?} of {}", case.name, case.asked, case.number);
     }
-}
-
-#[test]
-fn the_model_agrees_with_every_vector_about_a_lookup() {
-    let vectors = vectors::lookups();
-    assert_eq!(vectors.len(), 320);
-    for (case, wanted) in &vectors {
-        let got = lookup::by_model(case);
-        assert!(case.is_answered(*wanted, got), "wanted {wanted:?}, got {got:?}: {}", case.words());
-        assert!(lookup::truth(case).map_or(true, |truth| truth == got), "{}", case.words());
-    }
-    // Some of them are left open, and to some reading every line answers.
-    let open = vectors.iter().filter(|(_, wanted)| *wanted == Wanted::Any).count();
-    let told = vectors.iter().filter(|(case, _)| lookup::truth(case).is_some()).count();
-    assert!(open == 53 && told > 50, "{open} are open, {told} are told");
 }
 
 /// The reader itself: a case by hand, and files that it must refuse.
@@ -92,51 +76,4 @@ fn the_reader_reads_calls_about_indexes() {
         assert!(read(&write.replacen(good, bad, 1)).is_err(), "{bad} for {good}");
     }
     assert!(read(&format!("{write}{write}")).is_ok() && read("judged 0 0 0 0 0\n").is_err());
-}
-
-/// Lookups: by hand, and words that are none.
-#[test]
-fn the_reader_reads_lookups() {
-    let head = "case a\nfile 1 41\nlent 1 3 7 1\nstart 0 0 0\nanswer accepted\nheld 1 4 5 6\n";
-    let asked = "lookup check 5454 -\nfound 0 3 exact\n";
-    let read = |calls: &str| vectors::read(&format!("{head}{calls}end\n"));
-    let vector = read(&format!("{asked}lookup -1,2 - 42\nfound 50 0 any\nlookup - 00 43\nfound 50 0 exact\n"));
-    let lookups = vector.unwrap().remove(0).lookups;
-    let case = |table: &[i32], index: &[u8], code: &[u8]| {
-        let [stops, index, code] = [b"A", index, code].map(<[u8]>::to_vec);
-        lookup::Case { name: "a".to_string(), stops, table: table.to_vec(), index, code }
-    };
-    let exactly = |number, record| Wanted::Exactly(model::lookup::Answer { number, record });
-    let wanted = [
-        (case(&[4, 5, 6], b"TT", b""), exactly(0, 3)),
-        (case(&[-1, 2], b"", b"B"), Wanted::Any),
-        (case(&[], b"\0", b"C"), exactly(50, 0)),
-    ];
-    assert_eq!(lookups, wanted);
-    // A table that the check leaves as it was lent.
-    let as_lent = vectors::read(&format!("{}{asked}end\n", head.replace("held 1 4 5 6\n", ""))).unwrap().remove(0);
-    assert_eq!(as_lent.lookups[0].0.table, [7, 8, 9]);
-    let bad = [
-        ("check", "checked"),
-        ("check", "1,,2"),
-        (" -\n", "\n"),
-        ("exact", "some"),
-        (" exact", ""),
-        ("found", "judged"),
-    ];
-    for (good, bad) in bad {
-        assert!(read(&asked.replacen(good, bad, 1)).is_err(), "{bad} for {good}");
-    }
-    assert!(read("lookup check - -\n").is_err() && read("found 0 0 any\n").is_err());
-}
-
-/// What is asked where the answer is left open: 50 without a record, or one that lies wholly in the table.
-#[test]
-fn an_answer_that_is_left_open() {
-    let answered = |numbers: usize, number, record| {
-        let case = lookup::Case { table: vec![0; numbers], ..lookup::Case::default() };
-        case.is_answered(Wanted::Any, model::lookup::Answer { number, record })
-    };
-    assert!(answered(0, 0, 0) && answered(0, 50, 0) && answered(14, 0, 1) && answered(20, 0, 1) && answered(21, 0, 2));
-    assert!(!answered(0, 50, 1) && !answered(13, 0, 1) && !answered(20, 0, 2) && !answered(14, 42, 0));
 }

@@ -300,9 +300,10 @@ fn told_apart(cases: impl Iterator<Item = Case>, but: &[&str]) {
     missed.are(but);
 }
 
+/// What the customer's feeds lack: a late time beside a missing one.
 #[test]
 fn by_the_vectors() {
-    told_apart(vectors::customers().into_iter().map(|(case, _)| case), &[]);
+    told_apart(vectors::customers().into_iter().map(|(case, _)| case), &["62 only at timed lines"]);
 }
 
 #[test]

@@ -202,23 +202,21 @@ fn told_apart(cases: impl Iterator<Item = Case>, but: &[&str]) {
     missed.are(but);
 }
 
-/// What the customer's feeds lack: several ill-formed sequences, U+FFFF, a rule 6, 7 or 9 broken beside 14, and a header with 14.
+/// What the customer's feeds lack: several ill-formed sequences, U+FFFF, a rule 5 or 6 broken beside 14, and a file without its end with 14.
 #[test]
 fn by_the_vectors() {
     let but = [
         "14 after 6",
-        "14 after 7",
-        "14 after 9",
+        "14 before 4",
+        "14 before 5",
         "C0 80 for U+0000",
         "F5 to F7 begin four bytes",
         "U+FFFF is ill-formed",
         "a cut character at a line's end",
         "a second mark is ill-formed",
-        "bytes that only go on, alone",
-        "overlong forms of three bytes",
+        "overlong forms of two bytes",
         "surrogates in pairs",
         "the CR of an ending goes on",
-        "the header isn't looked at",
     ];
     told_apart(vectors::customers().into_iter().map(|(case, _)| case), &but);
 }

@@ -705,10 +705,11 @@ const OF_MANY: [&str; 13] = [
 ];
 
 /// What the customer's calls lack: files of many records, and of too many lines; an index that is wrong in 41 and 42; ids that differ in the
-/// last of 64 bytes.
+/// last of 64 bytes, or behind a NUL.
 #[test]
 fn by_the_vectors() {
-    let of_few = ["4 before 2", "42 before 41", "a mark in small letters", "any number of lines", "by 63 bytes"];
+    let of_few =
+        ["4 before 2", "42 before 41", "a mark in small letters", "any number of lines", "by 63 bytes", "up to a NUL"];
     let but = [&of_few[..], &OF_MANY].concat();
     told_apart(vectors::indexes().into_iter(), &ALL, &but);
 }

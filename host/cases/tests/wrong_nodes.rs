@@ -265,20 +265,10 @@ fn told_apart(cases: impl Iterator<Item = Case>, but: &[&str]) {
     missed.are(but);
 }
 
-/// What the customer's feeds lack: a long id beside what is empty; a node without an id, or at another one; a stop at a node or at an area, and
-/// an area at a station; a type 5; a place at 0, 0.
+/// What the customer's feeds lack: a long id beside what is empty; an entrance without its name or place; a node without an id; a place at 0, 0.
 #[test]
 fn by_the_vectors() {
-    let but = [
-        "0 at an area or a node",
-        "12 before 11",
-        "3 at a node too",
-        "3 has any parent",
-        "4 at a station too",
-        "a type 5",
-        "no mark at 0, 0",
-        "the id isn't needed",
-    ];
+    let but = ["12 before 11", "entrances may lack it too", "no mark at 0, 0", "the id isn't needed"];
     told_apart(vectors::customers().into_iter().map(|(case, _)| case), &but);
 }
 

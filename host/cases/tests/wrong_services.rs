@@ -233,10 +233,10 @@ fn told_apart(cases: impl Iterator<Item = Case>, but: &[&str]) {
     missed.are(but);
 }
 
-/// What the customer's feeds lack: no file 3 beside a file 6 without its end.
+/// What the customer's feeds lack: file 6 beside file 4 or 5, neither of which can be read.
 #[test]
 fn by_the_vectors() {
-    let but = ["4 takes an unended file 6 for none"];
+    let but = ["file 6 read before file 5", "file 6 read behind file 3"];
     told_apart(vectors::customers().into_iter().map(|(case, _)| case), &but);
 }
 

@@ -49,11 +49,6 @@ impl Version {
         self.head + self.width * records
     }
 
-    /// The records that an index of this version lists.
-    pub(crate) fn records(self, index: &[u8]) -> Vec<usize> {
-        index[self.head..].chunks(self.width).map(number).collect()
-    }
-
     /// The bytes of an index that lists these records, of each number as many as there is room for.
     pub fn bytes(self, file_number: usize, records: &[usize]) -> Vec<u8> {
         let mut bytes = [MARK, &low_first(self.number, 2), &[file_number as u8]].concat();
@@ -87,7 +82,7 @@ pub fn ids(file_number: i32, file: &[u8]) -> Result<Vec<Vec<u8>>, Answer> {
 }
 
 /// The order of ids as byte strings: by the first byte that differs, and a proper prefix first.
-pub(crate) fn order(one: &[u8], other: &[u8]) -> Ordering {
+fn order(one: &[u8], other: &[u8]) -> Ordering {
     for (byte, beside) in one.iter().zip(other) {
         if byte != beside {
             return byte.cmp(beside);
@@ -107,7 +102,7 @@ fn low_first(number: usize, width: usize) -> Vec<u8> {
 }
 
 /// The number that bytes are, low byte first.
-pub(crate) fn number(bytes: &[u8]) -> usize {
+fn number(bytes: &[u8]) -> usize {
     bytes.iter().rev().fold(0, |number, &byte| 256 * number + usize::from(byte))
 }
 
@@ -139,15 +134,6 @@ pub fn write_ids(file_number: i32, ids: &[Vec<u8>], buffer: &mut [u8]) -> Answer
     good(length)
 }
 
-/// The version that an index names; 40 for too few bytes or another mark, 41 for another version.
-pub(crate) fn named(index: &[u8]) -> Result<Version, usize> {
-    if index.len() < FEWEST_BYTES || &index[..3] != MARK {
-        return Err(40);
-    }
-    let named = number(&index[3..5]);
-    [VERSION_1, VERSION_2].into_iter().find(|version| version.number == named).ok_or(41)
-}
-
 /// Checks the index of a file.
 pub fn check(file_number: i32, file: &[u8], index: &[u8]) -> Answer {
     match ids(file_number, file) {
@@ -158,9 +144,12 @@ pub fn check(file_number: i32, file: &[u8], index: &[u8]) -> Answer {
 
 /// Checks the index of a file that has these ids, by record: the lowest of 40 to 44 that is broken speaks.
 pub fn check_ids(file_number: i32, ids: &[Vec<u8>], index: &[u8]) -> Answer {
-    let version = match named(index) {
-        Ok(version) => version,
-        Err(number) => return refused(number),
+    if index.len() < FEWEST_BYTES || &index[..3] != MARK {
+        return refused(40);
+    }
+    let named = number(&index[3..5]);
+    let Some(version) = [VERSION_1, VERSION_2].into_iter().find(|version| version.number == named) else {
+        return refused(41);
     };
     let wrong_file = i32::from(index[5]) != file_number;
     let wrong_length = version != Version::of(ids.len()) || index.len() != version.length(ids.len());
@@ -168,7 +157,7 @@ pub fn check_ids(file_number: i32, ids: &[Vec<u8>], index: &[u8]) -> Answer {
     if wrong_file || wrong_length || number(&index[6..version.head]) != ids.len() {
         return refused(42);
     }
-    let records = version.records(index);
+    let records: Vec<usize> = index[version.head..].chunks(version.width).map(number).collect();
     if records.iter().any(|&record| record == 0 || record > ids.len()) {
         return refused(43);
     }

@@ -1,5 +1,5 @@
 //! The whole check of document 01 with requests E2, E1, E6, E7, E10, E13 and E9, written naively from the documents: files in, tables, list and
-//! answer out; request E4's index, request E5's lookup by it, and issue 19's list of all faults.
+//! answer out; request E4's index, and issue 19's list of all faults.
 #![forbid(unsafe_code)]
 
 pub mod characters;
@@ -9,7 +9,6 @@ pub mod faults;
 pub mod fields;
 pub mod forms;
 pub mod index;
-pub mod lookup;
 pub mod page;
 pub mod reading;
 pub mod records;

@@ -4,21 +4,15 @@ use crate::manual::{COLORS, GENERATED, PROFILES, VERBS};
 use crate::paging::{Page, MOST_FINDINGS};
 use crate::safe;
 use crate::style::When;
-use crate::{indexes, lookups, report, serve};
+use crate::{indexes, report};
 use lexopt::{Arg, Error, Parser};
 use std::ffi::{OsStr, OsString};
-use std::net::SocketAddr;
 use std::os::unix::ffi::OsStrExt;
 use std::path::PathBuf;
 use tusuchiy::Profile;
 
 /// The most feeds that may be checked at a time.
 const MOST_JOBS: usize = 256;
-
-/// Where `serve` listens if nothing else is said, how many may wait for a check, and how many at most.
-const LISTEN: &str = "127.0.0.1:8088";
-const WAITING: usize = 128;
-const MOST_WAITING: usize = 1024;
 
 /// What each of the words for colours means.
 const WHEN: [When; COLORS.len()] = [When::Auto, When::Always, When::Never];
@@ -29,7 +23,6 @@ pub enum Form {
     #[default]
     Text,
     Json,
-    Csv,
     Quiet,
 }
 
@@ -55,9 +48,7 @@ pub enum Command {
     Explain(usize),
     Check(Check),
     Index(indexes::Asked),
-    Lookup(lookups::Asked),
     Report(report::Asked),
-    Serve(serve::Asked),
 }
 
 /// What was found so far on the command line.
@@ -72,8 +63,6 @@ struct Found {
     color: usize,
     profile: Profile,
     output: Option<PathBuf>,
-    listen: Option<SocketAddr>,
-    waiting: Option<usize>,
 }
 
 impl Found {
@@ -99,7 +88,6 @@ pub fn parse(words: &[OsString]) -> Result<Command, String> {
             Arg::Short('q') | Arg::Long("quiet") => "quiet",
             Arg::Short('L') | Arg::Long("follow-links") => "follow-links",
             Arg::Long("json") => "json",
-            Arg::Long("csv") => "csv",
             Arg::Long("check") => "check",
             Arg::Long("after") => "after",
             Arg::Long("room") => "room",
@@ -107,9 +95,6 @@ pub fn parse(words: &[OsString]) -> Result<Command, String> {
             Arg::Long("color") => "color",
             Arg::Long("profile") => "profile",
             Arg::Short('o') | Arg::Long("output") => "output",
-            Arg::Long("listen") => "listen",
-            Arg::Long("waiting") => "waiting",
-            Arg::Long("public") => "public",
             Arg::Long(other) => return Err(format!("unknown option {}", shown(format!("--{other}").as_ref()))),
             Arg::Short(other) => return Err(format!("unknown option {}", shown(format!("-{other}").as_ref()))),
             Arg::Value(word) => {
@@ -135,8 +120,6 @@ fn option(found: &mut Found, name: &'static str, parser: &mut Parser) -> Result<
         "color" => found.color = one_of("--color", COLORS, &parser.value().map_err(said)?)?,
         "profile" => found.profile = Profile::ALL[one_of("--profile", PROFILES, &parser.value().map_err(said)?)?],
         "output" => found.output = Some(PathBuf::from(parser.value().map_err(said)?)),
-        "listen" => found.listen = Some(listen(&parser.value().map_err(said)?)?),
-        "waiting" => found.waiting = Some(number("--waiting", &parser.value().map_err(said)?, 0, MOST_WAITING)?),
         _ => {}
     }
     Ok(())
@@ -174,12 +157,6 @@ fn number(option: &str, word: &OsStr, least: usize, most: usize) -> Result<usize
     within.ok_or_else(|| format!("{option} takes a number from {least} to {most}, and not {}", shown(word)))
 }
 
-/// An address of a machine, and a port.
-fn listen(word: &OsStr) -> Result<SocketAddr, String> {
-    let address = word.to_str().and_then(|word| word.parse().ok());
-    address.ok_or_else(|| format!("--listen takes an address with a port, as {LISTEN}, and not {}", shown(word)))
-}
-
 /// The place of a word among the only ones that there are.
 fn one_of(option: &str, choices: &[&str], word: &OsStr) -> Result<usize, String> {
     let place = choices.iter().position(|choice| OsStr::new(choice) == word);
@@ -189,10 +166,7 @@ fn one_of(option: &str, choices: &[&str], word: &OsStr) -> Result<usize, String>
 /// Puts together what was found.
 fn finish(mut found: Found) -> Result<Command, String> {
     if found.words.is_empty() {
-        return Err(
-            "say what to do: check FEED, report FEED, index FEED, lookup FEED CODE, serve, explain RULE, or --help"
-                .to_string(),
-        );
+        return Err("say what to do: check FEED, report FEED, index FEED, explain RULE, or --help".to_string());
     }
     let verb = found.words.remove(0);
     let name = verb.to_str().unwrap_or_default();
@@ -203,14 +177,9 @@ fn finish(mut found: Found) -> Result<Command, String> {
         Some("check") => check(found).map(Command::Check),
         Some("report") => report(found).map(Command::Report),
         Some("index") => index(found).map(Command::Index),
-        Some("lookup") => lookup(found).map(Command::Lookup),
-        Some("serve") => serve(&found).map(Command::Serve),
         Some("explain") => explain(&found.words),
         Some("help") => Ok(Command::Help),
-        _ => {
-            let there = "check, report, index, lookup, serve, explain and --help";
-            Err(format!("unknown command {}; there are {there}", shown(&verb)))
-        }
+        _ => Err(format!("unknown command {}; there are check, report, index, explain and --help", shown(&verb))),
     }
 }
 
@@ -252,35 +221,9 @@ fn index(found: Found) -> Result<indexes::Asked, String> {
     })
 }
 
-fn lookup(mut found: Found) -> Result<lookups::Asked, String> {
-    if found.words.len() < 2 {
-        return Err("lookup needs a feed, which is a folder, and a code".to_string());
-    }
-    Ok(lookups::Asked {
-        form: form(&found)?,
-        follow_links: found.has("follow-links"),
-        color: WHEN[found.color],
-        feed: PathBuf::from(found.words.remove(0)),
-        codes: found.words,
-        output: found.output,
-    })
-}
-
-fn serve(found: &Found) -> Result<serve::Asked, String> {
-    if let Some(word) = found.words.first() {
-        return Err(format!("serve takes no feed, and not {}: feeds are sent to it", shown(word)));
-    }
-    let own = || LISTEN.parse().map_err(|_| format!("{LISTEN} is no address"));
-    let (listen, is_public) = (found.listen.map_or_else(own, Ok)?, found.has("public"));
-    if !listen.ip().is_loopback() && !is_public {
-        return Err(format!("{listen} is open to others than this machine: say --public if that is meant, and read in README.md what stands before it"));
-    }
-    Ok(serve::Asked { listen, is_public, jobs: found.jobs, waiting: found.waiting.unwrap_or(WAITING) })
-}
-
 fn explain(words: &[OsString]) -> Result<Command, String> {
     let [word] = words else {
-        return Err("explain takes one number: 1 to 14, 20 to 31, 40 to 46, 50 or 60 to 62".to_string());
+        return Err("explain takes one number: 1 to 14, 20 to 31, 40 to 46 or 60 to 62".to_string());
     };
     let number = word.to_str().and_then(|word| word.parse().ok());
     number.map(Command::Explain).ok_or_else(|| format!("explain takes a number, and {} is none", shown(word)))
@@ -288,11 +231,11 @@ fn explain(words: &[OsString]) -> Result<Command, String> {
 
 /// How a report is to be printed.
 fn form(found: &Found) -> Result<Form, String> {
-    let forms = [("json", Form::Json), ("csv", Form::Csv), ("quiet", Form::Quiet)];
-    let mut asked = forms.into_iter().filter(|(name, _)| found.has(name));
-    match (asked.next(), asked.next()) {
-        (Some((one, _)), Some((other, _))) => Err(format!("--{one} and --{other} don't go together")),
-        (one, _) => Ok(one.map_or(Form::Text, |(_, form)| form)),
+    match (found.has("json"), found.has("quiet")) {
+        (true, true) => Err("--json and --quiet don't go together".to_string()),
+        (true, false) => Ok(Form::Json),
+        (false, true) => Ok(Form::Quiet),
+        (false, false) => Ok(Form::Text),
     }
 }
 
@@ -303,8 +246,8 @@ fn check(found: Found) -> Result<Check, String> {
     }
     let form = form(&found)?;
     let paged = found.after.is_some() || found.room.is_some();
-    if found.words.len() > 1 && ![Form::Json, Form::Csv].contains(&form) && (paged || found.has("all")) {
-        return Err("--all, --after and --room take one feed, or many with --json or --csv".to_string());
+    if found.words.len() > 1 && form != Form::Json && (paged || found.has("all")) {
+        return Err("--all, --after and --room take one feed, or many with --json".to_string());
     }
     Ok(Check {
         form,
@@ -355,7 +298,6 @@ mod tests {
         let page = Page { after: [5, 3, 29], room: None };
         assert_eq!(parsed("check --after 5,3,29 f"), checks(Form::Text, Some(page)));
         assert!(parsed("check f g --all --room 3 --json").is_ok());
-        assert_eq!(parsed("check --csv f"), checks(Form::Csv, None));
     }
 
     #[test]
@@ -394,25 +336,6 @@ mod tests {
         }
     }
 
-    /// Without --public only this machine is listened to.
-    #[test]
-    fn a_server_and_its_address() {
-        let asked = |listen: &str, is_public, jobs, waiting| {
-            let listen = listen.parse().expect("an address");
-            Ok(Command::Serve(serve::Asked { listen, is_public, jobs, waiting }))
-        };
-        assert_eq!(parsed("serve"), asked("127.0.0.1:8088", false, None, 128));
-        for listen in ["127.0.0.1:1", "127.8.8.8:8088", "[::1]:8088"] {
-            assert_eq!(parsed(&format!("serve --listen {listen}")), asked(listen, false, None, 128));
-        }
-        for listen in ["0.0.0.0:8088", "192.0.2.1:8088", "[::]:8088", "[2001:db8::1]:80"] {
-            let wrong = parsed(&format!("serve --listen {listen}")).expect_err(listen);
-            assert!(wrong.starts_with(&format!("{listen} is open to others")) && wrong.contains("--public"), "{wrong}");
-            let line = format!("serve --public --listen={listen} --jobs 3 --waiting 0");
-            assert_eq!(parsed(&line), asked(listen, true, Some(3), 0));
-        }
-    }
-
     #[test]
     fn an_index_and_its_folder() {
         let feeds = || vec![PathBuf::from("f")];
@@ -438,29 +361,6 @@ mod tests {
         assert!(parsed("index -q f g").is_ok());
     }
 
-    /// Codes stand as they were given, bytes that are no text and what looks like an option behind `--` among them.
-    #[test]
-    fn codes_to_look_up() {
-        let codes = |codes: &[&str]| codes.iter().map(OsString::from).collect();
-        let asked = |words: &[&str]| lookups::Asked { feed: "f".into(), codes: codes(words), ..Default::default() };
-        assert_eq!(parsed("lookup f A"), Ok(Command::Lookup(asked(&["A"]))));
-        assert_eq!(parsed("lookup f B A B"), Ok(Command::Lookup(asked(&["B", "A", "B"]))));
-        assert_eq!(parsed("lookup -- f -A --json --"), Ok(Command::Lookup(asked(&["-A", "--json", "--"]))));
-        assert_eq!(parsed("lookup f -- -A"), Ok(Command::Lookup(asked(&["-A"]))));
-        let all = lookups::Asked {
-            form: Form::Json,
-            follow_links: true,
-            color: When::Always,
-            output: Some("g".into()),
-            ..asked(&["A"])
-        };
-        assert_eq!(parsed("lookup f A --json -L --color always -o g"), Ok(Command::Lookup(all)));
-        let odd = OsStr::from_bytes(b"\xFF").to_os_string();
-        let words = ["lookup".into(), "f".into(), odd.clone(), OsString::new()];
-        let odd = lookups::Asked { codes: vec![odd, OsString::new()], ..asked(&[]) };
-        assert_eq!(parse(&words), Ok(Command::Lookup(odd)));
-    }
-
     /// Whatever stands in the table of options is read, and with a value where it has one.
     #[test]
     fn the_table_is_true() {
@@ -469,24 +369,17 @@ mod tests {
         for (verb, flag) in of_verbs.chain(everywhere) {
             let value = match (flag.value, flag.choices) {
                 (Some(_), []) if flag.long == "after" => "=1,2,3".to_string(),
-                (Some(_), []) if flag.long == "listen" => "=127.0.0.1:1".to_string(),
                 (Some(_), []) => "=1".to_string(),
                 (Some(_), choices) => format!("={}", choices[0]),
                 (None, _) => String::new(),
             };
-            // What a command takes beside its options.
-            let words = match verb {
-                "serve" => "",
-                "lookup" => "f c",
-                _ => "f",
-            };
-            let read = parsed(&format!("{verb} {words} --{}{value}", flag.long));
+            let read = parsed(&format!("{verb} f --{}{value}", flag.long));
             assert!(read.is_ok(), "--{}: {read:?}", flag.long);
             let other = if flag.value.is_some() { "" } else { "=1" };
             let wrong = parsed(&format!("{verb} --{}{other}", flag.long));
             assert!(wrong.is_err() || matches!(wrong, Ok(Command::Help | Command::Version)), "--{}", flag.long);
             if let Some(short) = flag.short {
-                assert_eq!(parsed(&format!("{verb} {words} -{short}{value}")), read);
+                assert_eq!(parsed(&format!("{verb} f -{short}{value}")), read);
             }
         }
         assert!(manual::help().contains(&format!("0 to {MOST_FINDINGS}")));
@@ -541,27 +434,6 @@ mod tests {
             "index f g -o h",
             "index f -o",
             "index f --check=1",
-            "lookup",
-            "lookup f",
-            "lookup f A --json --quiet",
-            "lookup f A --check",
-            "lookup f A --jobs 2",
-            "lookup f A --profile boards",
-            "lookup f -A",
-            "lookup f A -o g -o h",
-            "serve f",
-            "serve --listen",
-            "serve --listen localhost",
-            "serve --listen 127.0.0.1",
-            "serve --listen 127.0.0.1:65536",
-            "serve --waiting -1",
-            "serve --waiting 1025",
-            "serve --json",
-            "check f --public",
-            "check f --csv --json",
-            "check f --csv -q",
-            "report f --csv",
-            "index f --csv",
             "explain",
             "explain x",
             "explain 1 2",

@@ -2,8 +2,7 @@
 
 use crate::faults::{self, Faults, FaultsAnswer};
 use crate::index::IndexAnswer;
-use crate::kinds::{Fault, File, Finding, LookupRefusal, Profile, Refusal, Rule, FILES};
-use crate::lookup::LookupAnswer;
+use crate::kinds::{Fault, File, Finding, Profile, Refusal, Rule, FILES};
 use crate::pages::{Pages, PAGE};
 use crate::{try_check, Answer, Verdict, MOST_LINES, WIDTHS};
 use std::collections::TryReserveError;
@@ -27,7 +26,7 @@ pub(crate) fn lines(file: &[u8]) -> usize {
     file.iter().filter(|&&byte| byte == b'\n').count().min(MOST_LINES)
 }
 
-/// Why a call gave no answer, or a lookup was refused; none of this is the feed's fault.
+/// Why a call gave no answer; none of this is the feed's fault.
 #[derive(Debug)]
 pub enum Error {
     /// There is no memory for the tables or the list.
@@ -40,10 +39,6 @@ pub enum Error {
     UnknownIndex(IndexAnswer),
     /// The same about the list of faults.
     UnknownFaults(FaultsAnswer),
-    /// The same about a lookup.
-    UnknownLookup(LookupAnswer),
-    /// The index or the table lent for a lookup doesn't fit the file.
-    Lookup(LookupRefusal),
 }
 
 impl Display for Error {
@@ -54,8 +49,6 @@ impl Display for Error {
             Error::Unknown(answer) => write!(out, "the check gave an answer that nobody knows: {answer:?}"),
             Error::UnknownIndex(answer) => write!(out, "the index gave an answer that nobody knows: {answer:?}"),
             Error::UnknownFaults(answer) => write!(out, "the list of faults is one that nobody knows: {answer:?}"),
-            Error::UnknownLookup(answer) => write!(out, "the lookup gave an answer that nobody knows: {answer:?}"),
-            Error::Lookup(refusal) => refusal.fmt(out),
         }
     }
 }
@@ -203,12 +196,6 @@ impl<'a> Check<'a> {
     #[must_use]
     pub fn tables(&self) -> &[Vec<i32>; FILES] {
         &self.tables
-    }
-
-    /// The table of one file, which is what [`lookup`](crate::lookup) asks for of stops.txt.
-    #[must_use]
-    pub fn table(&self, file: File) -> &[i32] {
-        &self.tables[file.number() - 1]
     }
 
     /// The same, to be kept.

@@ -16,7 +16,7 @@ use std::path::{Path, PathBuf};
 /// Reads the six files, or says of each that can't be read what is in the way, a line each.
 pub fn read(path: &Path, follow_links: bool) -> Result<Feed, String> {
     let folder = Folder::open(path).map_err(|error| cannot(path, &error.to_string()))?;
-    let files = folder.read_files(NAMES.map(|name| (name, MOST_BYTES)), follow_links)?;
+    let files = folder.read_files(NAMES, MOST_BYTES, follow_links)?;
     let mut unread = Unread::default();
     system::each_name(&folder.handle, |name| unread.add(name));
     let mut feed = Feed::new(Place::at(path), files, unread);
@@ -35,18 +35,12 @@ pub struct Folder {
 
 /// What tells a file from any other, and from itself before a change: device, number, length, and the times of its last changes.
 #[derive(Clone, PartialEq)]
-pub struct Stamp(u64, u64, u64, [i64; 4]);
+struct Stamp(u64, u64, u64, [i64; 4]);
 
 impl Stamp {
-    pub fn of(about: &Metadata) -> Self {
+    fn of(about: &Metadata) -> Self {
         let times = [about.mtime(), about.mtime_nsec(), about.ctime(), about.ctime_nsec()];
         Stamp(about.dev(), about.ino(), about.len(), times)
-    }
-
-    /// Would it be another if the file changed now? Not within the tick in which it changed last.
-    pub fn is_settled(&self) -> bool {
-        let [.., seconds, nanoseconds] = self.3;
-        system::tick() > (seconds, nanoseconds)
     }
 }
 
@@ -96,22 +90,23 @@ impl Folder {
         system::open_in(&self.handle, OsStr::new("."), O_RDONLY | O_DIRECTORY)?.sync_all()
     }
 
-    /// Reads the files of these names, each at most one byte past so many as stand beside it, or says that they changed meanwhile: half of an old
-    /// feed and half of a new one are no feed.
+    /// Reads the files of these names, each at most one byte past so many, or says that they changed meanwhile: half of an old feed and half of
+    /// a new one are no feed.
     pub fn read_files<const COUNT: usize>(
         &self,
-        sought: [(&str, usize); COUNT],
+        names: [&str; COUNT],
+        most: usize,
         follow_links: bool,
     ) -> Result<Files<COUNT>, String> {
         let mut stamps = Vec::new();
-        let files = all(sought.map(|(name, most)| {
+        let files = all(names.map(|name| {
             progress::step(|| format!("reading {name}"));
             let read = self.read_file(name, most, follow_links).map_err(|why| cannot(&self.path_of(name), &why))?;
             let (stamp, bytes) = read.unzip();
             stamps.push(stamp);
             Ok(bytes)
         }))?;
-        if self.is_as_read(&sought.map(|(name, _)| name), &stamps, follow_links) {
+        if self.is_as_read(&names, &stamps, follow_links) {
             Ok(files)
         } else {
             Err(cannot(&self.path, "it changed while it was read; try again"))
@@ -128,13 +123,6 @@ impl Folder {
 
     /// The bytes of a file with its stamp, or none where nothing has its name.
     fn read_file(&self, name: &str, most: usize, follow_links: bool) -> Result<Option<(Stamp, Vec<u8>)>, String> {
-        let Some((file, about)) = self.open_file(name, follow_links)? else { return Ok(None) };
-        let bytes = limited(file, about.len(), most).map_err(|error| error.to_string())?;
-        Ok(Some((Stamp::of(&about), bytes)))
-    }
-
-    /// Opens a file to be read, if it is a regular one, and tells what it is then; none where nothing has its name.
-    pub fn open_file(&self, name: &str, follow_links: bool) -> Result<Option<(File, Metadata)>, String> {
         let name = OsStr::new(name);
         let Some(about) = self.about(name, false).map_err(|error| error.to_string())? else { return Ok(None) };
         if about.is_symlink() && !follow_links {
@@ -147,7 +135,8 @@ impl Folder {
         }
         let flags = if follow_links { O_RDONLY | O_NONBLOCK } else { O_RDONLY | O_NONBLOCK | O_NOFOLLOW };
         let opened = system::open_in(&self.handle, name, flags).and_then(regular);
-        opened.map(Some).map_err(|error| error.to_string())
+        let read = opened.and_then(|(file, about)| Ok((Stamp::of(&about), limited(file, about.len(), most)?)));
+        read.map(Some).map_err(|error| error.to_string())
     }
 }
 

@@ -18,12 +18,12 @@ const VERSION: usize = 3;
 /// Writes the document; every member stands in every document, in this order.
 pub fn write(out: &mut dyn Write, feed: &Feed, report: &Report) -> io::Result<()> {
     let none = Findings::default();
-    let (list, total) = match &report.outcome {
-        Outcome::Findings { list, total } => (list, *total),
-        _ => (&none, 0),
+    let (verdict, list, total) = match &report.outcome {
+        Outcome::Accepted => ("accepted", &none, 0),
+        Outcome::Findings { list, total } => ("findings", list, *total),
+        Outcome::Refused { .. } => ("refused", &none, 0),
     };
-    let (verdict, profile) = (report.verdict(), report.profile);
-    write!(out, "{{\"version\": {VERSION}, \"verdict\": \"{verdict}\", \"profile\": \"{profile}\", ")?;
+    write!(out, "{{\"version\": {VERSION}, \"verdict\": \"{verdict}\", \"profile\": \"{}\", ", report.profile)?;
     write_faults(out, feed, &report.outcome)?;
     write!(out, "\"total\": {total}, \"written\": {}, ", list.len())?;
     write!(out, "\"page\": {}, \"findings\": ", report.page.as_ref().map_or(Value::Null, page))?;

@@ -132,10 +132,6 @@ pub struct Refusal(u8);
 #[derive(Clone, Copy, Debug, PartialEq, Eq, PartialOrd, Ord, Hash)]
 pub struct IndexRefusal(u8);
 
-/// The reason why a code isn't looked up, 50: the index or the table doesn't fit stops.txt.
-#[derive(Clone, Copy, Debug, PartialEq, Eq, PartialOrd, Ord, Hash)]
-pub struct LookupRefusal(u8);
-
 macro_rules! numbered {
     ($name:ident, $word:literal, $($least:literal..=$most:literal),+) => {
         impl $name {
@@ -180,7 +176,6 @@ macro_rules! numbered {
 numbered!(Rule, "rule", 20..=31, 60..=62);
 numbered!(Refusal, "refusal", 1..=14);
 numbered!(IndexRefusal, "refusal", 40..=46);
-numbered!(LookupRefusal, "refusal", 50..=50);
 
 impl Rule {
     /// The profile that asks for it first: `Plain` for a rule that every call tests.
@@ -248,8 +243,6 @@ mod tests {
         assert!([0, 15, 257].iter().all(|&number| Refusal::new(number).is_none()));
         assert!(IndexRefusal::all().map(IndexRefusal::number).eq(40..=46));
         assert!([14, 39, 47].iter().all(|&number| IndexRefusal::new(number).is_none()));
-        assert!(LookupRefusal::all().map(LookupRefusal::number).eq([50]));
-        assert!([46, 49, 51, 306].iter().all(|&number| LookupRefusal::new(number).is_none()));
     }
 
     /// Rules of the profile for boards are those above all others; profiles have the header's numbers and the command's names.

@@ -52,8 +52,7 @@
 //! ```
 //!
 //! [`try_check`] is the function below all this: it takes tables and a list as they are lent, and allocates nothing.
-//! [`faults`] names every place of a refused feed that can't be read. [`index`] makes and judges the sorted index of a file, and
-//! [`lookup`] finds a stop by its code with it.
+//! [`faults`] names every place of a refused feed that can't be read. [`index`] makes and judges the sorted index of a file.
 #![deny(unsafe_code)]
 
 mod check;
@@ -61,14 +60,12 @@ pub mod explain;
 pub mod faults;
 pub mod index;
 mod kinds;
-pub mod lookup;
 mod pages;
 
 pub use check::{table_sizes, Check, Error, Findings, Page, Place};
 pub use faults::{try_faults, Faults, FaultsAnswer};
 pub use index::IndexAnswer;
-pub use kinds::{Fault, File, Finding, IndexRefusal, LookupRefusal, Profile, Refusal, Rule, FILES};
-pub use lookup::LookupAnswer;
+pub use kinds::{Fault, File, Finding, IndexRefusal, Profile, Refusal, Rule, FILES};
 
 use std::cell::Cell;
 use std::io;

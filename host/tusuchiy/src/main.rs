@@ -1,11 +1,10 @@
-//! The command `tusuchiy`: reads feeds, lends memory to the proved check, prints what it answers, writes indexes and asks them for a code.
+//! The command `tusuchiy`: reads feeds, lends memory to the proved check, prints what it answers, writes indexes.
 #![deny(unsafe_code)]
 #![cfg_attr(not(test), no_main)]
 
 mod arguments;
 mod carets;
 mod columns;
-mod csv;
 mod encoding;
 mod facts;
 mod feed;
@@ -14,8 +13,6 @@ mod folder;
 mod hidden;
 mod indexes;
 mod json;
-mod lazy;
-mod lookups;
 mod manual;
 mod many;
 mod memory;
@@ -26,7 +23,6 @@ mod refusals;
 mod refused;
 mod report;
 mod safe;
-mod serve;
 mod source;
 mod style;
 mod system;
@@ -65,16 +61,12 @@ fn obey() -> u8 {
     asked.and_then(run).unwrap_or_else(|message| complain(&message))
 }
 
-/// What is said on standard error: one line, or a line for each file.
-fn complaint(message: &str) -> String {
-    message.lines().map(|line| format!("tusuchiy: {line}\n")).collect()
-}
-
-/// Says why the command couldn't run, and gives its status.
+/// Says why the command couldn't run, in one line or in a line for each file, and gives its status.
 fn complain(message: &str) -> u8 {
+    let lines: String = message.lines().map(|line| format!("tusuchiy: {line}\n")).collect();
     let _hidden = progress::hidden();
     // Nothing can be done where standard error is gone too.
-    let _ = Patient(io::stderr()).write_all(complaint(message).as_bytes());
+    let _ = Patient(io::stderr()).write_all(lines.as_bytes());
     COULD_NOT_RUN
 }
 
@@ -91,9 +83,7 @@ fn run(command: Command) -> Result<u8, String> {
     let page = match command {
         Command::Check(check) => return Ok(many::run(&check)),
         Command::Index(asked) => return Ok(indexes::run(&asked)),
-        Command::Lookup(asked) => return many::guarded(|| lookups::run(&asked)),
         Command::Report(asked) => return many::guarded(|| report::run(&asked)),
-        Command::Serve(asked) => return many::guarded(|| serve::run(&asked)),
         Command::Help => manual::help(),
         Command::Version => format!("tusuchiy {}\n", env!("CARGO_PKG_VERSION")),
         Command::Explain(number) => format!("{}\n", explain::page(number).ok_or_else(|| explain::no_such(number))?),

@@ -31,8 +31,6 @@ const fn valued(long: &'static str, value: &'static str, help: &'static str) -> 
 
 // Options that several commands have.
 const JSON: Flag = flag("json", None, "one JSON document a line for each feed (docs/JSON.md)");
-const CSV: Flag =
-    flag("csv", None, "a table for spreadsheets: a line for each finding or fault of all feeds (docs/JSON.md)");
 const QUIET: Flag = flag("quiet", Some('q'), "the verdict alone");
 const FOLLOW_LINKS: Flag = flag("follow-links", Some('L'), "read what symbolic links in a feed's folder name");
 const JOBS: Flag =
@@ -62,7 +60,6 @@ pub const VERBS: &[Verb] = &[
         help: "checks feeds; FEED is a folder or a zip file with stops.txt, routes.txt, trips.txt, stop_times.txt and calendar.txt, calendar_dates.txt or both",
         flags: &[
             JSON,
-            CSV,
             flag("all", Some('a'), "every finding or fault, not just the first five of each number"),
             QUIET,
             PROFILE,
@@ -86,9 +83,9 @@ pub const VERBS: &[Verb] = &[
     Verb {
         name: "index",
         operand: "FEED...",
-        help: "writes a sorted index of ids beside each of stops.txt, routes.txt, calendar.txt and trips.txt: stops.ttx and so on; and the table of stops, stops.tab; each whole or not at all",
+        help: "writes a sorted index of ids beside each of stops.txt, routes.txt, calendar.txt and trips.txt: stops.ttx and so on; each whole or not at all",
         flags: &[
-            flag("check", None, "write nothing, and judge the indexes and the table that are there"),
+            flag("check", None, "write nothing, and judge the indexes that are there"),
             Flag {
                 short: Some('o'),
                 ..valued("output", "FOLDER", "the folder of the indexes, if not that of the feed; a zip file needs one to be written")
@@ -101,35 +98,9 @@ pub const VERBS: &[Verb] = &[
         ],
     },
     Verb {
-        name: "lookup",
-        operand: "FEED CODE...",
-        help: "finds stops by their codes, each with its line in stops.txt, by stops.ttx and stops.tab and without a full read; FEED is a folder that index has written to; what begins with - stands behind --",
-        flags: &[
-            Flag {
-                short: Some('o'),
-                ..valued("output", "FOLDER", "the folder of stops.ttx and stops.tab, if not that of the feed")
-            },
-            flag("json", None, "one JSON document a line for each code (docs/JSON.md)"),
-            flag("quiet", Some('q'), "the answer alone: found, not found or refused"),
-            FOLLOW_LINKS,
-            COLOR,
-        ],
-    },
-    Verb {
-        name: "serve",
-        operand: "",
-        help: "serves a page on which a feed is dropped and its report shown, and the same for programs (docs/HTTP.md), until a signal ends it; nothing that is sent is kept",
-        flags: &[
-            valued("listen", "ADDRESS:PORT", "where to listen; 127.0.0.1:8088, which only this machine reaches, if not given"),
-            flag("public", None, "allow an address that other machines reach, and requests for any host; README.md says what has to stand before it"),
-            JOBS,
-            valued("waiting", "N", "at most N feeds wait for their check, 0 to 1024; 128 if not given"),
-        ],
-    },
-    Verb {
         name: "explain",
         operand: "RULE",
-        help: "what a refusal (1 to 14, of an index 40 to 46, of a lookup 50) or a rule (20 to 31, of the profile boards 60 to 62) means, and how to mend it",
+        help: "what a refusal (1 to 14, of an index 40 to 46) or a rule (20 to 31, of the profile boards 60 to 62) means, and how to mend it",
         flags: &[],
     },
 ];
@@ -150,14 +121,14 @@ pub const FLAGS: &[Flag] = &[
 
 /// What an exit status says.
 pub const STATUSES: [(u8, &str); 4] = [
-    (0, "accepted; of index, all are written or accepted; of lookup, all codes are found"),
-    (1, "findings: the files can be read, and a rule is broken; of lookup, a code isn't found"),
-    (2, "refused: a file can't be read as it stands, or an index or a table isn't that of its file"),
+    (0, "accepted; of index, all are written or accepted"),
+    (1, "findings: the files can be read, and a rule is broken"),
+    (2, "refused: a file can't be read as it stands, or an index isn't that of its file"),
     (3, "the command couldn't run, for want of memory, room or time too"),
 ];
 
 /// What people type most.
-const EXAMPLES: [(&str, &str); 10] = [
+const EXAMPLES: [(&str, &str); 8] = [
     ("tusuchiy check feed.zip", "the verdict and the first findings of each rule, or faults of each number"),
     ("tusuchiy check --quiet feed && publish feed", "go on only with an accepted feed"),
     ("tusuchiy check --profile boards feed.zip", "what a departure board can't show is a finding too"),
@@ -165,12 +136,10 @@ const EXAMPLES: [(&str, &str); 10] = [
     ("tusuchiy report feed.zip --output report.html", "a page to forward or to file"),
     ("tusuchiy index feed", "the indexes of a feed's ids, beside its files"),
     ("tusuchiy index --check --quiet feed && use feed", "go on only with indexes that are those of the files"),
-    ("tusuchiy lookup feed MAIN-1", "the line of one stop, once there is an index"),
-    ("tusuchiy serve", "a page for feeds at http://127.0.0.1:8088/"),
     ("tusuchiy explain 21", "what rule 21 means"),
 ];
 
-const TITLE: &str = "checks the six files of GTFS feeds, writes indexes beside them, and finds stops by these";
+const TITLE: &str = "checks the six files of GTFS feeds, and writes indexes beside them";
 const MANY: &str = "With several feeds there is one verdict a line, and the exit status is the highest of theirs.";
 const PLACE: &str = "A place is FILE:LINE, or FILE:LINE:COLUMN where one field is refused; columns count from 1.";
 const PROGRESS: &str = "On a terminal one line on standard error says where a run is that takes a while.";
@@ -200,7 +169,7 @@ pub fn help() -> String {
     let mut page = format!("tusuchiy: {TITLE}\n\n");
     let line = |flag: &Flag| entry(&format!("      {}", flag.typed()), flag.help);
     for verb in VERBS {
-        page += &entry(format!("  tusuchiy {} {}", verb.name, verb.operand).trim_end(), verb.help);
+        page += &entry(&format!("  tusuchiy {} {}", verb.name, verb.operand), verb.help);
         verb.flags.iter().for_each(|flag| page += &line(flag));
     }
     FLAGS.iter().for_each(|flag| page += &entry(&format!("  tusuchiy {}", flag.typed()), flag.help));
@@ -250,13 +219,12 @@ pub fn man() -> String {
     );
     page += ".SH DESCRIPTION\nThe check is proved: a feed is accepted exactly when no rule is broken.\n";
     page += "So is the index: it is accepted exactly when it lists every record once, its ids rising.\n";
-    page += "So is the lookup: where index \\-\\-check accepts, its answer is that of reading every line.\n";
     page.extend([REFUSED, MANY, PLACE, &limits(), PROGRESS].map(|sentence| roff(sentence) + "\n"));
     let item = |flag: &Flag| format!(".TP\n.B {}\n{}\n", roff(&flag.typed()), roff(flag.help));
     page.extend(VERBS.iter().map(|verb| {
-        let heading = format!("{} {}", verb.name.to_uppercase(), roff(verb.operand));
+        let heading = format!("\"{} {}\"", verb.name.to_uppercase(), roff(verb.operand));
         let items: String = verb.flags.iter().map(item).collect();
-        format!(".SH \"{}\"\n{}\n{items}", heading.trim_end(), roff(verb.help))
+        format!(".SH {heading}\n{}\n{items}", roff(verb.help))
     }));
     page += ".SH OPTIONS\n";
     page.extend(FLAGS.iter().map(item));

@@ -5,7 +5,7 @@ use crate::feed::Feed;
 use crate::paging::{self, Outcome, Report};
 use crate::style::{self, Style};
 use crate::text::Layout;
-use crate::{csv, json, progress, source, system, text, COULD_NOT_RUN, REFUSED};
+use crate::{json, progress, source, system, text, COULD_NOT_RUN, REFUSED};
 use std::io::{self, BufWriter, ErrorKind, IsTerminal, Write};
 use std::os::fd::AsRawFd;
 use std::panic::{self, AssertUnwindSafe};
@@ -28,11 +28,6 @@ struct Desk<'a> {
 /// Checks all feeds and gives the exit status, the worst of theirs.
 pub fn run(check: &Check) -> u8 {
     let style = style::of_output(check.color, check.form == Form::Quiet);
-    if check.form == Form::Csv {
-        if let Err(message) = write(|out| csv::head(out)) {
-            return crate::complain(&message);
-        }
-    }
     let print = |(feed, report, since): (Feed, Report, Instant)| print(check, style, &feed, &report, since);
     each(&check.feeds, check.jobs, |path| checked(check, path), print)
 }
@@ -112,7 +107,6 @@ fn checked(check: &Check, path: &Path) -> Result<(Feed, Report, Instant), String
 fn print(check: &Check, style: Style, feed: &Feed, report: &Report, since: Instant) -> Result<u8, String> {
     write(|out| match check.form {
         Form::Json => json::write(out, feed, report),
-        Form::Csv => csv::write(out, feed, report),
         _ if check.feeds.len() > 1 => writeln!(out, "{}", text::verdict_line(feed, report, style)),
         Form::Quiet => writeln!(out, "{}", text::verdict(report, style)),
         Form::Text => {

@@ -3,8 +3,7 @@
 use crate::feed::{Feed, FILES, MOST_LINES};
 use crate::memory;
 use crate::progress;
-use std::mem;
-use tusuchiy::{faults, table_sizes, try_check, Error, Fault, File, Place, Profile, Verdict};
+use tusuchiy::{faults, table_sizes, try_check, Error, Fault, Place, Profile, Verdict};
 
 /// The most findings that one call hands out: a list of 72 MiB. Each further call is a whole check.
 const MOST_ROOM: usize = 6 << 20;
@@ -134,17 +133,6 @@ pub struct Report {
     pub tables: [Vec<i32>; FILES],
 }
 
-impl Report {
-    /// The verdict in a word.
-    pub fn verdict(&self) -> &'static str {
-        match self.outcome {
-            Outcome::Accepted => "accepted",
-            Outcome::Findings { .. } => "findings",
-            Outcome::Refused { .. } => "refused",
-        }
-    }
-}
-
 /// Checks a feed by the rules that are asked for: one page as the check hands it out, or all findings; where it is refused, the same of its faults.
 pub fn check(feed: &Feed, page: Option<Page>, profile: Profile) -> Result<Report, String> {
     // Most feeds have less than a finding a line, so that one call is enough.
@@ -178,17 +166,6 @@ fn check_by(feed: &Feed, page: Option<Page>, profile: Profile, rooms: [usize; 2]
         }
     };
     Ok(Report { outcome, profile, page, tables })
-}
-
-/// The table of stops as the check leaves it, or what is refused; the other tables are gone.
-pub fn stops_table(feed: &Feed) -> Result<Result<Vec<i32>, Refusal>, String> {
-    memory::told(|| {
-        let mut lent = Lent::new(feed, Profile::Plain)?;
-        Ok(match lent.call(VERDICT_ONLY.after, 0)? {
-            Verdict::Refused(fault) => Err(fault.into()),
-            _ => Ok(mem::take(&mut lent.tables[File::Stops.number() - 1])),
-        })
-    })
 }
 
 /// What is lent to the check of a feed: tables that are long enough, and a list with room for a page.

@@ -26,17 +26,6 @@ extern "C" fn main() -> c_int {
     c_int::from(crate::start())
 }
 
-/// For a command that stays, and ends by its own hand: what was taken for a large feed is given back to the system, and isn't kept for the next
-/// one; a signal ends nothing by itself, and leaves no file behind, since none is written.
-pub fn stay() {
-    // SAFETY: a number is set, before there is a thread that allocates in large pieces.
-    unsafe { libc::mallopt(libc::M_MMAP_THRESHOLD, 1 << 20) };
-    [libc::SIGINT, libc::SIGTERM]
-        .iter()
-        .filter(|signal| !is_ignored(**signal))
-        .for_each(|signal| heed(*signal, libc::SIG_DFL));
-}
-
 /// A file that is opened later never gets the number of a standard descriptor. The root folder can always be opened so, and nothing is read from
 /// it or written to it.
 fn hold_standard_descriptors() {
@@ -189,12 +178,4 @@ pub fn wait_to_write(descriptor: RawFd) {
     let mut asked = libc::pollfd { fd: descriptor, events: libc::POLLOUT, revents: 0 };
     // SAFETY: one such record is lent. Whatever the answer, the next write says what is the matter.
     unsafe { libc::poll(&mut asked, 1, -1) };
-}
-
-/// The time that a file would get which changed now, in seconds and nanoseconds: it goes by ticks of some milliseconds.
-pub fn tick() -> (i64, i64) {
-    let mut now = libc::timespec { tv_sec: 0, tv_nsec: 0 };
-    // SAFETY: one such record is lent, and stays as it is where the call fails.
-    unsafe { libc::clock_gettime(libc::CLOCK_REALTIME_COARSE, &mut now) };
-    (now.tv_sec, now.tv_nsec)
 }

@@ -140,12 +140,8 @@ pub fn numbers(line: usize, column: Option<usize>) -> String {
 /// The text of a line, if there is one.
 fn write_line(out: &mut dyn Write, feed: &Feed, file: usize, line: usize) -> io::Result<()> {
     let Some(bytes) = feed.line(file, line) else { return Ok(()) };
-    write_beginning(out, safe::beginning(bytes, safe::SHOWN_LINE).0, bytes.len())
-}
-
-/// The beginning of a line that has so many bytes, or all of it.
-pub fn write_beginning(out: &mut dyn Write, shown: &[u8], length: usize) -> io::Result<()> {
-    let more = if shown.len() < length { format!(" ... ({length} bytes)") } else { String::new() };
+    let (shown, cut) = safe::beginning(bytes, safe::SHOWN_LINE);
+    let more = if cut { format!(" ... ({} bytes)", bytes.len()) } else { String::new() };
     writeln!(out, "    {}{more}", safe::text(shown))
 }
 

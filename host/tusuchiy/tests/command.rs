@@ -397,8 +397,7 @@ fn the_documented_examples_are_true() {
     let mut index = run(&["index", "--check", "--json", &example("by-date")]);
     index.stdout = out(&index).replace(&example("by-date"), "examples/by-date").into();
     assert_eq!(json::read(out(&index)), json::read(examples[3]));
-    // Those of a lookup are tried with it.
-    assert_eq!(examples.len(), 6);
+    assert_eq!(examples.len(), 4);
 }
 
 /// The examples in the README are what the command prints.
@@ -609,7 +608,7 @@ fn progress_is_gone_after_an_interrupt() {
 
 #[test]
 fn explain_prints_the_clerks_page() {
-    for number in (1..=14).chain(20..=31).chain(40..=46).chain(50..=50).chain(60..=62) {
+    for number in (1..=14).chain(20..=31).chain(40..=46).chain(60..=62) {
         let output = run(&["explain", &number.to_string()]);
         assert_eq!(status(&output), 0);
         let word = if matches!(number, 20..=31 | 60..=62) { "Rule" } else { "Refusal" };
@@ -617,7 +616,7 @@ fn explain_prints_the_clerks_page() {
         assert_eq!(out(&output).matches("\n#").count(), 0);
         assert!(out(&output).contains("**How to mend it.**"));
     }
-    for bad in ["0", "15", "19", "32", "39", "47", "49", "51", "59", "63"] {
+    for bad in ["0", "15", "19", "32", "39", "47", "59", "63"] {
         assert_cannot(&["explain", bad], &["there is no refusal or rule"]);
     }
     for number in 60..=62 {
@@ -673,7 +672,7 @@ fn help_and_version_are_there() {
     }
     for words in [&["--version"][..], &["-V"], &["check", "--version"]] {
         let output = run(words);
-        assert_eq!((status(&output), out(&output)), (0, "tusuchiy 0.11.0\n"), "{words:?}");
+        assert_eq!((status(&output), out(&output)), (0, "tusuchiy 0.10.0\n"), "{words:?}");
     }
 }
 
@@ -707,8 +706,6 @@ fn bash_completes() {
     assert_eq!(complete("tusuchiy index --pro", 2), "");
     assert_eq!(complete("tusuchiy in", 1), "index");
     assert_eq!(complete("tusuchiy index --ch", 2), "--check");
-    assert_eq!(complete("tusuchiy lo", 1), "lookup");
-    assert_eq!(complete("tusuchiy lookup feed --ou", 3), "--output");
     assert_eq!(complete("tusuchiy check --ch", 2), "");
     assert_eq!(complete("tusuchiy --generate m", 2), "man");
     for option in ["--profile", "--color", "--generate"] {

@@ -93,21 +93,6 @@ fn assert_windows(words: &[&str], verdict: i32, below: usize, step: usize) {
     assert!(windows.filter(|most| assert_told(&with_kib(*most, words), verdict, &format!("{most} KiB"))).count() > 2);
 }
 
-/// A lookup reserves addresses for its files, and has memory for what it reads of them.
-#[test]
-fn a_lookup_with_little_memory() {
-    if emulated() {
-        return;
-    }
-    let folder = Folder::new("ends-lookup");
-    assert_eq!(status(&run(&["index", "--quiet", folder.path()])), 0);
-    let file = fs::OpenOptions::new().write(true).open(folder.at("stops.txt")).expect("a file");
-    file.set_len(100 << 20).expect("a file of holes");
-    let words = ["lookup", "--quiet", folder.path(), "HILL"];
-    assert_windows(&words, 0, 120, 4);
-    assert_windows(&words, 0, 100 << 10, 5 << 10);
-}
-
 /// A header of a name of 16 MB with marks in it: what is said of it takes no memory but that of the feed, and with less there is status 3.
 #[test]
 fn long_names_take_no_memory() {

@@ -1,4 +1,4 @@
-//! The command's indexes and its table of stops: what is written and judged, in text, JSON and statuses; each file whole or not at all.
+//! The command's indexes: what is written and judged, in text, JSON and statuses; each file whole or not at all.
 
 mod common;
 
@@ -6,8 +6,7 @@ use cases::limits::{MOST_LINES, MOST_OF_VERSION_1};
 use common::json::Json;
 use common::zip::{feed, member, write};
 use common::{
-    assert_cannot, command, command_after, example, example_files, json, out, program, run, said, status, stops_table,
-    Folder,
+    assert_cannot, command, command_after, example, example_files, json, out, program, run, said, status, Folder,
 };
 use std::fs;
 use std::os::unix::fs::{symlink, PermissionsExt};
@@ -25,14 +24,10 @@ const ROUTES: &[u8] = b"TTX\x01\x00\x02\x01\x00\x01\x00";
 const CALENDAR: &[u8] = b"TTX\x01\x00\x03\x02\x00\x02\x00\x01\x00";
 const TRIPS: &[u8] = b"TTX\x01\x00\x04\x02\x00\x02\x00\x01\x00";
 
-/// All that `index` writes beside the files of the example, in the order of their names.
-const BESIDE: [&str; 5] = ["calendar.ttx", "routes.ttx", "stops.tab", "stops.ttx", "trips.ttx"];
-
-/// A copy of the accepted example with its indexes and its table.
+/// A copy of the accepted example with its indexes.
 fn indexed(name: &str) -> Folder {
     let folder = Folder::new(name);
     INDEXES.iter().zip([STOPS, ROUTES, CALENDAR, TRIPS]).for_each(|(name, bytes)| folder.put(name, bytes));
-    folder.put("stops.tab", &stops_table(&example_files("feed")));
     folder
 }
 
@@ -76,12 +71,11 @@ fn the_example_is_indexed_and_accepted() {
         let lines = [("stops", 5, 18), ("routes", 1, 10), ("calendar", 2, 12), ("trips", 2, 12)];
         let lines =
             lines.map(|(name, count, length)| format!("FEED/{name}.ttx: {word} (records {count}, bytes {length})\n"));
-        format!("{word}\n{}FEED/stops.tab: {word} (lines 6, bytes 168)\n", lines.concat())
+        format!("{word}\n{}", lines.concat())
     };
     assert_said(&folder, &[], 0, &told("written"));
     assert_eq!(INDEXES.map(|name| bytes(&folder, name).expect("an index")), [STOPS, ROUTES, CALENDAR, TRIPS]);
-    assert_eq!(bytes(&folder, "stops.tab"), Some(stops_table(&example_files("feed"))));
-    assert_eq!(beside(&folder), BESIDE);
+    assert_eq!(beside(&folder), ["calendar.ttx", "routes.ttx", "stops.ttx", "trips.ttx"]);
     assert_said(&folder, &["--check"], 0, &told("accepted"));
     assert_said(&folder, &["--quiet"], 0, "written\n");
     assert_said(&folder, &["--quiet", "--check"], 0, "accepted\n");
@@ -89,7 +83,7 @@ fn the_example_is_indexed_and_accepted() {
     assert_eq!(INDEXES.map(|name| bytes(&folder, name).expect("an index")), [STOPS, ROUTES, CALENDAR, TRIPS]);
     let check = run(&["check", folder.path()]);
     assert!(
-        out(&check).contains("\nfiles not read: calendar.ttx, routes.ttx, stops.tab, stops.ttx, trips.ttx\n"),
+        out(&check).contains("\nfiles not read: calendar.ttx, routes.ttx, stops.ttx, trips.ttx\n"),
         "{}",
         out(&check)
     );
@@ -107,12 +101,11 @@ fn a_feed_without_calendar_has_three() {
         let told = |word: &str| {
             format!(
                 "{word}\nFEED/stops.ttx: {word} (records 2, bytes 12)\nFEED/routes.ttx: {word} (records 1, bytes 10)\n\
-                 not supplied: calendar.txt\nFEED/trips.ttx: {word} (records 2, bytes 12)\n\
-                 FEED/stops.tab: {word} (lines 3, bytes 84)\n"
+                 not supplied: calendar.txt\nFEED/trips.ttx: {word} (records 2, bytes 12)\n"
             )
         };
         assert_said(&folder, &[], 0, &told("written"));
-        assert_eq!(beside(&folder), ["routes.ttx", "stops.tab", "stops.ttx", "trips.ttx"]);
+        assert_eq!(beside(&folder), ["routes.ttx", "stops.ttx", "trips.ttx"]);
         assert_said(&folder, &["--check"], 0, &told("accepted"));
         let document = document(&["--check", folder.path()]);
         assert_eq!(verdicts(&document), ["accepted", "accepted", "not_supplied", "accepted"]);
@@ -133,8 +126,7 @@ fn an_index_without_its_file() {
     let told = |word: &str| {
         format!(
             "refused\nFEED/stops.ttx: {word} (records 2, bytes 12)\nFEED/routes.ttx: {word} (records 1, bytes 10)\n\
-             {refused}FEED/trips.ttx: {word} (records 2, bytes 12)\nFEED/stops.tab: {word} (lines 3, bytes 84)\n\
-             `tusuchiy explain 4` says more\n"
+             {refused}FEED/trips.ttx: {word} (records 2, bytes 12)\n`tusuchiy explain 4` says more\n"
         )
     };
     assert_said(&folder, &[], 2, &told("written"));
@@ -160,22 +152,17 @@ fn a_file_that_is_refused() {
     let own = "FEED/stops.txt:3:3: refusal 13: a value doesn't have the form that its column asks for: stop_lat is \"+1.5\", \
                wanted: degrees from -90 to 90, as -33.8675: up to 3 digits, a point, up to 20 digits\n    \
                B,Beech,+1.5,2\n            ^^^^\n";
-    let others = |word: &str, of_table: &str| {
-        let why = "stops.txt:3:3: refusal 13: stop_lat is \"+1.5\", wanted: degrees from -90 to 90, as -33.8675: up to 3 digits, \
-                   a point, up to 20 digits";
+    let others = |word: &str| {
         format!(
             "FEED/routes.ttx: {word} (records 1, bytes 10)\nFEED/calendar.ttx: {word} (records 2, bytes 12)\n\
-             FEED/trips.ttx: {word} (records 2, bytes 12)\nFEED/stops.tab: {of_table}: {why}\n"
+             FEED/trips.ttx: {word} (records 2, bytes 12)\n"
         )
     };
-    let written = others("written", "it isn't written, since the feed is refused");
-    let judged = others("accepted", "the feed is refused, so there is no table to compare it with");
     let hint = "`tusuchiy explain 13` says more\n";
-    assert_said(&folder, &[], 2, &format!("refused\n{own}{written}{hint}"));
-    assert_eq!(bytes(&folder, "stops.tab"), Some(stops_table(&example_files("feed"))), "a refusal changes nothing");
+    assert_said(&folder, &[], 2, &format!("refused\n{own}{}{hint}", others("written")));
     assert_eq!(bytes(&folder, "stops.ttx").as_deref(), Some(STOPS), "a refusal changes nothing");
     assert_eq!(bytes(&folder, "trips.ttx").as_deref(), Some(TRIPS));
-    assert_said(&folder, &["--check"], 2, &format!("refused\n{own}{judged}{hint}"));
+    assert_said(&folder, &["--check"], 2, &format!("refused\n{own}{}{hint}", others("accepted")));
     let check = run(&["check", folder.path()]);
     let advice = "nothing else is refused: mend the whole of this line, then check again for findings\n";
     assert_eq!(out(&check), format!("refused\n{own}{advice}{hint}").replace("FEED", folder.path()), "the same words");
@@ -183,7 +170,6 @@ fn a_file_that_is_refused() {
     let refusal = told.get("indexes").list()[0].get("refusal");
     assert_eq!(refusal, json::read(out(&run(&["check", "--json", folder.path()]))).get("refusal"), "the same document");
     assert_eq!(verdicts(&told), ["refused", "written", "written", "written"]);
-    assert_eq!(told.get("table").get("refusal"), refusal, "of the table too");
 }
 
 /// Files that are missing are refused, each on its own; of a feed with findings all indexes are written.
@@ -210,7 +196,7 @@ fn an_id_that_stands_twice() {
         "refused\nFEED/stops.ttx: written (records 5, bytes 18)\n\
          FEED/routes.txt:4: refusal 45: {meaning}: route_id \"B\" stands on line 2 already\n    3,\"B\"\n\
          FEED/calendar.ttx: written (records 2, bytes 12)\nFEED/trips.ttx: written (records 2, bytes 12)\n\
-         FEED/stops.tab: written (lines 6, bytes 168)\n`tusuchiy explain 45` says more\n"
+         `tusuchiy explain 45` says more\n"
     );
     assert_said(&folder, &[], 2, &wanted);
     assert_eq!(bytes(&folder, "routes.ttx").as_deref(), Some(ROUTES), "a refusal changes nothing");
@@ -328,101 +314,10 @@ fn indexes_that_are_refused() {
     let line = format!("{}: refusal 44: {meaning}: {}", folder.at("stops.ttx"), WRONG[WRONG.len() - 1].2);
     assert_eq!(out(&output).lines().nth(1), Some(&line[..]));
     assert_eq!(out(&output).lines().last(), Some("`tusuchiy explain 44` says more"));
-    assert_eq!((status(&output), out(&output).lines().count()), (2, 7));
+    assert_eq!((status(&output), out(&output).lines().count()), (2, 6));
     // One that is there is replaced, whatever it is.
     assert_said(folder, &["--quiet"], 0, "written\n");
     assert_said(folder, &["--check", "--quiet"], 0, "accepted\n");
-}
-
-/// What `--check` says of the table in a document: its verdict and clause.
-fn table_told(folder: &Folder) -> [String; 2] {
-    let told = document(&["--check", folder.path()]);
-    let clause = told.get("table").get("clause");
-    let clause = if clause == &Json::Null { "" } else { clause.text() };
-    [told.get("table").get("verdict").text().to_string(), clause.to_string()]
-}
-
-/// A table that differs in one number, or in its length, isn't accepted though all indexes are; one that is written anew is.
-#[test]
-fn a_table_that_is_another() {
-    let folder = indexed("index-table");
-    let good = stops_table(&example_files("feed"));
-    assert_eq!(table_told(&folder), ["accepted", ""]);
-    let changed = |place: usize| {
-        let mut table = good.clone();
-        table[place] ^= 1;
-        table
-    };
-    let mut others: Vec<Vec<u8>> = (0..good.len()).step_by(13).chain([good.len() - 1]).map(changed).collect();
-    others.extend([0, 4, 28, 167].map(|length| good[..length].to_vec()));
-    others.extend([&[0][..], &[0; 28]].map(|more| [&good[..], more].concat()));
-    for other in others {
-        folder.put("stops.tab", &other);
-        assert_eq!(table_told(&folder), ["refused", "other"], "{other:?}");
-    }
-    let words = "it isn't the table that the check leaves for these files: run `tusuchiy index`";
-    let output = run(&["index", "--check", folder.path()]);
-    let lines: Vec<&str> = out(&output).lines().collect();
-    assert_eq!((status(&output), lines[0], lines.len()), (2, "refused", 6));
-    assert_eq!(lines[5], format!("{}: {words}", folder.at("stops.tab")), "no number is made up for it");
-    let output = run(&["index", "--check", folder.path(), folder.path()]);
-    assert_eq!(out(&output), format!("{}: refused: stops.tab: {words}\n", folder.path()).repeat(2));
-    folder.take("stops.tab");
-    assert_eq!(table_told(&folder), ["refused", "missing"]);
-    assert_said(&folder, &["--quiet"], 0, "written\n");
-    assert_eq!((table_told(&folder), bytes(&folder, "stops.tab")), (["accepted", ""].map(str::to_string), Some(good)));
-    // Places are the same, a number isn't: the index is still that of the file, and the table isn't.
-    let stops = String::from_utf8(fs::read(folder.at("stops.txt")).expect("a file")).expect("UTF-8");
-    folder.put("stops.txt", stops.replace("52.5072", "52.5073").as_bytes());
-    assert_eq!(table_told(&folder), ["refused", "other"]);
-    assert_eq!(verdicts(&document(&["--check", folder.path()])), ["accepted"; 4]);
-}
-
-/// Where another file is refused there is no table, though the index of stops is written; what stood there stays.
-#[test]
-fn a_feed_that_is_refused_leaves_no_table() {
-    let folder = indexed("index-no-table");
-    folder.put("stop_times.txt", b"trip_id\n");
-    let why = "stop_times.txt:1: refusal 9: the header lacks arrival_time, departure_time, stop_id, stop_sequence";
-    for (words, told) in [
-        (&[][..], "it isn't written, since the feed is refused"),
-        (&["--check"], "the feed is refused, so there is no table to compare it with"),
-    ] {
-        let output = run(&[&["index"], words, &[folder.path()]].concat());
-        let end = format!("{}: {told}: {why}\n`tusuchiy explain 9` says more\n", folder.at("stops.tab"));
-        assert!(out(&output).starts_with("refused\n") && out(&output).ends_with(&end), "{}", out(&output));
-        assert_eq!(status(&output), 2);
-        let many = run(&[&["index"], words, &[folder.path(), folder.path()]].concat());
-        assert_eq!(out(&many), format!("{}: refused: stops.tab: {told}: {why}\n", folder.path()).repeat(2));
-        let document = document(&[words, &[folder.path()]].concat());
-        let table = document.get("table");
-        assert_eq!(["verdict", "clause"].map(|name| table.get(name).text()), ["refused", "feed_refused"]);
-        assert_eq!(["lines", "length"].map(|name| table.get(name)), [&Json::Null; 2]);
-        let refusal = json::read(out(&run(&["check", "--json", folder.path()])));
-        assert_eq!(table.get("refusal"), refusal.get("refusal"), "what `check` says");
-        assert_eq!(bytes(&folder, "stops.tab"), Some(stops_table(&example_files("feed"))), "it stays");
-    }
-    folder.take("stops.tab");
-    assert_eq!(status(&run(&["index", folder.path()])), 2);
-    assert_eq!(bytes(&folder, "stops.tab"), None);
-}
-
-/// A disk that is full leaves the table that was there, and what is no file isn't replaced.
-#[test]
-fn a_table_that_cannot_be_written() {
-    let folder = indexed("index-table-full");
-    let lines: String = (0..500).map(|number| format!("{number:05},name,1,2\n")).collect();
-    folder.put("stops.txt", format!("stop_id,stop_name,stop_lat,stop_lon\n{lines}").as_bytes());
-    let output = command_after("ulimit -f 8").args(["index", folder.path()]).output().expect("the command runs");
-    let wanted = format!("tusuchiy: can't write {}: File too large (os error 27)\n", folder.at("stops.tab"));
-    assert_eq!((status(&output), out(&output), said(&output)), (3, "", &wanted[..]));
-    assert_eq!(bytes(&folder, "stops.tab"), Some(stops_table(&example_files("feed"))));
-    assert_eq!(beside(&folder), BESIDE, "nothing is left beside it");
-    assert_eq!(bytes(&folder, "stops.ttx").expect("an index").len(), 1008, "the index is written");
-    folder.take("stops.tab");
-    fs::create_dir(folder.at("stops.tab")).expect("a folder");
-    assert_cannot(&["index", folder.path()], &["/stops.tab: Is a directory"]);
-    assert_cannot(&["index", "--check", folder.path()], &["/stops.tab: it isn't a regular file"]);
 }
 
 /// An index of a file with an id twice is never accepted, whatever its order.
@@ -448,8 +343,7 @@ fn a_missing_index() {
     let meaning = "the index isn't there, or isn't an index";
     let lines: String =
         INDEXES.iter().map(|name| format!("FEED/{name}: refusal 40: {meaning}: there is no such file\n")).collect();
-    let table = "FEED/stops.tab: there is no such file: run `tusuchiy index`\n";
-    let wanted = format!("refused\n{lines}{table}`tusuchiy explain 40` says more\n").replace("FEED", folder.path());
+    let wanted = format!("refused\n{lines}`tusuchiy explain 40` says more\n").replace("FEED", folder.path());
     assert_eq!((status(&output), out(&output), said(&output)), (2, &wanted[..], ""));
     assert_eq!(beside(&folder), [""; 0]);
     let document = document(&["--check", folder.path()]);
@@ -464,7 +358,7 @@ fn the_document() {
     let output = run(&["index", "--check", "--json", folder.path()]);
     assert_eq!((status(&output), said(&output), out(&output).lines().count()), (2, "", 1));
     let document = json::read(out(&output));
-    assert_eq!(document.names(), ["version", "verdict", "indexes", "feed", "folder", "output", "table"]);
+    assert_eq!(document.names(), ["version", "verdict", "indexes", "feed", "folder", "output"]);
     assert_eq!((document.get("version").number(), document.get("verdict").text()), (1, "refused"));
     assert_eq!((document.get("feed").text(), document.get("folder")), (folder.path(), &Json::Null));
     assert_eq!(document.get("output"), &Json::Null);
@@ -474,9 +368,6 @@ fn the_document() {
     let last = &document.get("indexes").list()[3];
     assert_eq!(last.names(), ["file", "name", "index", "verdict", "version", "records", "length", "refusal"]);
     assert_eq!(["version", "records", "length"].map(|name| last.get(name)), [&Json::Null; 3]);
-    let table = r#"{"name": "stops.tab", "verdict": "accepted", "lines": 6, "length": 168, "clause": null, "words": null,
-                    "refusal": null}"#;
-    assert_eq!(document.get("table"), &json::read(table));
     let members =
         ["file", "name", "line", "column", "column_name", "number", "meaning", "text", "cut", "words", "about"];
     assert_eq!(last.get("refusal").names(), members);
@@ -527,8 +418,7 @@ fn writers_at_the_same_time() {
     let output = run(&[&["index", "--jobs", "8", "--quiet"][..], &feeds].concat());
     assert_eq!((status(&output), said(&output)), (0, ""));
     assert_eq!(INDEXES.map(|name| bytes(&folder, name).expect("an index")), [STOPS, ROUTES, CALENDAR, TRIPS]);
-    assert_eq!(bytes(&folder, "stops.tab"), Some(stops_table(&example_files("feed"))));
-    assert_eq!(beside(&folder), BESIDE);
+    assert_eq!(beside(&folder), ["calendar.ttx", "routes.ttx", "stops.ttx", "trips.ttx"]);
 }
 
 /// There is no place beside the files in a zip file: one is to be named, or the indexes are members.
@@ -549,13 +439,10 @@ fn indexes_of_a_zip_file() {
     // In the zip file there are none yet, and those in another folder of it aren't its own.
     assert_eq!(verdicts(&document(&["--check", &zip])), ["refused"; 4]);
     for (prefix, verdict) in [("", "refused"), ("gtfs/", "accepted")] {
-        members.push(member(&format!("{prefix}stops.tab"), &stops_table(&example_files("feed"))));
         let indexes = INDEXES.iter().zip([STOPS, ROUTES, CALENDAR, TRIPS]);
         members.extend(indexes.map(|(name, bytes)| member(&format!("{prefix}{name}"), bytes)));
         folder.put("feed.zip", &write(&members));
-        let told = document(&["--check", &zip]);
-        assert_eq!(verdicts(&told), [verdict; 4], "{prefix}");
-        assert_eq!(told.get("table").get("verdict").text(), verdict, "{prefix}");
+        assert_eq!(verdicts(&document(&["--check", &zip])), [verdict; 4], "{prefix}");
     }
     members.last_mut().expect("a member").wrong = 1;
     folder.put("feed.zip", &write(&members));
@@ -610,7 +497,7 @@ fn an_index_that_cannot_be_written() {
             &[&["index"], words, &[folder.path()]].concat(),
             &messages.each_ref().map(|message| &message[..]),
         );
-        assert_eq!(beside(&folder), BESIDE);
+        assert_eq!(beside(&folder), ["calendar.ttx", "routes.ttx", "stops.ttx", "trips.ttx"]);
         assert_eq!(bytes(&folder, "calendar.ttx").as_deref(), Some(CALENDAR));
         folder.take("calendar.ttx");
     }
@@ -648,12 +535,12 @@ fn a_folder_without_permission() {
     let _ = fs::remove_file(folder.at("probe"));
     let output = command().args(["index", folder.path()]).output().expect("the command runs");
     assert_eq!((status(&output), out(&output)), (3, ""), "{}", said(&output));
-    for (line, name) in said(&output).lines().zip(INDEXES.into_iter().chain(["stops.tab"])) {
+    for (line, name) in said(&output).lines().zip(INDEXES) {
         assert!(line.contains(&format!("can't write {}: Permission denied", folder.at(name))), "{line}");
     }
-    assert_eq!(said(&output).lines().count(), 5);
+    assert_eq!(said(&output).lines().count(), 4);
     assert_eq!(bytes(&folder, "stops.ttx").as_deref(), Some(&b"old"[..]));
-    assert_eq!(beside(&folder).len(), 5);
+    assert_eq!(beside(&folder).len(), 4);
     let output = command().args(["index", "-o", other.path(), folder.path()]).output().expect("the command runs");
     assert_eq!((status(&output), said(&output)), (0, ""));
     let output = command().args(["index", "--check", "-o", other.path(), folder.path()]).output().expect("it runs");
@@ -682,7 +569,7 @@ fn a_full_disk() {
     let wanted = format!("tusuchiy: can't write {}: File too large (os error 27)\n", folder.at("routes.ttx"));
     assert_eq!((status(&output), out(&output), said(&output)), (3, "", &wanted[..]));
     assert_eq!(bytes(&folder, "routes.ttx").as_deref(), Some(ROUTES));
-    assert_eq!(beside(&folder).len(), 5);
+    assert_eq!(beside(&folder).len(), 4);
     assert_said(&folder, &["--quiet"], 0, "written\n");
     assert_said(&folder, &["--quiet", "--check"], 0, "accepted\n");
 }
@@ -837,7 +724,19 @@ fn colours_and_lost_output() {
     assert_eq!(said(&output), "tusuchiy: can't write to standard output: No space left on device (os error 28)\n");
 }
 
+/// The README's session: its lines are run, and what they print is what stands below them.
 #[test]
 fn the_readmes_session_is_true() {
-    common::assert_session("feed", 3, 2);
+    let folder = Folder::empty("index-readme");
+    let page = include_str!("../../../README.md");
+    let session = page.split_once("    $ cp -r examples/feed feed\n").expect("a session").1;
+    let lines: Vec<&str> = session.lines().map_while(|line| line.strip_prefix("    ")).collect();
+    let (typed, shown): (Vec<&str>, Vec<&str>) = lines.iter().partition(|line| line.starts_with("$ "));
+    let typed: String = typed.iter().map(|line| format!("{}\n", &line[2..])).collect();
+    let script = typed.replace("./tusuchiy", &program().join(" "));
+    let copy = format!("cp -r '{}' feed\n", example("feed"));
+    let mut bash = Command::new("bash");
+    let output = bash.args(["-c", &format!("{copy}{script}")]).current_dir(&folder.0).output().expect("bash");
+    assert_eq!((out(&output), said(&output)), (&format!("{}\n", shown.join("\n"))[..], ""), "{script}");
+    assert_eq!((status(&output), script.lines().count()), (2, 3));
 }

@@ -366,16 +366,6 @@ fn memory_has_a_bound_with_many_findings() {
     let text = fs::read_to_string(&page).expect("a page");
     // Twelve rules share 100,000, and one of them is broken once.
     assert!(text.contains(">Listed here are 91,664 of 17,825,767 findings, the first 8,333 of each rule."), "{total}");
-    // No index, since ids repeat, but the longest table that there can be.
-    for words in [&["index"][..], &["index", "--check"]] {
-        let output = within(allowed(bytes), &[words, &[folder.path()]].concat());
-        assert_eq!(status(&output), 2, "{}", said(&output));
-        assert!(
-            out(&output).contains(&format!("(lines {MOST_LINES}, bytes {})\n", 28 * MOST_LINES)),
-            "{}",
-            out(&output)
-        );
-    }
 }
 
 /// As many faults as there can be: one on each line, on one more without an ending, and that it has none.

@@ -68,14 +68,14 @@ const IDS: [&str; 45] = [
 ];
 
 /// The ids, and longer ones that differ in the last byte of 64, or not at all.
-pub(crate) fn ids() -> Vec<Vec<u8>> {
+fn ids() -> Vec<Vec<u8>> {
     let x = |count: usize| "x".repeat(count);
     let long = [x(63), x(64), x(63) + "a", x(63) + "b", format!("\"{}b\"", x(63)), x(62) + "é", x(62) + "ê"];
     IDS.into_iter().map(String::from).chain(long).map(String::into_bytes).collect()
 }
 
 /// How a file is written around its ids.
-pub(crate) struct Layout {
+pub(super) struct Layout {
     before: &'static str,
     ending: &'static str,
     /// So many columns that nobody reads stand left of the others.
@@ -83,10 +83,10 @@ pub(crate) struct Layout {
     backward: bool,
 }
 
-pub(crate) const PLAIN: Layout = Layout { before: "", ending: "\n", unread: 0, backward: false };
+pub(super) const PLAIN: Layout = Layout { before: "", ending: "\n", unread: 0, backward: false };
 
 /// The last one fills a line of calendar.txt up to 32 fields.
-pub(crate) const LAYOUTS: [Layout; 4] = [
+const LAYOUTS: [Layout; 4] = [
     PLAIN,
     Layout { before: "\u{feff}", ending: "\r\n", unread: 1, backward: true },
     Layout { before: "", ending: "\r\n", unread: 11, backward: true },
@@ -94,7 +94,7 @@ pub(crate) const LAYOUTS: [Layout; 4] = [
 ];
 
 /// A file with these ids as raw fields, all other values being those of the base feed.
-pub(crate) fn file<I: AsRef<[u8]>>(number: usize, layout: &Layout, ids: &[I]) -> Vec<u8> {
+pub(super) fn file<I: AsRef<[u8]>>(number: usize, layout: &Layout, ids: &[I]) -> Vec<u8> {
     let [names, good] = base_line(number).map(|fields| fields.into_iter().map(str::as_bytes).collect::<Vec<_>>());
     let place = names.iter().position(|name| *name == KEYS[number - 1][0].as_bytes()).expect("a column of ids");
     let line = |mut fields: Vec<&[u8]>, unread: &[u8]| {
@@ -164,7 +164,7 @@ fn all_ids() -> Vec<Case> {
 }
 
 /// Ids of three records; the right order is 2, 3, 1.
-pub(crate) const THREE: [&str; 3] = ["B", "A", "\"AB\""];
+pub(super) const THREE: [&str; 3] = ["B", "A", "\"AB\""];
 
 /// Every version beside every other number of an index that is right or wrong, for each file by turns.
 fn every_way_at_once() -> Vec<Case> {

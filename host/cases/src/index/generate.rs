@@ -11,7 +11,7 @@ use model::index::{VERSION_1, VERSION_2};
 use model::records::KEYS;
 
 /// What ids are made of.
-pub(crate) const PIECES: [&str; 17] =
+const PIECES: [&str; 17] =
     ["A", "B", "a", "\"", ",", " ", "!", "#", "\0", "1", "\u{7f}", "é", "ê", "駅", "\u{ffff}", "🚏", "AA"];
 
 /// The call of a seed.
@@ -30,7 +30,7 @@ pub fn case(seed: u64) -> Case {
 }
 
 /// A file with ids of all kinds, in any layout; one in six is broken in some way.
-pub(crate) fn file(number: usize, random: &mut Random) -> Vec<u8> {
+fn file(number: usize, random: &mut Random) -> Vec<u8> {
     let [names, good] = base_line(number);
     let mut grid = Grid::new(&names);
     let good: Vec<Vec<u8>> = good.into_iter().map(Into::into).collect();
@@ -91,7 +91,7 @@ fn buffer(need: usize, random: &mut Random) -> Vec<u8> {
 }
 
 /// The right index, with some damage most of the time; or bytes at random behind the mark.
-pub(crate) fn index(number: usize, mut records: Vec<usize>, random: &mut Random) -> Vec<u8> {
+fn index(number: usize, mut records: Vec<usize>, random: &mut Random) -> Vec<u8> {
     if random.once_in(3) {
         damage_records(&mut records, random);
     }

@@ -54,7 +54,7 @@ struct Many {
 }
 
 /// A number of its own below as many as there may be lines for each record, in no order.
-pub(crate) fn scattered(record: usize) -> usize {
+pub(super) fn scattered(record: usize) -> usize {
     record * 40_503 % MOST_LINES
 }
 

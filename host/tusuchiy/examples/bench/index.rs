@@ -23,14 +23,11 @@ const TIMES: Table = Table(&[
 ]);
 
 /// Ids of one kind: a name, and the raw field of each number below 1,048,576.
-pub type Ids = (&'static str, fn(usize) -> String);
-
-/// Ids in no order.
-pub const RANDOM: Ids = ("random", |number| format!("{:x}", mixed(number)));
+type Ids = (&'static str, fn(usize) -> String);
 
 const IDS: [Ids; 4] = [
     ("sorted", |number| format!("S{number:07}")),
-    RANDOM,
+    ("random", |number| format!("{:x}", mixed(number))),
     ("prefix", |number| format!("{:059}{:05x}", 0, mixed(number))),
     ("quoted", |number| format!("\"\"\"{:05x}\"\"{number}\"\"\"", mixed(number))),
 ];
@@ -41,7 +38,7 @@ fn mixed(number: usize) -> usize {
 }
 
 /// stops.txt with so many lines.
-pub fn stops(ids: Ids, lines: usize) -> Vec<u8> {
+fn stops(ids: Ids, lines: usize) -> Vec<u8> {
     let lines: String = (1..lines).map(|number| format!("{},Stop,1.25,-2.5\n", (ids.1)(number))).collect();
     format!("stop_id,stop_name,stop_lat,stop_lon\n{lines}").into_bytes()
 }

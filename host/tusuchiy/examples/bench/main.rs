@@ -1,13 +1,11 @@
 //! A benchmark, not a test: the proved check beside a check by hash maps, on the same feeds, in one run; then the index beside a sort, and the count of line
-//! ends beside the standard library's, and the lookup beside grep.
-//! Run it with: cargo run --release --example bench -- [--only FEED] [--lines N] [--profile boards], where FEED may be index, line-ends or lookup too;
-//! for the last the command has to be built before: cargo build --release
+//! ends beside the standard library's.
+//! Run it with: cargo run --release --example bench -- [--only FEED] [--lines N] [--profile boards], where FEED may be index or line-ends too
 #![deny(unsafe_code)]
 
 mod clock;
 mod index;
 mod line_ends;
-mod lookup;
 mod measure;
 mod report;
 mod table;
@@ -23,9 +21,6 @@ use tusuchiy::Profile;
 const PATIENCE: f64 = 60.0;
 
 const USAGE: &str = "usage: bench [--only FEED] [--lines N] [--profile plain|boards]";
-
-/// What is measured besides feeds.
-const OTHERS: [&str; 3] = [index::NAME, line_ends::NAME, lookup::NAME];
 
 struct Options {
     only: Option<String>,
@@ -54,14 +49,11 @@ fn main() {
     let Some(options) = options() else { stop(USAGE) };
     let chosen = |family: &&Family| options.only.as_ref().map_or(true, |name| name == family.name);
     let families: Vec<&'static Family> = FAMILIES.iter().filter(chosen).collect();
-    let [index, line_ends, lookup] = OTHERS.map(|own| options.only.as_ref().map_or(true, |name| name == own));
-    if families.is_empty() && !index && !line_ends && !lookup {
+    let [index, line_ends] =
+        [index::NAME, line_ends::NAME].map(|own| options.only.as_ref().map_or(true, |name| name == own));
+    if families.is_empty() && !index && !line_ends {
         let names = FAMILIES.each_ref().map(|family| family.name).join(", ");
-        stop(&format!("the feeds are: {names}, {}", OTHERS.join(", ")));
-    }
-    // Said before anything is measured, which takes minutes.
-    if lookup && !lookup::program().exists() {
-        stop("the lookup is measured by the command too: build it first, by cargo build --release --offline");
+        stop(&format!("the feeds are: {names}, {}, {}", index::NAME, line_ends::NAME));
     }
     if !families.is_empty() {
         feeds(&families, options.lines, options.profile);
@@ -71,9 +63,6 @@ fn main() {
     }
     if line_ends {
         line_ends::measure();
-    }
-    if lookup {
-        lookup::measure();
     }
 }
 

@@ -13,14 +13,14 @@ use tusuchiy::index::Version;
 use tusuchiy::File;
 
 /// What an index begins with, and how many bytes it has at least, whatever its version.
-pub const MARK: [u8; 3] = *b"TTX";
-pub const LEAST: usize = Version::ALL[0].head;
+const MARK: [u8; 3] = *b"TTX";
+const LEAST: usize = Version::ALL[0].head;
 
 /// Where its version, which takes two bytes, its file number and its count stand.
 const VERSION_PLACE: usize = 3;
 const VERSION_WIDTH: usize = 2;
-pub const FILE_PLACE: usize = 5;
-pub const COUNT_PLACE: usize = 6;
+const FILE_PLACE: usize = 5;
+const COUNT_PLACE: usize = 6;
 
 /// The line that a refusal by 40 to 46 is about, 0 for the whole file, and what it is about.
 pub fn of(feed: &Feed, file: File, index: Option<&[u8]>, number: usize) -> (usize, About) {
@@ -46,7 +46,7 @@ pub fn of_nothing(file: File) -> About {
 }
 
 /// A number of so many bytes, low byte first; 0 where the index ends before.
-pub fn number(bytes: &[u8], place: usize, width: usize) -> usize {
+fn number(bytes: &[u8], place: usize, width: usize) -> usize {
     let bytes = bytes.get(place..place + width).unwrap_or(&[]);
     bytes.iter().rev().fold(0, |number, &byte| number << 8 | usize::from(byte))
 }
@@ -67,7 +67,7 @@ fn digits(bytes: &[u8]) -> String {
     bytes.iter().map(|byte| format!("{byte:02X}")).collect::<Vec<_>>().join(" ")
 }
 
-pub fn no_mark(index: Option<&[u8]>) -> About {
+fn no_mark(index: Option<&[u8]>) -> About {
     let bytes = index.unwrap_or(&[]);
     let begins = digits(&bytes[..bytes.len().min(MARK.len())]);
     let (clause, words) = match index {
@@ -83,7 +83,7 @@ pub fn no_mark(index: Option<&[u8]>) -> About {
 }
 
 /// The version of an index.
-pub fn version(bytes: &[u8]) -> usize {
+fn version(bytes: &[u8]) -> usize {
     number(bytes, VERSION_PLACE, VERSION_WIDTH)
 }
 

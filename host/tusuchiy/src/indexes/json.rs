@@ -1,6 +1,5 @@
 //! What became of a feed's indexes, as one JSON document on one line; docs/JSON.md explains it.
 
-use super::table::{self, Table};
 use super::{name, Done, Outcome};
 use crate::json;
 use crate::refusals::Reasons;
@@ -24,7 +23,6 @@ pub fn write(out: &mut dyn Write, done: &Done) -> io::Result<()> {
         ("feed", Value::text(done.feed.place.path.as_os_str().as_bytes())),
         ("folder", json::folder(&done.feed)),
         ("output", output),
-        ("table", of_table(done)),
     ]);
     writeln!(out, "{document}")
 }
@@ -47,24 +45,5 @@ fn of_file(done: &Done, file: File, outcome: &Outcome) -> Value {
         ("records", Value::maybe(listed.map(|(records, _)| records))),
         ("length", Value::maybe(length)),
         ("refusal", refusal),
-    ])
-}
-
-/// What became of the table of stops.
-fn of_table(done: &Done) -> Value {
-    let length = if let Table::Good(length) = done.table { Some(length) } else { None };
-    let (clause, words) = done.table.wrong(done.asked.check).unzip();
-    let refusal = done.table.refusal().map(|(refusal, about)| {
-        let reasons = Reasons::new(&done.feed);
-        json::refused(&done.feed, &reasons, refusal, about.clone())
-    });
-    Value::Members(vec![
-        ("name", Value::text(table::NAME)),
-        ("verdict", Value::text(length.map_or("refused", |_| done.good()))),
-        ("lines", Value::maybe(length.map(|length| length / table::RECORD))),
-        ("length", Value::maybe(length)),
-        ("clause", clause.map_or(Value::Null, Value::text)),
-        ("words", words.map_or(Value::Null, Value::text)),
-        ("refusal", refusal.unwrap_or(Value::Null)),
     ])
 }

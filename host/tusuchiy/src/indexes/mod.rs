@@ -1,8 +1,7 @@
-//! The indexes of a feed and its table of stops: written beside its files, each whole or not at all, or those that stand there judged.
+//! The indexes of a feed: written beside its files, each whole or not at all, or those that stand there judged.
 
-pub mod about;
+mod about;
 mod json;
-pub mod table;
 mod text;
 
 use crate::arguments::Form;
@@ -10,7 +9,7 @@ use crate::facts::About;
 use crate::feed::{Feed, MOST_LINES};
 use crate::folder::{Files, Folder};
 use crate::memory;
-use crate::paging::{self, Refusal};
+use crate::paging::Refusal;
 use crate::refusals::Reasons;
 use crate::style::{self, Style, When};
 use crate::{many, progress, safe, source, whole, zip, REFUSED};
@@ -18,12 +17,11 @@ use std::ffi::OsStr;
 use std::io::Write;
 use std::os::unix::ffi::OsStrExt;
 use std::path::{Path, PathBuf};
-use table::Table;
 use tusuchiy::index::{self, Refused, Version, FILES};
 use tusuchiy::{Error, File};
 
 /// The most bytes that an index may have: one of as many records as rule 2 allows.
-pub const MOST_BYTES: usize = Version::of(MOST_LINES - 1).length(MOST_LINES - 1);
+const MOST_BYTES: usize = Version::of(MOST_LINES - 1).length(MOST_LINES - 1);
 
 /// What `index` is asked for.
 #[derive(Debug, Default, PartialEq, Eq)]
@@ -48,15 +46,11 @@ enum Outcome {
     Refused(Refusal, About),
 }
 
-/// What became of the indexes, one for each file that has one, and of the table of stops.
-type Outcomes = ([Outcome; FILES.len()], Table);
-
-/// What was done for a feed.
+/// What was done for a feed: an outcome for each file that has an index.
 struct Done<'a> {
     asked: &'a Asked,
     feed: Feed,
     outcomes: [Outcome; FILES.len()],
-    table: Table,
 }
 
 /// Writes or judges the indexes of all feeds and gives the exit status, the worst of theirs.
@@ -69,20 +63,13 @@ fn done<'a>(asked: &'a Asked, path: &Path) -> Result<Done<'a>, String> {
     let output = asked.output.as_ref().map(|folder| must_be_folder(folder)).transpose()?;
     let feed = source::read(path, asked.follow_links)?;
     let folder = output.as_ref().or(feed.opened.as_ref());
-    let all = || match folder {
-        _ if asked.check => judge_all(asked, &feed, folder),
-        Some(folder) => write_all(&feed, folder),
-        None => {
-            let path = safe::name(feed.place.path.as_os_str().as_bytes());
-            Err(format!("can't write beside the files in {path}: unpack it, or name a folder with --output"))
-        }
-    };
-    let (outcomes, table) = tusuchiy::in_one_thread(all).map_err(|error| Error::Thread(error).to_string())??;
-    Ok(Done { asked, feed, outcomes, table })
+    let all = || if asked.check { judge_all(asked, &feed, folder) } else { write_all(&feed, folder) };
+    let outcomes = tusuchiy::in_one_thread(all).map_err(|error| Error::Thread(error).to_string())??;
+    Ok(Done { asked, feed, outcomes })
 }
 
 /// A folder that isn't there is a slip of the user's, and not one without indexes.
-pub fn must_be_folder(path: &Path) -> Result<Folder, String> {
+fn must_be_folder(path: &Path) -> Result<Folder, String> {
     Folder::open(path).map_err(|error| {
         let is_other = error.raw_os_error() == Some(libc::ENOTDIR);
         let why = if is_other { "it isn't a folder".to_string() } else { error.to_string() };
@@ -96,9 +83,9 @@ fn print(done: &Done, style: Style) -> Result<u8, String> {
         Form::Json => json::write(out, done),
         _ if done.asked.feeds.len() > 1 => writeln!(out, "{}", text::verdict_line(done, style)),
         Form::Quiet => writeln!(out, "{}", text::verdict(done, style)),
-        Form::Text | Form::Csv => text::write(out, done, style),
+        Form::Text => text::write(out, done, style),
     })?;
-    Ok(if done.is_refused() { REFUSED } else { 0 })
+    Ok(if done.refused().next().is_some() { REFUSED } else { 0 })
 }
 
 /// The name of the index of a file that has one.
@@ -106,23 +93,19 @@ fn name(file: File) -> &'static str {
     file.index_name().unwrap_or_default()
 }
 
-/// Judges all indexes and the table. One that isn't there has no bytes, unless its file isn't supplied either.
-fn judge_all(asked: &Asked, feed: &Feed, folder: Option<&Folder>) -> Result<Outcomes, String> {
-    // First, since what it needs besides is gone before anything else is read.
-    let wanted = paging::stops_table(feed)?;
-    let beside = read(asked, feed, folder)?;
-    let (table, mut places) = (beside[FILES.len()].as_deref(), beside.iter());
-    let outcomes = FILES.map(|file| judge(feed, file, places.next().and_then(Option::as_deref)));
-    all(outcomes, Ok(table::judge(feed, wanted, table)))
+/// Judges all indexes. One that isn't there has no bytes, unless its file isn't supplied either.
+fn judge_all(asked: &Asked, feed: &Feed, folder: Option<&Folder>) -> Result<[Outcome; FILES.len()], String> {
+    let indexes = read(asked, feed, folder)?;
+    let mut places = indexes.iter();
+    all(FILES.map(|file| judge(feed, file, places.next().and_then(Option::as_deref))))
 }
 
-/// Reads the indexes and the table from where they stand.
-fn read(asked: &Asked, feed: &Feed, folder: Option<&Folder>) -> Result<Files<{ FILES.len() + 1 }>, String> {
-    let [stops, routes, calendar, trips] = FILES.map(|file| (name(file), MOST_BYTES));
-    let sought = [stops, routes, calendar, trips, (table::NAME, table::MOST_BYTES)];
+/// Reads the indexes from where they stand.
+fn read(asked: &Asked, feed: &Feed, folder: Option<&Folder>) -> Result<Files<{ FILES.len() }>, String> {
+    let names = FILES.map(name);
     match folder {
-        None => zip::read_beside(&feed.place, sought),
-        Some(folder) => folder.read_files(sought, asked.follow_links),
+        None => zip::read_beside(&feed.place, names, MOST_BYTES),
+        Some(folder) => folder.read_files(names, MOST_BYTES, asked.follow_links),
     }
 }
 
@@ -138,28 +121,28 @@ fn judge(feed: &Feed, file: File, index: Option<&[u8]>) -> Result<Outcome, Strin
     })
 }
 
-/// Writes all indexes that there are, and the table; one that can't be written is no reason to leave out the others.
-fn write_all(feed: &Feed, folder: &Folder) -> Result<Outcomes, String> {
-    let outcomes = FILES.map(|file| write(feed, file, folder));
-    let table = paging::stops_table(feed).and_then(|table| table::write(feed, table, folder));
-    all(outcomes, table.map_err(|why| cannot(folder, table::NAME, &why)))
-}
-
-/// What is in the way of writing a file of a folder.
-fn cannot(folder: &Folder, name: &str, why: &str) -> String {
-    format!("can't write {}: {why}", safe::name(folder.path_of(name).as_os_str().as_bytes()))
+/// Writes all indexes that there are; one that can't be written is no reason to leave out the others.
+fn write_all(feed: &Feed, folder: Option<&Folder>) -> Result<[Outcome; FILES.len()], String> {
+    let Some(folder) = folder else {
+        let path = safe::name(feed.place.path.as_os_str().as_bytes());
+        return Err(format!("can't write beside the files in {path}: unpack it, or name a folder with --output"));
+    };
+    all(FILES.map(|file| write(feed, file, folder)))
 }
 
 fn write(feed: &Feed, file: File, folder: &Folder) -> Result<Outcome, String> {
-    let name = name(file);
-    if feed.left_out(file) && matches!(folder.about(OsStr::new(name), false), Ok(None) | Err(_)) {
+    let name = OsStr::new(name(file));
+    if feed.left_out(file) && matches!(folder.about(name, false), Ok(None) | Err(_)) {
         return Ok(Outcome::NotSupplied);
     }
-    let cannot = |why: String| cannot(folder, name, &why);
+    let cannot = |why: String| {
+        let path = folder.path_of(name);
+        format!("can't write {}: {why}", safe::name(path.as_os_str().as_bytes()))
+    };
     progress::step(|| format!("indexing {file}"));
     match memory::told(|| index::of(file, feed.bytes(file))).map_err(|error| cannot(error.to_string()))? {
         Ok(index) => {
-            let put = whole::put(folder, OsStr::new(name), |out| out.write_all(&index));
+            let put = whole::put(folder, name, |out| out.write_all(&index));
             put.map_err(|error| cannot(error.to_string())).map(|()| Outcome::Good(index.len()))
         }
         Err(refused) => Ok(refusal(feed, file, None, refused)),
@@ -167,13 +150,12 @@ fn write(feed: &Feed, file: File, folder: &Folder) -> Result<Outcome, String> {
 }
 
 /// All outcomes, or what was in the way of each, a line each.
-fn all(outcomes: [Result<Outcome, String>; FILES.len()], table: Result<Table, String>) -> Result<Outcomes, String> {
-    let wrong = outcomes.iter().filter_map(|outcome| outcome.as_ref().err()).chain(table.as_ref().err());
-    let wrong: Vec<&str> = wrong.map(String::as_str).collect();
+fn all(outcomes: [Result<Outcome, String>; FILES.len()]) -> Result<[Outcome; FILES.len()], String> {
+    let wrong: Vec<&str> = outcomes.iter().filter_map(|outcome| outcome.as_ref().err().map(String::as_str)).collect();
     if !wrong.is_empty() {
         return Err(wrong.join("\n"));
     }
-    Ok((outcomes.map(|outcome| outcome.unwrap_or(Outcome::NotSupplied)), table?))
+    Ok(outcomes.map(|outcome| outcome.unwrap_or(Outcome::NotSupplied)))
 }
 
 /// A refusal with what it is about: the file's own, or that of its index.
@@ -196,7 +178,7 @@ fn refusal(feed: &Feed, file: File, index: Option<&[u8]>, refused: Refused) -> O
 impl Done<'_> {
     /// What became of all indexes, and of one that is good.
     fn verdict(&self) -> &'static str {
-        if self.is_refused() {
+        if self.refused().next().is_some() {
             "refused"
         } else {
             self.good()
@@ -211,12 +193,7 @@ impl Done<'_> {
         }
     }
 
-    /// Is an index refused, or the table?
-    fn is_refused(&self) -> bool {
-        self.refused().next().is_some() || !matches!(self.table, Table::Good(_))
-    }
-
-    /// What is refused of the indexes.
+    /// What is refused.
     fn refused(&self) -> impl Iterator<Item = (&Refusal, &About)> {
         self.outcomes.iter().filter_map(|outcome| match outcome {
             Outcome::Refused(refusal, about) => Some((refusal, about)),

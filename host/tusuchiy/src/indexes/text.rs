@@ -1,6 +1,5 @@
 //! What became of a feed's indexes, as text: the verdict, then each index or why it is refused.
 
-use super::table::{self, Table};
 use super::{is_of_index, name, Done, Outcome};
 use crate::paging::Refusal;
 use crate::safe;
@@ -29,20 +28,7 @@ pub fn write(out: &mut dyn Write, done: &Done, style: Style) -> io::Result<()> {
             }
         }
     }
-    write_table(out, done, style)?;
-    let refused = done.refused().chain(done.table.refusal()).next();
-    refused.map_or(Ok(()), |(refusal, _)| text::write_hint(out, refusal.number))
-}
-
-/// What became of the table of stops.
-fn write_table(out: &mut dyn Write, done: &Done, style: Style) -> io::Result<()> {
-    let path = style.path(&done.path(table::NAME));
-    match (&done.table, done.table.wrong(done.asked.check)) {
-        (Table::Good(length), _) => {
-            writeln!(out, "{path}: {} (lines {}, bytes {length})", done.good(), length / table::RECORD)
-        }
-        (_, wrong) => writeln!(out, "{path}: {}", wrong.map_or(String::new(), |(_, words)| words)),
-    }
+    done.refused().next().map_or(Ok(()), |(refusal, _)| text::write_hint(out, refusal.number))
 }
 
 /// How many records an index lists, and its version where older programs wouldn't read it.
@@ -54,20 +40,18 @@ fn listed(done: &Done, file: File) -> String {
 
 /// The verdict in a word.
 pub fn verdict(done: &Done, style: Style) -> String {
-    if done.is_refused() {
-        style.bad(done.verdict())
-    } else {
-        style.good(done.verdict())
+    match done.refused().next() {
+        None => style.good(done.verdict()),
+        Some(_) => style.bad(done.verdict()),
     }
 }
 
 /// The verdict of one of many feeds: one line, with what is refused first and how much else is.
 pub fn verdict_line(done: &Done, style: Style) -> String {
     let path = safe::name(done.feed.place.path.as_os_str().as_bytes());
-    let mut wrong =
-        done.refused().map(|(refusal, about)| text::in_short(named(refusal), refusal, about)).chain(of_table(done));
-    let first = wrong.next().map_or(String::new(), |first| format!(": {first}"));
-    let words = first + &text::and_more(wrong.count());
+    let mut refused = done.refused();
+    let first = refused.next().map(|(refusal, about)| format!(": {}", text::in_short(named(refusal), refusal, about)));
+    let words = first.unwrap_or_default() + &text::and_more(refused.count());
     format!("{}: {}{words}", style.path(&path), verdict(done, style))
 }
 
@@ -75,11 +59,4 @@ pub fn verdict_line(done: &Done, style: Style) -> String {
 fn named(refusal: &Refusal) -> &'static str {
     let named = |file| if is_of_index(refusal) { name(file) } else { file.name() };
     File::new(refusal.file).map_or("", named)
-}
-
-/// What is wrong with the table, unless it is a refusal that is named for an index already.
-fn of_table(done: &Done) -> Option<String> {
-    let named = done.table.refusal().is_some_and(|(own, _)| done.refused().any(|(refusal, _)| refusal == own));
-    let (_, words) = done.table.wrong(done.asked.check).filter(|_| !named)?;
-    Some(format!("{}: {words}", table::NAME))
 }

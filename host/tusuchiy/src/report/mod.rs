@@ -24,8 +24,8 @@ use std::path::{Path, PathBuf};
 use tusuchiy::Profile;
 
 const PAGE: &str = include_str!("page.html");
-pub const STYLE: &str = include_str!("page.css");
-pub const SCRIPT: &str = include_str!("page.js");
+const STYLE: &str = include_str!("page.css");
+const SCRIPT: &str = include_str!("page.js");
 
 /// What `report` is asked for.
 #[derive(Debug, Default, PartialEq, Eq)]
@@ -255,19 +255,14 @@ impl<'a> Subject<'a> {
     }
 }
 
-/// Writes the page.
-pub fn write(out: &mut dyn Write, feed: &Feed, report: &Report) -> io::Result<()> {
+/// Writes the page: its frame, with each `{{name}}` in it replaced by the part of that name.
+fn write(out: &mut dyn Write, feed: &Feed, report: &Report) -> io::Result<()> {
     let subject = Subject::new(feed, report);
-    fill(out, PAGE, |out, name| part(out, name, &subject))
-}
-
-/// Writes the frame of a page, with each `{{name}}` in it replaced by the part of that name.
-pub fn fill(out: &mut dyn Write, frame: &str, part: impl Fn(&mut dyn Write, &str) -> io::Result<()>) -> io::Result<()> {
-    let mut pieces = frame.split("{{");
+    let mut pieces = PAGE.split("{{");
     out.write_all(pieces.next().unwrap_or("").as_bytes())?;
     for piece in pieces {
         let (name, text) = piece.split_once("}}").unwrap_or((piece, ""));
-        part(out, name)?;
+        part(out, name, &subject)?;
         out.write_all(text.as_bytes())?;
     }
     Ok(())
@@ -299,7 +294,8 @@ fn part(out: &mut dyn Write, name: &str, subject: &Subject) -> io::Result<()> {
 }
 
 /// The page's content policy: its own style and script by their digests, and nothing else from anywhere.
-pub fn policy() -> String {
+fn policy() -> String {
+    let hash = |text: &str| format!("'sha256-{}'", digest::base64(&digest::sha256(text.as_bytes())));
     format!(
         "default-src 'none'; style-src {}; script-src {}; base-uri 'none'; form-action 'none'; \
          require-trusted-types-for 'script'",
@@ -308,31 +304,21 @@ pub fn policy() -> String {
     )
 }
 
-/// What a content policy names a style or a script by.
-pub fn hash(text: &str) -> String {
-    format!("'sha256-{}'", digest::base64(&digest::sha256(text.as_bytes())))
-}
-
-/// A script makes text, never markup, and neither it nor a style ends before its end.
-#[cfg(test)]
-pub fn assert_plain(script: &str, style: &str) {
-    for way in ["innerHTML", "outerHTML", "insertAdjacentHTML", "document.write", "eval(", "Function("] {
-        assert!(!script.contains(way), "{way}");
-    }
-    for (text, end) in [(script, "</script"), (style, "</style"), (script, "<!--"), (style, "url("), (style, "@import")]
-    {
-        assert!(!text.contains(end), "{end}");
-    }
-}
-
 #[cfg(test)]
 mod tests {
     use super::*;
 
-    /// The frame names nothing else than parts that there are, and the script asks nobody for anything.
+    /// The frame names nothing else than parts that there are, and the script makes text, never markup.
     #[test]
     fn the_sources_are_plain() {
-        assert_plain(SCRIPT, STYLE);
-        assert!(!SCRIPT.contains("fetch(") && !SCRIPT.contains("XMLHttpRequest"));
+        let ways = ["innerHTML", "outerHTML", "insertAdjacentHTML", "document.write", "eval(", "Function(", "fetch("];
+        for way in ways {
+            assert!(!SCRIPT.contains(way), "{way}");
+        }
+        for (text, end) in
+            [(SCRIPT, "</script"), (STYLE, "</style"), (SCRIPT, "<!--"), (STYLE, "url("), (STYLE, "@import")]
+        {
+            assert!(!text.contains(end), "{end}");
+        }
     }
 }

@@ -4,6 +4,7 @@ use super::bad;
 use super::records::Member;
 use flate2::bufread::DeflateDecoder;
 use flate2::CrcReader;
+use std::fs::File;
 use std::io::{self, BufReader, Chain, Read};
 use std::os::unix::fs::FileExt;
 
@@ -12,7 +13,7 @@ const BEHIND: &[u8] = &[0xFF; 64];
 
 /// So many bytes of a file, from a place on.
 struct Piece<'a> {
-    file: &'a dyn FileExt,
+    file: &'a File,
     place: u64,
     left: u64,
 }
@@ -48,7 +49,7 @@ pub struct Data<'a> {
 }
 
 impl<'a> Data<'a> {
-    pub fn of(file: &'a dyn FileExt, member: &'a Member) -> Self {
+    pub fn of(file: &'a File, member: &'a Member) -> Self {
         let piece = Piece { file, place: member.data, left: member.packed };
         let bytes = if member.is_packed {
             Bytes::Packed(DeflateDecoder::new(BufReader::with_capacity(1 << 16, piece.chain(BEHIND))))

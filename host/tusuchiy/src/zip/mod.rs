@@ -1,21 +1,19 @@
 //! Reads a feed from a zip file, in memory, if every program reads the same feed from it.
 
 mod data;
-mod held;
 mod names;
 #[cfg(test)]
 mod readers;
 mod records;
 
-use crate::feed::{Feed, Place, Unread, FILES, MOST_BYTES, NAMES};
+use crate::feed::{Feed, Place, Unread, MOST_BYTES, NAMES};
 use crate::folder::{all, cannot, limited, open, Files};
 use crate::{progress, safe};
 use data::Data;
-use held::Held;
 use records::{named, Member};
 use std::collections::BTreeSet;
+use std::fs::File;
 use std::io::{self, ErrorKind, Read};
-use std::os::unix::fs::FileExt;
 use std::path::Path;
 
 /// More than this beside the six files isn't unpacked: a member without numbers of 64 bits has no more.
@@ -29,25 +27,14 @@ type Found<'a, const COUNT: usize> = [Option<&'a Member>; COUNT];
 
 /// Reads the six files from a zip file, or says in a line for each what is in the way.
 pub fn read(path: &Path) -> Result<Feed, String> {
-    let (file, length) = open(path, true).map_err(|error| cannot(path, &error.to_string()))?;
-    read_from(&file, length, path)
-}
-
-/// The same from the bytes of one, which are told of as if they were a file of this name.
-pub fn read_held(bytes: Vec<u8>, name: &Path) -> Result<Feed, String> {
-    let length = bytes.len() as u64;
-    read_from(&Held(bytes), length, name)
-}
-
-fn read_from(file: &dyn FileExt, length: u64, path: &Path) -> Result<Feed, String> {
-    let members = members(file, length, path)?;
+    let (file, members) = opened(path)?;
     let in_it = |error: io::Error| cannot(path, &error.to_string());
     let folder = choose(&members).map_err(in_it)?;
     let found = sought(&members, folder, NAMES);
-    let files = unpack_all(path, file, found, [MOST_BYTES; FILES])?;
+    let files = unpack_all(path, &file, found, MOST_BYTES)?;
     // With a file that is too long the feed is refused, whatever the other members are.
     if !files.iter().flatten().any(|file| file.len() > MOST_BYTES) {
-        pass_others(file, &members, found).map_err(in_it)?;
+        pass_others(&file, &members, found).map_err(in_it)?;
     }
     let mut unread = Unread::default();
     let others = members.iter().map(|member| &member.name[..]).filter(|name| !names::is_folder(name));
@@ -55,17 +42,22 @@ fn read_from(file: &dyn FileExt, length: u64, path: &Path) -> Result<Feed, Strin
     Ok(Feed::new(Place { path: path.to_path_buf(), is_zip: true, folder: folder.to_vec() }, files, unread))
 }
 
-/// Reads the files of these names that stand beside a feed's, each at most one byte past so many as stand beside it.
-pub fn read_beside<const COUNT: usize>(place: &Place, files: [(&str, usize); COUNT]) -> Result<Files<COUNT>, String> {
-    let path = &place.path;
-    let (file, length) = open(path, true).map_err(|error| cannot(path, &error.to_string()))?;
-    let members = members(&file, length, path)?;
-    let found = sought(&members, &place.folder, files.map(|(name, _)| name));
-    unpack_all(path, &file, found, files.map(|(_, most)| most))
+/// Reads the files of these names that stand beside a feed's, each at most one byte past so many.
+pub fn read_beside<const COUNT: usize>(
+    place: &Place,
+    names: [&str; COUNT],
+    most: usize,
+) -> Result<Files<COUNT>, String> {
+    let (file, members) = opened(&place.path)?;
+    unpack_all(&place.path, &file, sought(&members, &place.folder, names), most)
 }
 
-fn members(file: &dyn FileExt, length: u64, path: &Path) -> Result<Vec<Member>, String> {
-    records::members(file, length).map_err(|error| cannot(path, &error.to_string()))
+fn opened(path: &Path) -> Result<(File, Vec<Member>), String> {
+    let opened = open(path, true).and_then(|(file, length)| {
+        let members = records::members(&file, length)?;
+        Ok((file, members))
+    });
+    opened.map_err(|error| cannot(path, &error.to_string()))
 }
 
 fn bad(words: impl Into<String>) -> io::Error {
@@ -94,13 +86,11 @@ fn sought<'a, const COUNT: usize>(members: &'a [Member], folder: &[u8], names: [
 /// The bytes of members, or of each that can't be read what is in the way, a line each.
 fn unpack_all<const COUNT: usize>(
     path: &Path,
-    file: &dyn FileExt,
+    file: &File,
     found: Found<COUNT>,
-    most: [usize; COUNT],
+    most: usize,
 ) -> Result<Files<COUNT>, String> {
-    let mut most = most.into_iter();
     all(found.map(|member| {
-        let most = most.next().unwrap_or_default();
         member.inspect(|member| progress::step(|| format!("unpacking {}", safe::name(names::parts(&member.name).1))));
         let bytes = member.map(|member| unpack(file, member, most).map_err(|error| named(&member.name, &error)));
         bytes.transpose().map_err(|error| cannot(path, &error.to_string()))
@@ -108,7 +98,7 @@ fn unpack_all<const COUNT: usize>(
 }
 
 /// The bytes of a member, at most one past so many, or past the size that it claims. A longer one is refused, whatever follows.
-fn unpack(file: &dyn FileExt, member: &Member, most: usize) -> io::Result<Vec<u8>> {
+fn unpack(file: &File, member: &Member, most: usize) -> io::Result<Vec<u8>> {
     let mut data = Data::of(file, member);
     // No memory is asked for that nothing in the file could fill.
     let expected = member.size.min(member.packed.saturating_mul(MOST_FROM_BYTE));
@@ -120,7 +110,7 @@ fn unpack(file: &dyn FileExt, member: &Member, most: usize) -> io::Result<Vec<u8
 }
 
 /// Unpacks all other members, and keeps nothing: what doesn't end where the directory says may hide members from it.
-fn pass_others<const COUNT: usize>(file: &dyn FileExt, members: &[Member], found: Found<COUNT>) -> io::Result<()> {
+fn pass_others<const COUNT: usize>(file: &File, members: &[Member], found: Found<COUNT>) -> io::Result<()> {
     let is_found = |member: &Member| found.iter().flatten().any(|found| found.data == member.data);
     let others = || members.iter().filter(|member| !is_found(member));
     if others().map(|member| member.size).sum::<u64>() > MOST_BESIDE {

@@ -2,6 +2,7 @@
 
 use super::{bad, names};
 use crate::safe;
+use std::fs::File;
 use std::io::{self, ErrorKind};
 use std::os::unix::fs::FileExt;
 
@@ -81,7 +82,7 @@ struct Directory {
 }
 
 /// The members in the order of their data, or why some program would find others.
-pub fn members(file: &dyn FileExt, length: u64) -> io::Result<Vec<Member>> {
+pub fn members(file: &File, length: u64) -> io::Result<Vec<Member>> {
     let directory = directory(file, length)?;
     let mut members = listed(&at(file, directory.place, directory.length as usize)?, directory.count)?;
     names::check_together(members.iter().map(|member| &member.name[..]))?;
@@ -109,7 +110,7 @@ fn number(record: &[u8], place: usize, bytes: usize) -> u64 {
 }
 
 /// So many bytes from a place.
-fn at(file: &dyn FileExt, place: u64, length: usize) -> io::Result<Vec<u8>> {
+fn at(file: &File, place: u64, length: usize) -> io::Result<Vec<u8>> {
     let mut bytes = Vec::new();
     bytes.try_reserve_exact(length)?;
     bytes.resize(length, 0);
@@ -127,7 +128,7 @@ fn take<'a>(rest: &mut &'a [u8], length: usize) -> Option<&'a [u8]> {
 }
 
 /// Finds the record at the end, and with it the directory.
-fn directory(file: &dyn FileExt, length: u64) -> io::Result<Directory> {
+fn directory(file: &File, length: u64) -> io::Result<Directory> {
     let start = length.saturating_sub((END + COMMENT) as u64);
     let tail = at(file, start, (length - start) as usize)?;
     let end = end(&tail)?;
@@ -229,7 +230,7 @@ impl Member {
     }
 
     /// Finds its data, and holds the record before them to the directory and what is behind them to where the next one begins.
-    fn locate(&mut self, file: &dyn FileExt, next: u64) -> io::Result<()> {
+    fn locate(&mut self, file: &File, next: u64) -> io::Result<()> {
         let record = at(file, self.place, LOCAL)?;
         let [name, extra] = [26, 28].map(|place| number(&record, place, 2) as usize);
         let behind = at(file, self.place + LOCAL as u64, name + extra)?;
@@ -255,7 +256,7 @@ impl Member {
     }
 
     /// Between the data and the next member stand checksum and sizes, if a flag says so, and else nothing.
-    fn check_behind(&self, file: &dyn FileExt, next: u64) -> io::Result<()> {
+    fn check_behind(&self, file: &File, next: u64) -> io::Result<()> {
         let end = self.data + self.packed;
         let length = next.checked_sub(end).ok_or_else(|| bad("another member begins before it ends"))?;
         let plain = self.numbers().map(|number| (number as u32).to_le_bytes()).concat();

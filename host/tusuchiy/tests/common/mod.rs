@@ -1,7 +1,6 @@
-//! What the tests of the command share: how it is run, feeds in folders of their own, zip files, a JSON reader, guarded memory.
+//! What the tests of the command share: how it is run, feeds in folders of their own, zip files, a JSON reader.
 #![allow(dead_code)]
 
-pub mod guarded;
 pub mod json;
 pub mod memory;
 pub mod zip;
@@ -151,29 +150,4 @@ impl Drop for Folder {
 /// The files of an example; one that it lacks is empty.
 pub fn example_files(name: &str) -> [Vec<u8>; 6] {
     NAMES.map(|file| fs::read(Path::new(&example(name)).join(file)).unwrap_or_default())
-}
-
-/// The table of stops of a feed that can be read, as stops.tab has it: by the model, numbers with their low byte first.
-pub fn stops_table(files: &[Vec<u8>; 6]) -> Vec<u8> {
-    let mut tables = cases::large::tables(files, 0);
-    let answer = model::check(files, &mut tables, &mut [], [0, 0, 0], model::Profile::Plain);
-    assert!(!matches!(answer, model::Answer::Refused { .. }), "{answer:?}");
-    tables[0].iter().flat_map(|number| number.to_le_bytes()).collect()
-}
-
-/// Fails unless a session of the README is true, which begins with a copy of an example under this name: its lines are run, and what they print
-/// is what stands below them. There are so many lines after the copy, and the last one has this status.
-pub fn assert_session(name: &str, lines: usize, code: i32) {
-    let folder = Folder::empty(&format!("readme-{name}"));
-    let page = include_str!("../../../../README.md");
-    let session = page.split_once(&format!("    $ cp -r examples/feed {name}\n")).expect("a session").1;
-    let session: Vec<&str> = session.lines().map_while(|line| line.strip_prefix("    ")).collect();
-    let (typed, shown): (Vec<&str>, Vec<&str>) = session.iter().partition(|line| line.starts_with("$ "));
-    let typed: String = typed.iter().map(|line| format!("{}\n", &line[2..])).collect();
-    let script = typed.replace("./tusuchiy", &program().join(" "));
-    let copy = format!("cp -r '{}' {name}\n", example("feed"));
-    let mut bash = Command::new("bash");
-    let output = bash.args(["-c", &format!("{copy}{script}")]).current_dir(&folder.0).output().expect("bash");
-    assert_eq!((out(&output), said(&output)), (&format!("{}\n", shown.join("\n"))[..], ""), "{script}");
-    assert_eq!((status(&output), script.lines().count()), (code, lines));
 }
