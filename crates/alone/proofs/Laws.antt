@@ -7,8 +7,8 @@ use native.Mathlib.Omega.{arith}
 use lib.Dec.{eqb}
 use lib.ListN.{length}
 use borrow.Author.Tests.{ne_eqb, lt-ltb, le-ltb, eqb-true}
-use Rattle.meaning.specs.declared.Verdict.{Verdict}
-use Rattle.meaning.specs.declared.Verdict.TheVariants.{Unreadable}
+use Rattle.std.specs.Prelude.{Result, Err}
+use Rattle.meaning.specs.declared.Refusal.{Refusal}
 use Rattle.meaning.specs.Lists.{empty}
 use Rattle.meaning.specs.Bytes.{count_lf, lines_of}
 use Rattle.meaning.specs.Tables.{file_of}
@@ -16,8 +16,8 @@ use Rattle.meaning.specs.Refusals.{max_bytes, max_lines, rule1, rule2, may_lack,
 use Rattle.indexes.specs.Index.{lone_claims, lone_verdict}
 
 -- the refusal of a whole file
-abbrev pub whole : ℕ → ℕ → Verdict
-whole n f = Unreadable (record { number = n; file = f; line = 0; column = 0 })
+abbrev pub whole : ℕ → ℕ → Result Unit Refusal
+whole n f = Err (record { number = n; file = f; line = 0; column = 0 })
 
 -- no other file stands beside it, so that none of files 1 to 4 may be empty
 lacks_none : (f : ℕ) → f < 5 → may_lack [] f ≡ false
@@ -42,7 +42,7 @@ rule4_is f s h = go (empty s) refl
     go true e = rw (lacks_none f h, empty_unended s e)
     go false e = refl
 
-module _ (f : ℕ) (s : List ℕ) (v : Verdict) where
+module _ (f : ℕ) (s : List ℕ) (v : Result Unit Refusal) where
   pub long : max_bytes < length s → v ≡ whole 1 f → v ≡ lone_verdict f s
   unfolding lone_verdict lone_claims speaks rule1
   long h e = rw (lt-ltb max_bytes (length s) h) e

@@ -4,9 +4,10 @@ use native.Mathlib.Numerals.{add-one}
 use native.Mathlib.Omega.{arith}
 use mathlib.Core.Path.{◌≡◌, refl, sym, ◌∙◌}
 use mathlib.Core.Bool.{Bool, true, false, cond, not, ◌&&◌}
-use mathlib.Core.List.{List, [], ◌∷◌, ◌++◌}
+use mathlib.Core.List.{List, [], ◌∷◌}
 use lib.Dec.{leb, ltb, eqb}
-use lib.ListN.{length, get_or, take, drop, take-append-drop}
+use Rattle.std.specs.List.{fold}
+use lib.ListN.{length, get_or, drop}
 use lib.Seq.{drop-drop}
 use borrow.Author.Tests.{leb-true, leb-false, eqb-true, ltb-true, ltb-false, lt-ltb, le-ltb, le-leb, lt-leb, ne_eqb}
 use Rattle.meaning.specs.Characters.{Range, ◌to◌, sequences, within, begun, awaited, awaited_after, well_formed}
@@ -151,26 +152,8 @@ module _ (l : List ℕ) (at : ℕ) (stands : at ≡ 0 + to_high (drop 0 l)) wher
   unfolding awaited_after
   all_ascii over = rw (drop_over l at over) at told_from
 
--- a turn along the bytes, on whether all are plain
-module _ (s : List ℕ) (i : ℕ) (k : Bool) (inv : plain (drop i s) ≡ k) where
-  pub plain_low : i < length s → get_or s i 0 < 0x20 → false ≡ k
-  unfolding plain
-  plain_low more h = rw (drop_next s i more, lt-ltb (get_or s i 0) 0x20 h) at inv
-
-  pub plain_high : i < length s → 0x20 ≤ get_or s i 0 → 0x80 ≤ get_or s i 0 → false ≡ k
-  unfolding plain
-  plain_high more l h = rw (drop_next s i more, le-ltb (get_or s i 0) 0x20 l, le-leb 0x80 (get_or s i 0) h) at inv
-
-  pub plain_next : i < length s → 0x20 ≤ get_or s i 0 → get_or s i 0 < 0x80 → plain (drop (i + 1) s) ≡ k
-  unfolding plain
-  plain_next more l h = rw (drop_next s i more, le-ltb (get_or s i 0) 0x20 l, lt-leb 0x80 (get_or s i 0) h) at inv
-
-  pub plain_over : length s ≤ i → true ≡ k
-  unfolding plain
-  plain_over over = rw (drop_over s i over) at inv
-
--- the same where no byte is left out
-pub plain_one : (b : ℕ) → (leb 0x20 b && ltb b 0x80) ≡ plain (b ∷ [])
+-- one walk tells whether all bytes are plain
+plain_one : (b : ℕ) → (leb 0x20 b && ltb b 0x80) ≡ plain (b ∷ [])
 unfolding plain
 plain_one b = go (ltb b 0x20) refl (leb 0x80 b) refl
   where
@@ -188,41 +171,15 @@ plain_cons b r = go (ltb b 0x20) (leb 0x80 b)
     go false true = refl
     go false false = refl
 
-pub plain_turn : (s : List ℕ) (i : ℕ) → i < length s → (t u v k : Bool) → v ≡ plain (get_or s i 0 ∷ []) → u ≡ (t && v) → (t && plain (drop i s)) ≡ k → (u && plain (drop (i + 1) s)) ≡ k
-plain_turn s i more t u v k p e inv = rw (e, p) (go t (rw (drop_next s i more, plain_cons (get_or s i 0) (drop (i + 1) s)) at inv))
-  where
-    one : Bool
-    one = plain (get_or s i 0 ∷ [])
-
-    go : (t : Bool) → (t && (one && plain (drop (i + 1) s))) ≡ k → ((t && one) && plain (drop (i + 1) s)) ≡ k
-    go true q = q
-    go false q = q
-
-pub plain_all : (s : List ℕ) (i : ℕ) → length s ≤ i → (t k : Bool) → (t && plain (drop i s)) ≡ k → t ≡ k
+pub plain_folded : (t : Bool) (s : List ℕ) → fold (λ a b. a && (leb 0x20 b && ltb b 0x80)) t s ≡ (t && plain s)
 unfolding plain
-plain_all s i over t k inv = go t (rw (drop_over s i over) at inv)
+plain_folded true [] = refl
+plain_folded false [] = refl
+plain_folded t (b ∷ r) = plain_folded (t && (leb 0x20 b && ltb b 0x80)) r ∙ rw (plain_cons b r, ← plain_one b) (go t (leb 0x20 b && ltb b 0x80))
   where
-    go : (t : Bool) → (t && true) ≡ k → t ≡ k
-    go true q = q
-    go false q = q
-
--- bytes that are plain may be passed over
-plain_past : (a b : List ℕ) → plain a ≡ true → plain (a ++ b) ≡ plain b
-unfolding plain
-plain_past [] b e = refl
-plain_past (x ∷ a) b e = go (ltb x 0x20) (leb 0x80 x) e (plain_past a b)
-  where
-    go : (t u : Bool) → cond t false (cond u false (plain a)) ≡ true → (plain a ≡ true → plain (a ++ b) ≡ plain b) → cond t false (cond u false (plain (a ++ b))) ≡ plain b
-    go true u q rest = both false q refl
-    go false true q rest = both false q refl
-    go false false q rest = rest q
-
-pub plain_block : (s : List ℕ) (i e : ℕ) → i ≤ e → (t k : Bool) → t ≡ plain (take (e - i) (drop i s)) → not t ≡ false → plain (drop i s) ≡ k → plain (drop e s) ≡ k
-plain_block s i e h true k p q inv =
-    let n : i + (e - i) ≡ e = omega arith in
-    let r = drop i s in
-    rw (← n, ← drop-drop (e - i) i s) (sym (plain_past (take (e - i) r) (drop (e - i) r) (sym p)) ∙ rw (take-append-drop (e - i) r) inv)
-plain_block s i e h false k p q inv = both true refl q
+    go : (t u : Bool) → ((t && u) && plain r) ≡ (t && (u && plain r))
+    go true u = refl
+    go false u = refl
 
 -- a plain line has no stray byte, and is ASCII
 plain_is : (l : List ℕ) → plain l ≡ true → (rule5 l ≡ false) × (to_high l ≡ length l)

@@ -53,14 +53,10 @@ fn next_state(table: &[[u8; 14]; 9], letters: &[u8; 128], q: u8, b: u8) -> u8
 fn ascii_end(l: &[u8], at: usize) -> usize
     ensures { (result ≡ at + to_high (drop at l.now)) × (at ≤ result) }
 {
-    let mut i = at;
-    while i < l.len() {
-        if 0x80 <= l[i] {
-            return i;
-        }
-        i += 1;
-    }
-    i
+    let Some(rest) = l.get(at..) else {
+        return at;
+    };
+    at + rest.iter().position(|b| 0x80 <= *b).unwrap_or(rest.len())
 }
 
 // Does a line await something at its end, from `at` on, where a character begins? Between characters a run of ASCII is passed over.
@@ -71,6 +67,7 @@ fn awaits_more(l: &[u8], at: usize) -> bool
     let table = NEXT;
     let letters = CLASSES;
     let mut q = START;
+    // By index: a turn takes a byte, and a run of ASCII where there is one.
     let mut i = at;
     while i < l.len() {
         q = next_state(&table, &letters, q, l[i]);
@@ -93,64 +90,11 @@ pub fn is_ill_formed(l: &[u8]) -> bool
     awaits_more(l, at)
 }
 
-// Do both of two tests hold? Both are made, so that the compiler can make many at once.
-fn both(a: bool, b: bool) -> bool
-    ensures { result ≡ (a && b) }
-{
-    a && b
-}
-
-// Is a byte one of 20 to 7F?
-fn is_plain_byte(b: u8) -> bool
-    ensures { result ≡ plain (b ∷ []) }
-{
-    both(0x20 <= b, b < 0x80)
-}
-
-// Is each of these bytes one of 20 to 7F? No byte is left out, so that the compiler looks at many at once.
-fn all_plain(s: &[u8]) -> bool
-    ensures { result ≡ plain s.now }
-{
-    let mut all = true;
-    let mut i = 0;
-    while i < s.len() {
-        all = both(all, is_plain_byte(s[i]));
-        i += 1;
-    }
-    all
-}
-
-// A byte of a line that only such bytes stand before, sixteen a turn: one of the sixteen from there on is another, or fewer are left.
-fn past_plain(l: &[u8]) -> usize
-    ensures { (plain (drop result l.now) ≡ plain l.now) × (result ≤ length l.now) }
-{
-    let mut i = 0;
-    while i < l.len() {
-        if l.len() - i < 16 {
-            return i;
-        }
-        if !all_plain(&l[i..i + 16]) {
-            return i;
-        }
-        i += 16;
-    }
-    i
-}
-
-// Is every byte of a line one of 20 to 7F? Then it breaks neither rule 5 nor rule 14, told by one walk.
+// Is every byte of a line one of 20 to 7F? Then it breaks neither rule 5 nor rule 14, told by one walk. No byte is left out, so that the compiler looks at
+// many at once.
 pub fn is_plain(l: &[u8]) -> bool
     ensures { result ≡ plain l.now }
 {
-    let mut i = past_plain(l);
-    while i < l.len() {
-        let b = l[i];
-        if b < 0x20 {
-            return false;
-        }
-        if 0x80 <= b {
-            return false;
-        }
-        i += 1;
-    }
-    true
+    l.iter()
+        .fold(true, |all, b| all & (0x20 <= *b && *b < 0x80))
 }

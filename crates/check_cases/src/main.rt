@@ -7,7 +7,6 @@ ghost use Rattle.std.specs.Prelude.{◌<◌, ◌≤◌, ◌≡◌, IfOk, length,
 use meaning::{Answer, Bounds, Place, Profile};
 use std::io;
 use std::io::Read;
-use text::LineStep;
 
 // The feed without a finding that most cases differ from in one file: there = stands for the others.
 const STOPS: [u8; 64] = *b"stop_id,stop_name,stop_lat,stop_lon\nA,Alder,1.5,2\nB,Birch,1.6,2\n";
@@ -68,10 +67,8 @@ fn tell_signed(rt: &impl Print, z: i32) -> io::Result<()> {
 
 // Writes numbers.
 fn tell_numbers(rt: &impl Print, t: &[i32]) -> io::Result<()> {
-    let mut i = 0;
-    while i < t.len() {
-        tell_signed(rt, t[i])?;
-        i += 1;
+    for z in t {
+        tell_signed(rt, *z)?;
     }
     Ok(())
 }
@@ -80,14 +77,10 @@ fn tell_numbers(rt: &impl Print, t: &[i32]) -> io::Result<()> {
 fn used(t: &[i32]) -> usize
     ensures { (result ≤ length t.now) × (result ≡ length (take result t.now)) }
 {
-    let mut n = t.len();
-    while 0 < n {
-        if t[n - 1] != LENT {
-            return n;
-        }
-        n -= 1;
+    match t.iter().rposition(|z| *z != LENT) {
+        Some(i) => i + 1,
+        None => 0,
     }
-    0
 }
 
 // Writes a table as far as it isn't as lent.
@@ -206,6 +199,7 @@ fn decode(s: &[u8], from: usize, out: &mut [u8]) -> usize
 {
     let mut i = from;
     let mut n = 0;
+    // No `for`: how far a turn goes is told by what stands there.
     while i < s.len() {
         if out.len() <= n {
             return n;
@@ -270,14 +264,10 @@ fn bar(s: &[u8], from: usize) -> usize
     requires { from ≤ length s.now }
     ensures { (from ≤ result) × (result ≤ length s.now) }
 {
-    let mut i = from;
-    while i < s.len() {
-        if s[i] == b'|' {
-            return i;
-        }
-        i += 1;
+    match s[from..].iter().position(|b| *b == b'|') {
+        Some(i) => from + i,
+        None => s.len(),
     }
-    i
 }
 
 // The file after the bar at a place.
@@ -478,17 +468,11 @@ fn run_line(rt: &impl Print, l: &[u8]) -> io::Result<()> {
 // The lines of standard input.
 fn run_lines(rt: &impl Print, s: &[u8]) -> io::Result<()> {
     let mut at = 0;
-    loop {
-        match text::next_line(s, at) {
-            LineStep::Line { start, end, next } => {
-                run_line(rt, &s[start..end])?;
-                at = next;
-            }
-            LineStep::Done => {
-                return Ok(());
-            }
-        }
+    while let Some((line, next)) = text::next_line(s, at) {
+        run_line(rt, &s[line.start..line.end])?;
+        at = next;
     }
+    Ok(())
 }
 
 // Room for standard input.
@@ -504,6 +488,7 @@ fn read_full(rt: &impl Input, room: &mut [u8]) -> io::Result<usize>
 {
     let mut input = rt.reader();
     let mut n = 0;
+    // No `for`: how far a turn goes is told by the reader.
     while n < room.len() {
         let got = input.read(&mut room[n..])?;
         if got == 0 {

@@ -1,9 +1,12 @@
 -- Laws of headers, of tables of ten, and of a line's fields under them.
 use mathlib.Core.Path.{◌≡◌, refl, sym, ap, ◌∙◌, subst}
-use mathlib.Core.Bool.{Bool, true, false, cond, ◌&&◌}
+use mathlib.Core.Bool.{Bool, true, false, cond, ◌&&◌, ◌||◌}
+use Rattle.std.specs.List.{list_any, range_with_len}
 use mathlib.Core.List.{List, [], ◌∷◌, map}
 use Prim.Native.Nat.{ℕ, zero, suc, ◌+◌, ◌-◌, ◌≤◌, ◌<◌}
 use native.Mathlib.Omega.{arith}
+use native.Mathlib.Decide.{ℕ_discrete}
+use Rattle.std.proofs.Common.{Option, Some, None}
 use native.Mathlib.Numerals.{add-one}
 use native.Mathlib.Nat.{not-suc-le-zero}
 use lib.Dec.{eqb, ltb}
@@ -20,7 +23,7 @@ use Rattle.text.specs.Fields.{fields_from, past_ends, FieldStands, Inside}
 use Rattle.text.proofs.Fields.{from_over, from_start, field_inside, fields_begin, fields_adjoin}
 use Rattle.text.proofs.Spans.{past_length, past_before, past_at}
 use Rattle.schema.proofs.Laws.{count_le}
-use Rattle.columns.specs.Columns.{tab, places_of, lacking, noted, starts_of, ends_of, field_by, Noted, row_in}
+use Rattle.columns.specs.Columns.{tab, places_of, lacking, noted, starts_of, ends_of, field_by, told, Noted, row_in}
 
 -- a loop over numbers, for a test that holds of some
 module _ (P : ℕ → Bool) (k n : ℕ) (r : Bool) (inv : some P k (n - k) ≡ r) where
@@ -39,6 +42,16 @@ module _ (P : ℕ → Bool) (k n : ℕ) (r : Bool) (inv : some P k (n - k) ≡ r
     pub some_next : P k ≡ false → some P (k + 1) (n - (k + 1)) ≡ r
     unfolding some
     some_next q = rw (z, q) at inv
+
+-- it is std's `any` along the numbers
+pub some_any : (P : ℕ → Bool) (k n : ℕ) → list_any P (range_with_len k n) ≡ some P k n
+unfolding some
+some_any P k zero = refl
+some_any P k (suc n) = go (P k) (some_any P (k + 1) n)
+  where
+    go : (t : Bool) → {a b : Bool} → a ≡ b → (t || a) ≡ cond t true b
+    go true e = refl
+    go false e = e
 
 -- two tests that agree everywhere
 pub some_same : (P Q : ℕ → Bool) → ((k : ℕ) → P k ≡ Q k) → (k n : ℕ) → some P k n ≡ some Q k n
@@ -102,6 +115,24 @@ pub lacking_is : (f : ℕ) (header : List (List ℕ)) → lacking f (places_of f
 unfolding lacking rule9
 lacking_is f header =
     some_same _ _ (λ k. ap (λ (p : ℕ). (column_of f k).must && eqb p 0) (places_at f header k)) 0 (count_of f)
+
+-- what a told column says of its number
+pub told_some : (r c : ℕ) → told r ≡ Some c → (c ≡ r) × (c ≡ 0 → ⊥)
+told_some r c e = go (ℕ_discrete r 0)
+  where
+    go : Dec (r ≡ 0) → (c ≡ r) × (c ≡ 0 → ⊥)
+    go (yes z) = let y : ◌≡◌ {A = Option ℕ} None (Some c) = rw (eq-eqb r 0 z) at e in absurd cc
+    go (no z) =
+        let y : ◌≡◌ {A = Option ℕ} (Some r) (Some c) = rw (ne_eqb r 0 z) at e in
+        let x : c ≡ r = cc in
+        (x, λ n. z (sym x ∙ n))
+
+pub told_none : (r : ℕ) → told r ≡ None → r ≡ 0
+told_none r e = go (ℕ_discrete r 0)
+  where
+    go : Dec (r ≡ 0) → r ≡ 0
+    go (yes z) = z
+    go (no z) = let y : ◌≡◌ {A = Option ℕ} (Some r) None = rw (ne_eqb r 0 z) at e in absurd cc
 
 -- one known column more
 module _ (j v : ℕ) where

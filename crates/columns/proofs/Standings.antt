@@ -2,6 +2,8 @@
 use mathlib.Core.Path.{◌≡◌, refl, sym, ◌∙◌}
 use mathlib.Core.Bool.{Bool, true, false, cond}
 use mathlib.Core.List.{List, [], ◌∷◌}
+use Rattle.std.specs.Option.{option_or}
+use Rattle.std.proofs.Common.{Some}
 use Prim.Native.Nat.{ℕ, zero, suc, ◌+◌, ◌-◌, ◌≤◌, ◌<◌}
 use native.Mathlib.Omega.{arith}
 use native.Mathlib.Decide.{ℕ_discrete}
@@ -20,7 +22,7 @@ use Rattle.text.specs.Fields.{values_from, FieldStands}
 use Rattle.text.proofs.Fields.{values_start}
 use Rattle.schema.specs.Named.{named_by}
 use Rattle.schema.proofs.Laws.{count_le, named_is, named_le}
-use Rattle.columns.specs.Columns.{places_of, firsts_with, again_with}
+use Rattle.columns.specs.Columns.{places_of, firsts_with, again_with, told}
 use Rattle.columns.proofs.Laws.{places_at, place_none, places_ten}
 
 -- ---- one name
@@ -118,6 +120,34 @@ firsts_ten at k n = go (eqb k 0) (eqb (get_or at (k - 1) 0) 0)
     go true t = refl
     go false true = length-set at (k - 1) n
     go false false = refl
+
+-- one more standing of a known column, by whether it stood before
+module _ (at : List ℕ) (k n : ℕ) where
+  one_more : k + 1 ≡ 0 → ⊥
+  one_more e = omega arith
+
+  back : k + 1 - 1 ≡ k
+  back = omega arith
+
+  pub new_first : get_or at k 0 ≡ 0 → set at k n ≡ firsts_with at (k + 1) n
+  unfolding firsts_with
+  new_first e = rw (ne_eqb (k + 1) 0 one_more, back, eq-eqb (get_or at k 0) 0 e)
+
+  pub new_again : (a : ℕ) → get_or at k 0 ≡ 0 → a ≡ again_with at a (k + 1) n
+  unfolding again_with
+  new_again a e = rw (ne_eqb (k + 1) 0 one_more, back, eq-eqb (get_or at k 0) 0 e)
+
+  pub old_first : (get_or at k 0 ≡ 0 → ⊥) → at ≡ firsts_with at (k + 1) n
+  unfolding firsts_with
+  old_first e = rw (ne_eqb (k + 1) 0 one_more, back, ne_eqb (get_or at k 0) 0 e)
+
+  pub old_again : (a : ℕ) → (get_or at k 0 ≡ 0 → ⊥) → 1 ≤ n → option_or (told a) (Some n) ≡ told (again_with at a (k + 1) n)
+  unfolding again_with
+  old_again a e h = rw (ne_eqb (k + 1) 0 one_more, back, ne_eqb (get_or at k 0) 0 e) (go (ℕ_discrete a 0))
+    where
+      go : Dec (a ≡ 0) → option_or (told a) (Some n) ≡ told (cond (eqb a 0) n a)
+      go (yes z) = rw (eq-eqb a 0 z, ne_eqb n 0 (λ y. omega arith))
+      go (no z) = rw (ne_eqb a 0 z, ne_eqb a 0 z)
 
 -- what a walk that has come to column n of a header knows of its names, these values being left
 pub record Met (f : ℕ) (all : List (List ℕ)) (n : ℕ) (vs : List (List ℕ)) (at : List ℕ) (again : ℕ) : Type 0 where

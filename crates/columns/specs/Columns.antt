@@ -1,5 +1,5 @@
 -- The columns of a header and the fields under them, as tables of ten.
-use Rattle.std.specs.Prelude.{ℕ, zero, suc, ◌+◌, ◌-◌, ◌≤◌, ◌<◌, ◌≡◌, List, [], ◌∷◌, map, Bool, cond, ◌&&◌, length, get_or, set, eqb, ltb}
+use Rattle.std.specs.Prelude.{ℕ, zero, suc, ◌+◌, ◌-◌, ◌≤◌, ◌<◌, ◌≡◌, List, [], ◌∷◌, map, Option, Some, None, Bool, cond, ◌&&◌, length, get_or, set, eqb, ltb}
 use Rattle.meaning.specs.declared.Bounds.{Bounds}
 use Rattle.meaning.specs.Bytes.{bounds, part, value, fields}
 use Rattle.meaning.specs.Lists.{some}
@@ -22,6 +22,10 @@ firsts_with at k n = cond (eqb k 0) at (cond (eqb (get_or at (k - 1) 0) 0) (set 
 -- the first standing of any that isn't its name's first, 0 being none, one more standing
 unfoldable pub again_with : List ℕ → ℕ → ℕ → ℕ → ℕ
 again_with at again k n = cond (eqb k 0) again (cond (eqb (get_or at (k - 1) 0) 0) again (cond (eqb again 0) n again))
+
+-- a column as code tells it, counted from 1; 0 is none
+abbrev pub told : ℕ → Option ℕ
+told c = cond (eqb c 0) None (Some c)
 
 -- a must-be-present name has no column among these
 unfoldable pub lacking : ℕ → List ℕ → Bool

@@ -1,87 +1,70 @@
 #![tactic(auto)]
 // Where the known columns stand in a header, and where their fields lie in a line.
-ghost use Rattle.std.specs.Prelude.{◌≡◌, ◌&&◌, map, ℕ, ◌≤◌, ◌<◌, eqb, length, get_or, replicate};
+ghost use Rattle.std.specs.Prelude.{◌≡◌, ◌&&◌, map, ℕ, ◌≤◌, ◌<◌, eqb, length, get_or, replicate, IfSome};
 ghost use Rattle.meaning.specs.Bytes.{count_lf, fields, values};
 ghost use Rattle.meaning.specs.Columns.{column_of, field_at};
 ghost use Rattle.meaning.specs.Refusals.{rule8};
 ghost use Rattle.text.specs.Fields.{up_to33};
+ghost use Rattle.schema.specs.Named.{counted};
 ghost use Rattle.columns.specs.Heading.{Heading};
-ghost use Rattle.columns.specs.Columns.{places_of, firsts_with, again_with, lacking, noted, starts_of, ends_of, field_by, Noted};
+ghost use Rattle.columns.specs.Columns.{places_of, firsts_with, again_with, lacking, noted, starts_of, ends_of, field_by, told, Noted};
 
 use meaning::Bounds;
-use text::{Cursor, LineStep, Step};
+use text::Cursor;
 
 // Under what the lines of a file are read: the column of each known name in its header, counted from 1, 0 where it is absent; and how
-// many fields the header has.
+// many fields the header has. No Option a column: the definitions (`places`, `cell`) count columns from 1, and 0 is absent in them too.
 #[derive(Clone, Copy)]
 pub struct Columns {
     pub at: [usize; 10],
     pub count: usize,
 }
 
-// Where the known names of a header stand: the column of each, as above; and the leftmost in which one stands for the second time, 0
-// where none does.
+// Where the known names of a header stand: the column of each, as above; and the leftmost in which one stands for the second time.
 #[derive(Clone, Copy)]
 pub struct Names {
     pub at: [usize; 10],
-    pub again: usize,
+    pub again: Option<usize>,
 }
 
-// One more standing: in column n stands the name of known column k, counted from 1; 0: of none.
-fn note_name(names: Names, k: usize, n: usize) -> Names
-    requires { k ≤ 10 }
-    ensures { (result.at ≡ firsts_with names.at k n) × (result.again ≡ again_with names.at names.again k n) }
+// One more standing: in column n stands the name of this known column, or of none.
+fn note_name(names: Names, known: Option<usize>, n: usize) -> Names
+    requires { IfSome known (λ k. k < 10) }
+    ensures at_value { result.at ≡ firsts_with names.at (counted known) n }
+    ensures again_value { (c : ℕ) → names.again ≡ told c → 1 ≤ n → result.again ≡ told (again_with names.at c (counted known) n) }
 {
-    if k == 0 {
+    let Some(k) = known else {
         return names;
-    }
+    };
     let mut at = names.at;
     let again = names.again;
-    if at[k - 1] == 0 {
-        at[k - 1] = n;
+    if at[k] == 0 {
+        at[k] = n;
         return Names { at, again };
     }
-    if again == 0 {
-        return Names { at, again: n };
+    Names {
+        at,
+        again: again.or(Some(n)),
     }
-    names
 }
 
 // The names of a header, each noted where it is met: for headers of any number of fields.
 fn wide_names(f: usize, h: &[u8]) -> Names
     requires { f < 7 }
-    ensures { (result.at ≡ places_of f (values h.now)) × (result.again ≡ rule8 f (values h.now)) }
+    ensures { (result.at ≡ places_of f (values h.now)) × (result.again ≡ told (rule8 f (values h.now))) }
 {
     let mut names = Names {
         at: [0usize; 10],
-        again: 0,
+        again: None,
     };
     let mut c = Cursor::new();
     let mut n: usize = 1;
-    loop {
-        match c.next(h) {
-            Step::Field { start, end, next } => {
-                names = note_name(names, schema::named(f, &h[start..end]), n);
-                n += 1;
-                c = next;
-            }
-            Step::Done => {
-                return names;
-            }
-        }
+    while let Some((field, next)) = c.next(h) {
+        names = note_name(names, schema::named(f, &h[field.start..field.end]), n);
+        n += 1;
+        c = next;
     }
-}
-
-// Must known column k be present, and is its column p none?
-fn is_missing(f: usize, k: usize, p: usize) -> bool
-    requires { (f < 7) × (k < 10) }
-    ensures { result ≡ ((column_of f k).must && eqb p 0) }
-{
-    let c = schema::known(f, k);
-    if c.must {
-        return p == 0;
-    }
-    false
+    names
 }
 
 // Is a must-be-present name missing, where the known names stand in these columns?
@@ -89,18 +72,11 @@ pub fn lacks(f: usize, at: [usize; 10]) -> bool
     requires { f < 7 }
     ensures { result ≡ lacking f at }
 {
-    let m = schema::count(f);
-    let mut k = 0;
-    while k < m {
-        if is_missing(f, k, at[k]) {
-            return true;
-        }
-        k += 1;
-    }
-    false
+    (0..schema::count(f)).any(|k| schema::known(f, k).must && at[k] == 0)
 }
 
-// Where the field under each known column lies in a line; start and end are 0 where there is none.
+// Where the field under each known column lies in a line; start and end are 0 where there is none. Two arrays, since the clauses of
+// `values`, `records`, `tables` and `reading` name them (`Within`, `Located`).
 #[derive(Clone, Copy)]
 pub struct Cells {
     pub start: [usize; 10],
@@ -113,13 +89,11 @@ fn note_field(c: Cells, at: [usize; 10], j: usize, a: usize, e: usize) -> Cells
 {
     let mut start = c.start;
     let mut end = c.end;
-    let mut k = 0;
-    while k < 10 {
-        if at[k] == j {
+    for (k, p) in at.iter().enumerate() {
+        if *p == j {
             start[k] = a;
             end[k] = e;
         }
-        k += 1;
     }
     Cells { start, end }
 }
@@ -134,18 +108,12 @@ fn wide_cells(l: &[u8], at: [usize; 10]) -> Cells
     };
     let mut c = Cursor::new();
     let mut n: usize = 1;
-    loop {
-        match c.next(l) {
-            Step::Field { start, end, next } => {
-                cells = note_field(cells, at, n, start, end);
-                n += 1;
-                c = next;
-            }
-            Step::Done => {
-                return cells;
-            }
-        }
+    while let Some((field, next)) = c.next(l) {
+        cells = note_field(cells, at, n, field.start, field.end);
+        n += 1;
+        c = next;
     }
+    cells
 }
 
 // The field in column p of a line with so many fields, by where they start.
@@ -172,12 +140,10 @@ fn near_cells(count: usize, starts: &[usize], at: [usize; 10]) -> Cells
 {
     let mut start = [0usize; 10];
     let mut end = [0usize; 10];
-    let mut k = 0;
-    while k < 10 {
-        let b = field_by(count, starts, at[k]);
+    for (k, p) in at.iter().enumerate() {
+        let b = field_by(count, starts, *p);
         start[k] = b.start;
         end[k] = b.end;
-        k += 1;
     }
     Cells { start, end }
 }
@@ -204,19 +170,15 @@ pub fn blank_starts() -> [usize; 33]
 fn near_names(f: usize, h: &[u8], count: usize, starts: &[usize]) -> Names
     requires f_bound { f < 7 }
     requires count_value { (count ≡ length (fields h.now)) × (count < length starts.now) × Noted h.now starts.now }
-    ensures { (result.at ≡ places_of f (values h.now)) × (result.again ≡ rule8 f (values h.now)) }
+    ensures { (result.at ≡ places_of f (values h.now)) × (result.again ≡ told (rule8 f (values h.now))) }
 {
     let mut names = Names {
         at: [0usize; 10],
-        again: 0,
+        again: None,
     };
-    let mut n: usize = 1;
-    while n <= count {
-        let b = field_by(count, starts, n);
-        let a = b.start;
-        let e = b.end;
-        names = note_name(names, schema::named(f, &h[a..e]), n);
-        n += 1;
+    for n in 1..=count {
+        let Bounds { start, end } = field_by(count, starts, n);
+        names = note_name(names, schema::named(f, &h[start..end]), n);
     }
     names
 }
@@ -225,7 +187,7 @@ fn near_names(f: usize, h: &[u8], count: usize, starts: &[usize]) -> Names
 pub fn names_of(f: usize, h: &[u8], count: usize, starts: &[usize]) -> Names
     requires f_bound { f < 7 }
     requires count_value { (count ≡ up_to33 (length (fields h.now))) × Noted h.now starts.now }
-    ensures { (result.at ≡ places_of f (values h.now)) × (result.again ≡ rule8 f (values h.now)) }
+    ensures { (result.at ≡ places_of f (values h.now)) × (result.again ≡ told (rule8 f (values h.now))) }
 {
     if count < starts.len() {
         return near_names(f, h, count, starts);
@@ -236,7 +198,7 @@ pub fn names_of(f: usize, h: &[u8], count: usize, starts: &[usize]) -> Names
 // The names of a header, in one walk along it.
 fn header_names(f: usize, h: &[u8]) -> Names
     requires { f < 7 }
-    ensures { (result.at ≡ places_of f (values h.now)) × (result.again ≡ rule8 f (values h.now)) }
+    ensures { (result.at ≡ places_of f (values h.now)) × (result.again ≡ told (rule8 f (values h.now))) }
 {
     let mut starts = blank_starts();
     let m = text::walk_fields(h, &mut starts);
@@ -256,17 +218,13 @@ pub fn read_header(f: usize, s: &[u8]) -> Header
     ensures { Heading f s.now result.known result.next }
 {
     let at = text::body_start(s);
-    match text::next_line(s, at) {
-        LineStep::Line { start, end, next } => {
-            let names = header_names(f, &s[start..end]);
-            let known = names.at;
-            Header { known, next }
-        }
-        LineStep::Done => {
-            let known = [0usize; 10];
-            Header { known, next: at }
-        }
-    }
+    let Some((line, next)) = text::next_line(s, at) else {
+        let known = [0usize; 10];
+        return Header { known, next: at };
+    };
+    let names = header_names(f, &s[line.start..line.end]);
+    let known = names.at;
+    Header { known, next }
 }
 
 // The fields of a line under columns, in one walk along the line.
@@ -284,18 +242,12 @@ pub fn field_start(l: &[u8], p: usize) -> usize
 {
     let mut c = Cursor::new();
     let mut n: usize = 1;
-    loop {
-        match c.next(l) {
-            Step::Field { start, end, next } => {
-                if n == p {
-                    return start;
-                }
-                n += 1;
-                c = next;
-            }
-            Step::Done => {
-                return 0;
-            }
+    while let Some((field, next)) = c.next(l) {
+        if n == p {
+            return field.start;
         }
+        n += 1;
+        c = next;
     }
+    0
 }

@@ -1,4 +1,6 @@
 -- Laws of runs of digits, over lists and numbers. Assumes nothing.
+use Rattle.std.specs.Prelude.{Option, Some, None}
+use Rattle.std.specs.Char.{is_ascii_digit}
 use mathlib.Core.Path.{◌≡◌, refl, sym, ap, ◌∙◌}
 use mathlib.Core.Bool.{Bool, true, false, cond, not, ◌||◌}
 use mathlib.Core.List.{List, [], ◌∷◌, ◌++◌}
@@ -10,18 +12,19 @@ use lib.Pow.{pow-add}
 use lib.Dec.{eqb, ltb}
 use lib.ListN.{length, get_or, drop}
 use borrow.Author.Tests.{ltb-true, ltb-false, eqb-true, eqb-false, lt-ltb, le-ltb, eq-eqb, ne_eqb}
-use Rattle.meaning.specs.declared.Number.{Number}
-use Rattle.meaning.specs.declared.Number.TheVariants.{Value, NoNumber}
 use Rattle.meaning.specs.Forms.{is_digit, digits, sequence_text, with_number}
 pub use Rattle.meaning.proofs.Digits.{none_is_no, digit_from, digit_small, digits_below, zero_below, sequence_digits, sequence_below}
 use Rattle.text.proofs.Laws.{drop_next, drop_over}
-use Rattle.digits.specs.declared.Decimal.{Decimal}
-use Rattle.digits.specs.declared.Decimal.TheVariants.{Kept, NoDecimal}
 use Rattle.digits.specs.Decimals.{decimals_of}
 
+-- std's test of a digit is the forms' own
+pub ascii_is : (b : ℕ) (r t : Bool) → r ≡ is_ascii_digit b → r ≡ t → is_digit b ≡ t
+unfolding is_digit
+ascii_is b r t e f = sym e ∙ f
+
 -- one turn along a run of digits
-module _ (s : List ℕ) (i n : ℕ) (k : Number) (more : i < length s) (inv : digits n (drop i s) ≡ k) where
-  pub digits_stop : is_digit (get_or s i 0) ≡ false → NoNumber ≡ k
+module _ (s : List ℕ) (i n : ℕ) (k : Option ℕ) (more : i < length s) (inv : digits n (drop i s) ≡ k) where
+  pub digits_stop : is_digit (get_or s i 0) ≡ false → None ≡ k
   unfolding digits
   digits_stop h = rw (drop_next s i more, h) at inv
 
@@ -29,7 +32,7 @@ module _ (s : List ℕ) (i n : ℕ) (k : Number) (more : i < length s) (inv : di
   unfolding digits
   digits_turn h = rw (drop_next s i more, h) at inv
 
-pub digits_end : (s : List ℕ) (i n : ℕ) (k : Number) → length s ≤ i → digits n (drop i s) ≡ k → Value n ≡ k
+pub digits_end : (s : List ℕ) (i n : ℕ) (k : Option ℕ) → length s ≤ i → digits n (drop i s) ≡ k → Some n ≡ k
 unfolding digits
 digits_end s i n k h inv = rw (drop_over s i h) at inv
 
@@ -47,11 +50,14 @@ pub ten_fits : (i n d : ℕ) → i < 9 → n < 10 ^ i → d ≤ 9 → n * 10 + d
 ten_fits i n d h g k = lt_of_lt_of_le (ten_turn i n d g k) (ten_up (i + 1) 9 (omega arith))
 
 -- one to nine digits
-pub sequence_short : (l : List ℕ) → length l < 1 → NoNumber ≡ sequence_text l
+pub sequence_short : (l : List ℕ) → length l < 1 → None ≡ sequence_text l
 unfolding sequence_text
 sequence_short l h = rw (lt-ltb _ _ h)
 
-pub sequence_long : (l : List ℕ) → 9 < length l → NoNumber ≡ sequence_text l
+pub filled : (l : List ℕ) → eqb (length l) 0 ≡ false → 1 ≤ length l
+filled l e = omega (arith, eqb-false (length l) 0 e)
+
+pub sequence_long : (l : List ℕ) → 9 < length l → None ≡ sequence_text l
 unfolding sequence_text
 sequence_long l h = rw (le-ltb (length l) 1 (omega arith), lt-ltb _ _ h)
 
@@ -59,28 +65,28 @@ pub sequence_is : (l : List ℕ) → 1 ≤ length l → length l ≤ 9 → digit
 unfolding sequence_text
 sequence_is l h g = rw (le-ltb _ _ h, le-ltb _ _ g)
 
-pub sequence_fits : (v : ℕ) (l : List ℕ) → sequence_text l ≡ Value v → v < 1000000000
+pub sequence_fits : (v : ℕ) (l : List ℕ) → sequence_text l ≡ Some v → v < 1000000000
 sequence_fits v l e = lt_of_lt_of_le (sequence_below v l e) (ten_up (length l) 9 (sequence_digits v l e).1)
 
 -- the whole contract of `number`
-pub numbered : (v : List ℕ) (r : Number) → r ≡ sequence_text v
-    → (r ≡ sequence_text v) × ((n : ℕ) → r ≡ Value n → n < 10 ^ length v) × ((n : ℕ) → r ≡ Value n → n < 1000000000)
+pub numbered : (v : List ℕ) (r : Option ℕ) → r ≡ sequence_text v
+    → (r ≡ sequence_text v) × ((n : ℕ) → r ≡ Some n → n < 10 ^ length v) × ((n : ℕ) → r ≡ Some n → n < 1000000000)
 numbered v r e = (e, λ n q. sequence_below n v (sym e ∙ q), λ n q. sequence_fits n v (sym e ∙ q))
 
 -- digits behind digits
-pub digits_join : (n : ℕ) (a b : List ℕ) → digits n (a ++ b) ≡ with_number NoNumber (digits n a) (λ m. digits m b)
+pub digits_join : (n : ℕ) (a b : List ℕ) → digits n (a ++ b) ≡ with_number None (digits n a) (λ m. digits m b)
 unfolding digits
 digits_join n [] b = refl
 digits_join n (x ∷ a) b = go (is_digit x) refl (digits_join (n * 10 + (x - 48)) a b)
   where
     go : (t : Bool) → is_digit x ≡ t
-        → digits (n * 10 + (x - 48)) (a ++ b) ≡ with_number NoNumber (digits (n * 10 + (x - 48)) a) (λ m. digits m b)
-        → digits n (x ∷ (a ++ b)) ≡ with_number NoNumber (digits n (x ∷ a)) (λ m. digits m b)
+        → digits (n * 10 + (x - 48)) (a ++ b) ≡ with_number None (digits (n * 10 + (x - 48)) a) (λ m. digits m b)
+        → digits n (x ∷ (a ++ b)) ≡ with_number None (digits n (x ∷ a)) (λ m. digits m b)
     go true d ih = rw d ih
     go false d ih = rw d
 
 -- what stood before digits counts for ten to their number
-pub digits_shift : (m p n : ℕ) (l : List ℕ) → digits (m * p + n) l ≡ with_number NoNumber (digits n l) (λ t. Value (m * (p * 10 ^ length l) + t))
+pub digits_shift : (m p n : ℕ) (l : List ℕ) → digits (m * p + n) l ≡ with_number None (digits n l) (λ t. Some (m * (p * 10 ^ length l) + t))
 unfolding digits
 digits_shift m p n [] = rw (mul-one p)
 digits_shift m p n (b ∷ r) = go (is_digit b) refl (digits_shift m (p * 10) (n * 10 + (b - 48)) r)
@@ -89,23 +95,23 @@ digits_shift m p n (b ∷ r) = go (is_digit b) refl (digits_shift m (p * 10) (n 
     next = rw (← mul_assoc m p 10) (omega arith)
 
     go : (t : Bool) → is_digit b ≡ t
-        → digits (m * (p * 10) + (n * 10 + (b - 48))) r ≡ with_number NoNumber (digits (n * 10 + (b - 48)) r) (λ t. Value (m * (p * 10 * 10 ^ length r) + t))
-        → digits (m * p + n) (b ∷ r) ≡ with_number NoNumber (digits n (b ∷ r)) (λ t. Value (m * (p * 10 ^ suc (length r)) + t))
+        → digits (m * (p * 10) + (n * 10 + (b - 48))) r ≡ with_number None (digits (n * 10 + (b - 48)) r) (λ t. Some (m * (p * 10 * 10 ^ length r) + t))
+        → digits (m * p + n) (b ∷ r) ≡ with_number None (digits n (b ∷ r)) (λ t. Some (m * (p * 10 ^ suc (length r)) + t))
     go true d ih = rw (d, next, pow-succ' 10 (length r), ← mul_assoc p 10 (10 ^ length r)) ih
     go false d ih = rw d
 
-pub digits_from : (w : ℕ) (l : List ℕ) → digits w l ≡ with_number NoNumber (digits 0 l) (λ t. Value (w * 10 ^ length l + t))
+pub digits_from : (w : ℕ) (l : List ℕ) → digits w l ≡ with_number None (digits 0 l) (λ t. Some (w * 10 ^ length l + t))
 digits_from w l =
     let e : w * 1 + 0 ≡ w = omega arith in
     let q : 1 * 10 ^ length l ≡ 10 ^ length l = omega arith in
     rw (e, q) at (digits_shift w 1 0 l)
 
 -- decimals as the code keeps them: the unit of the next digit, the ten-millionths so far, and whether one of them wasn't 0
-unfoldable pub keeping : ℕ → ℕ → Bool → List ℕ → Decimal
-keeping u n some [] = Kept n some
+unfoldable pub keeping : ℕ → ℕ → Bool → List ℕ → Option (ℕ × Bool)
+keeping u n some [] = Some (n, some)
 keeping u n some (b ∷ r) =
     let k = keeping (u / 10) (n + (b - 48) * u) (some || not (eqb b 48)) r in
-    cond (is_digit b) k NoDecimal
+    cond (is_digit b) k None
 
 times : (k p u : ℕ) → 1000000 ≡ p * u → k * 1000000 ≡ p * (k * u)
 times k p u e = ap (λ x. k * x) e ∙ mul_left_comm k p u
@@ -161,7 +167,7 @@ some_next t b h = go (eqb t 0) (eqb b 48) refl refl
 
 -- what the code keeps is what decimals write
 pub keeping_is : (i t : ℕ) (l : List ℕ) → keeping (1000000 / 10 ^ i) (t * 10000000 / 10 ^ i) (not (eqb t 0)) l
-    ≡ with_number NoDecimal (digits t l) (λ m. Kept (m * 10000000 / 10 ^ (i + length l)) (not (eqb m 0)))
+    ≡ with_number None (digits t l) (λ m. Some (m * 10000000 / 10 ^ (i + length l), not (eqb m 0)))
 unfolding keeping digits
 keeping_is i t [] = rw (add-zero i)
 keeping_is i t (b ∷ r) = go (is_digit b) refl (keeping_is (i + 1) (t * 10 + (b - 48)) r)
@@ -171,9 +177,9 @@ keeping_is i t (b ∷ r) = go (is_digit b) refl (keeping_is (i + 1) (t * 10 + (b
 
     go : (x : Bool) → is_digit b ≡ x
         → keeping (1000000 / 10 ^ (i + 1)) ((t * 10 + (b - 48)) * 10000000 / 10 ^ (i + 1)) (not (eqb (t * 10 + (b - 48)) 0)) r
-        ≡ with_number NoDecimal (digits (t * 10 + (b - 48)) r) (λ m. Kept (m * 10000000 / 10 ^ (i + 1 + length r)) (not (eqb m 0)))
+        ≡ with_number None (digits (t * 10 + (b - 48)) r) (λ m. Some (m * 10000000 / 10 ^ (i + 1 + length r), not (eqb m 0)))
         → keeping (1000000 / 10 ^ i) (t * 10000000 / 10 ^ i) (not (eqb t 0)) (b ∷ r)
-        ≡ with_number NoDecimal (digits t (b ∷ r)) (λ m. Kept (m * 10000000 / 10 ^ (i + suc (length r))) (not (eqb m 0)))
+        ≡ with_number None (digits t (b ∷ r)) (λ m. Some (m * 10000000 / 10 ^ (i + suc (length r)), not (eqb m 0)))
     go true d ih =
         rw (d, unit_next i, kept_next i t (b - 48) (digit_small b d), some_next t b (digit_from b d), ← long) ih
     go false d ih = rw d
@@ -183,8 +189,8 @@ unfolding decimals_of
 decimals_start v = keeping_is 0 0 v ∙ rw (zero-add (length v))
 
 -- one turn along decimals
-module _ (s : List ℕ) (i u n : ℕ) (t : Bool) (k : Decimal) (more : i < length s) (inv : keeping u n t (drop i s) ≡ k) where
-  pub kept_stop : is_digit (get_or s i 0) ≡ false → NoDecimal ≡ k
+module _ (s : List ℕ) (i u n : ℕ) (t : Bool) (k : Option (ℕ × Bool)) (more : i < length s) (inv : keeping u n t (drop i s) ≡ k) where
+  pub kept_stop : is_digit (get_or s i 0) ≡ false → None ≡ k
   unfolding keeping
   kept_stop h = rw (drop_next s i more, h) at inv
 
@@ -193,7 +199,7 @@ module _ (s : List ℕ) (i u n : ℕ) (t : Bool) (k : Decimal) (more : i < lengt
   unfolding keeping
   kept_turn h x e = rw e (rw (drop_next s i more, h) at inv)
 
-pub kept_end : (s : List ℕ) (i u n : ℕ) (t : Bool) (k : Decimal) → length s ≤ i → keeping u n t (drop i s) ≡ k → Kept n t ≡ k
+pub kept_end : (s : List ℕ) (i u n : ℕ) (t : Bool) (k : Option (ℕ × Bool)) → length s ≤ i → keeping u n t (drop i s) ≡ k → Some (n, t) ≡ k
 unfolding keeping
 kept_end s i u n t k h inv = rw (drop_over s i h) at inv
 
@@ -208,11 +214,14 @@ module _ (n u d : ℕ) (room : n + 10 * u ≤ 10000000) (small : n < 10000000) (
   pub unit_fits : d * u ≤ 10000000
   unit_fits = omega (arith, mul-le-mul_right u digit)
 
-pub no_decimal : {A : Type 0} (n : ℕ) (t : Bool) → NoDecimal ≡ Kept n t → A
+pub no_decimal : {A : Type 0} (n : ℕ) (t : Bool) → ◌≡◌ {A = Option (ℕ × Bool)} None (Some (n, t)) → A
 no_decimal n t z = let w : ◌≡◌ {A = ℕ} 0 1 = cc in absurd (omega arith)
 
-pub kept_is : (m n : ℕ) (x t : Bool) → m < 10000000 → Kept m x ≡ Kept n t → n < 10000000
-kept_is m n x t h e = let z : m ≡ n = cc in omega arith
+pub kept_is : (m n : ℕ) (x t : Bool) → m < 10000000 → ◌≡◌ {A = Option (ℕ × Bool)} (Some (m, x)) (Some (n, t)) → n < 10000000
+kept_is m n x t h e =
+    let p : ◌≡◌ {A = ℕ × Bool} (m, x) (n, t) = cc in
+    let z : m ≡ n = ap (λ q. q.0) p in
+    omega arith
 
 -- a whole number before the point counts for itself
 pub scale_whole : (w t q : ℕ) → 0 < q → (w * q + t) * 10000000 / q ≡ w * 10000000 + t * 10000000 / q

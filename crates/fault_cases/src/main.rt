@@ -53,10 +53,8 @@ fn tell_signed(rt: &impl Print, z: i32) -> io::Result<()> {
 
 // Writes numbers.
 fn tell_numbers(rt: &impl Print, t: &[i32]) -> io::Result<()> {
-    let mut i = 0;
-    while i < t.len() {
-        tell_signed(rt, t[i])?;
-        i += 1;
+    for z in t {
+        tell_signed(rt, *z)?;
     }
     Ok(())
 }

@@ -9,8 +9,7 @@ use mathlib.Core.List.{List, [], Memᴰ}
 use lib.ListN.{length, get_or}
 use borrow.Author.Tests.{ne_eqb, not-true}
 use Rattle.meaning.specs.declared.Refusal.{Refusal}
-use Rattle.meaning.specs.declared.Verdict.{Verdict}
-use Rattle.meaning.specs.declared.Verdict.TheVariants.{Readable, Unreadable}
+use Rattle.std.specs.Prelude.{Result, Ok, Err}
 use Rattle.meaning.specs.Lists.{empty}
 use Rattle.meaning.specs.Bytes.{count_lf}
 use Rattle.meaning.specs.Tables.{file_of}
@@ -27,7 +26,7 @@ use Rattle.faults.proofs.Places.{tests_at, claims_at, OnText, place_exactly}
 -- ---- what a line is put to
 
 -- where something is refused, something is broken
-pub said_broken : (cs : List Claim) (r : Refusal) → speaks cs ≡ Unreadable r → SomeBroken cs
+pub said_broken : (cs : List Claim) (r : Refusal) → speaks cs ≡ Err r → SomeBroken cs
 said_broken cs r e = record { which = claimed r; among = first_among cs r ((spoken_first cs r).0 e); broken = refl }
 
 -- and not where nothing is
@@ -63,9 +62,9 @@ module _ (files : List (List ℕ)) (d : Refusal) where
       h : List ℕ
       h = head_at files d
 
-      later : 2 ≤ d.line → (v : Verdict) → head_said d.file h ≡ v → FirstBroken (on_line d.file d.line (tests_under v d.file h (text_at files d))) d → Fault files d
-      later low Readable e b = of_line_lem (record { judged = t.judged; later = low; good = (silent_none (head_claims files d)).0 e; first = b })
-      later low (Unreadable r) e b = of_text (record { judged = t.judged; later = low; refused = said_broken (head_claims files d) r e; first = b })
+      later : 2 ≤ d.line → (v : Result Unit Refusal) → head_said d.file h ≡ v → FirstBroken (on_line d.file d.line (tests_under v d.file h (text_at files d))) d → Fault files d
+      later low (Ok tt) e b = of_line_lem (record { judged = t.judged; later = low; good = (silent_none (head_claims files d)).0 e; first = b })
+      later low (Err r) e b = of_text (record { judged = t.judged; later = low; refused = said_broken (head_claims files d) r e; first = b })
 
       go : Dec (d.line ≡ 1) → Fault files d
       go (yes e) =
@@ -86,7 +85,7 @@ module _ (files : List (List ℕ)) (d : Refusal) where
   line_first : OfLine files d → OnText files d
   unfolding head_said
   line_first t =
-      let e : head_said d.file (head_at files d) ≡ Readable = (silent_none (head_claims files d)).1 t.good in
+      let e : head_said d.file (head_at files d) ≡ Ok tt = (silent_none (head_claims files d)).1 t.good in
       record { judged = t.judged; first = rw (later_claims files d.file d.line t.later, e) t.first }
 
   -- of a line under a refused one
@@ -94,9 +93,9 @@ module _ (files : List (List ℕ)) (d : Refusal) where
   unfolding head_said
   text_first t = record { judged = t.judged; first = rw (later_claims files d.file d.line t.later) (go (head_said d.file (head_at files d)) refl) }
     where
-      go : (v : Verdict) → head_said d.file (head_at files d) ≡ v → FirstBroken (on_line d.file d.line (tests_under v d.file (head_at files d) (text_at files d))) d
-      go Readable e = none_some (head_claims files d) ((silent_none (head_claims files d)).0 e) t.refused
-      go (Unreadable r) e = t.first
+      go : (v : Result Unit Refusal) → head_said d.file (head_at files d) ≡ v → FirstBroken (on_line d.file d.line (tests_under v d.file (head_at files d) (text_at files d))) d
+      go (Ok tt) e = none_some (head_claims files d) ((silent_none (head_claims files d)).0 e) t.refused
+      go (Err r) e = t.first
 
   -- a fault is of a whole file or of a line
   pub whole_or_line : Fault files d → OfWhole files d ⊎ OnText files d

@@ -7,8 +7,7 @@ use mathlib.Core.List.Memᴰ
 use mathlib.Core.List.{List, Memᴰ}
 use lib.ListN.{get_or}
 use Rattle.meaning.specs.declared.Refusal.{Refusal}
-use Rattle.meaning.specs.declared.Verdict.{Verdict}
-use Rattle.meaning.specs.declared.Verdict.TheVariants.{Readable, Unreadable}
+use Rattle.std.specs.Prelude.{Result, Ok, Err}
 use Rattle.meaning.specs.Refusals.{Test, Claim, on_line, speaks}
 use Rattle.meaning.specs.Promises.{Ordered, no_claim, FirstBroken}
 use Rattle.meaning.proofs.Laws.{get_d_mem}
@@ -43,12 +42,12 @@ first_among cs d b =
     Memᴰ.cast (sym e) (get_d_mem cs b.at no_claim b.inside)
 
 -- what is said is a fault
-said_exactly : (v : Verdict) (d : Refusal) → Memᴰ d (said v) ↔ v ≡ Unreadable d
+said_exactly : (v : Result Unit Refusal) (d : Refusal) → Memᴰ d (said v) ↔ v ≡ Err d
 said_exactly v d = (there v, λ e. rw e (Memᴰ.head refl))
   where
-    there : (v : Verdict) → Memᴰ d (said v) → v ≡ Unreadable d
-    there Readable m = absurd (Memᴰ.not-nil m)
-    there (Unreadable r) m = ap Unreadable (sym (Memᴰ.eq_of_singleton m))
+    there : (v : Result Unit Refusal) → Memᴰ d (said v) → v ≡ Err d
+    there (Ok tt) m = absurd (Memᴰ.not-nil m)
+    there (Err r) m = ap Err (sym (Memᴰ.eq_of_singleton m))
 
 module _ (f n : ℕ) (ts : List Test) where
   -- The fault of a place is the first of its tests that is broken.
@@ -72,6 +71,6 @@ module _ (f n : ℕ) (ts : List Test) where
   unfolding fault_at
   fault_ordered = go (speaks (on_line f n ts))
     where
-      go : (v : Verdict) → Ordered fault_before (said v)
-      go Readable = tt
-      go (Unreadable r) = ((λ y m. absurd (Memᴰ.not-nil m)), tt)
+      go : (v : Result Unit Refusal) → Ordered fault_before (said v)
+      go (Ok tt) = tt
+      go (Err r) = ((λ y m. absurd (Memᴰ.not-nil m)), tt)

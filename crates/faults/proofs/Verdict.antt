@@ -10,8 +10,7 @@ use lib.IntN.{ℤ}
 use lib.ListN.{length, get_or, length-map}
 use borrow.Author.Tests.{ltb-true, ltb-false, lt-ltb, le-ltb, eq-eqb, ne_eqb}
 use Rattle.meaning.specs.declared.Refusal.{Refusal}
-use Rattle.meaning.specs.declared.Verdict.{Verdict}
-use Rattle.meaning.specs.declared.Verdict.TheVariants.{Readable, Unreadable}
+use Rattle.std.specs.Prelude.{Result, Ok, Err}
 use Rattle.meaning.specs.Lists.{place}
 use Rattle.meaning.specs.Bytes.{Line, lines_of, count_lf, fields, values}
 use Rattle.meaning.specs.Columns.{places}
@@ -295,6 +294,6 @@ module _ (files : List (List ℕ)) (tables : List (List ℤ)) (enough : LongEnou
       nothing_in [] h = refl
       nothing_in (d ∷ l) h = absurd (h d (mathlib.Core.List.Memᴰ.head refl))
 
-      back : faults_of files ≡ [] → (v : Verdict) → verdict_of files rooms ≡ v → Reads files tables
-      back e Readable v = (readable_exactly files rooms).0 v
-      back e (Unreadable r) v = absurd (mathlib.Core.List.Memᴰ.not-nil (rw e at (verdict_listed r ((first_broken files rooms r).0 v))))
+      back : faults_of files ≡ [] → (v : Result Unit Refusal) → verdict_of files rooms ≡ v → Reads files tables
+      back e (Ok tt) v = (readable_exactly files rooms).0 v
+      back e (Err r) v = absurd (mathlib.Core.List.Memᴰ.not-nil (rw e at (verdict_listed r ((first_broken files rooms r).0 v))))

@@ -1,8 +1,6 @@
 -- The faults of a feed, from the same rules as the verdict. A fault is a refusal: its number, file, line and column.
-use Rattle.std.specs.Prelude.{ℕ, ◌+◌, List, [], ◌∷◌, ◌++◌, map, cond, ◌||◌, length, drop, eqb}
+use Rattle.std.specs.Prelude.{ℕ, ◌+◌, List, [], ◌∷◌, ◌++◌, map, cond, ◌||◌, length, drop, eqb, Result, Ok, Err}
 use Rattle.meaning.specs.declared.Refusal.{Refusal}
-use Rattle.meaning.specs.declared.Verdict.{Verdict}
-use Rattle.meaning.specs.declared.Verdict.TheVariants.{Readable, Unreadable}
 use Rattle.meaning.specs.Lists.{empty}
 use Rattle.meaning.specs.Bytes.{count_lf, start_of, lines_from, fields, values}
 use Rattle.meaning.specs.Columns.{places}
@@ -26,9 +24,9 @@ unfoldable pub texts_of : List ℕ → List (List ℕ)
 texts_of s = texts_from s (start_of s)
 
 -- what speaks is a fault
-abbrev pub said : Verdict → List Refusal
-said Readable = []
-said (Unreadable r) = r ∷ []
+abbrev pub said : Result Unit Refusal → List Refusal
+said (Ok tt) = []
+said (Err r) = r ∷ []
 
 -- At most one fault, at line n of file f (line 0: the file as a whole): the first of these tests that is broken, in the order in which they speak.
 unfoldable pub fault_at : ℕ → ℕ → List Test → List Refusal
@@ -42,12 +40,12 @@ whole_faults files f s =
     ++ fault_at f 0 (test 4 (rule4 files f s 0) ∷ []))
 
 -- A line after the header h is put to all its tests where the header is good; where it is refused, only to those that don't look at it.
-abbrev pub tests_under : Verdict → ℕ → List ℕ → List ℕ → List Test
-tests_under Readable f h l = line_tests f (places f (values h)) (length (fields h)) l
-tests_under (Unreadable r) f h l = text_tests l
+abbrev pub tests_under : Result Unit Refusal → ℕ → List ℕ → List ℕ → List Test
+tests_under (Ok tt) f h l = line_tests f (places f (values h)) (length (fields h)) l
+tests_under (Err r) f h l = text_tests l
 
 -- what is said of a header
-unfoldable pub head_said : ℕ → List ℕ → Verdict
+unfoldable pub head_said : ℕ → List ℕ → Result Unit Refusal
 head_said f h = speaks (on_line f 1 (head_tests f h))
 
 -- the lines after the header h, from line n

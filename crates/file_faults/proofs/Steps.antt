@@ -1,9 +1,13 @@
 -- A step along all the lines of a file: a line that an LF ends, the bytes after the last LF, or none any more.
+use Rattle.std.specs.Prelude.{Option, Some, None}
+use Rattle.std.specs.Option.{option_or}
+use Rattle.std.specs.Bool.{then_some}
+use Rattle.std.proofs.lemmas.Option.{same_Some}
 use Prim.Native.Nat.{ℕ, suc, ◌+◌, ◌-◌, ◌≤◌, ◌<◌}
 use native.Mathlib.Omega.{arith}
 use native.Mathlib.Nat.{not-suc-le-zero}
 use native.Mathlib.Numerals.{add-one}
-use mathlib.Core.Path.{◌≡◌, refl, sym, ◌∙◌}
+use mathlib.Core.Path.{◌≡◌, refl, sym, ap, ◌∙◌}
 use mathlib.Core.Bool.{Bool, true, false, cond}
 use mathlib.Core.List.{List, [], ◌∷◌}
 use lib.ListN.{length, drop, length-drop}
@@ -11,14 +15,14 @@ use lib.Seq.{drop-drop, take_all}
 use lib.Dec.{eqb, ltb}
 use borrow.Author.Tests.{eq-eqb, ne_eqb, ltb-true, ltb-false}
 use Rattle.meaning.specs.Lists.{empty}
-use Rattle.meaning.specs.Bytes.{part, count_lf}
-use Rattle.text.specs.declared.LineStep.{LineStep}
-use Rattle.text.specs.declared.LineStep.TheVariants.{Line, Done}
+use Rattle.meaning.specs.Bytes.{bounds, part, count_lf}
+use Rattle.meaning.specs.declared.Bounds.{Bounds}
 use Rattle.text.specs.Lines.{to_first, to_lf, line_to, line_at}
 use Rattle.text.proofs.Laws.{drop_over}
 use Rattle.text.proofs.Lines.{line_found, line_none, lines_over}
 use Rattle.faults.specs.List.{after_lf, unended, texts_from}
-use Rattle.file_faults.specs.Walk.{any_at, AnyStands}
+use Rattle.forms.proofs.Laws.{chosen}
+use Rattle.file_faults.specs.Walk.{or_rest, any_at, AnyStands}
 
 -- ---- the bytes after the last LF, by the first LF
 
@@ -70,24 +74,24 @@ module _ (s : List ℕ) (at : ℕ) where
   abbrev to : ℕ
   to = at + to_lf (drop at s)
 
-  found_to : (a e n : ℕ) → line_at s at ≡ Line a e n → (to < length s) × (n ≡ to + 1)
+  found_to : (a e n : ℕ) → line_at s at ≡ Some (bounds a e, n) → (to < length s) × (n ≡ to + 1)
   unfolding line_at line_to
   found_to a e n p = go (ltb to (length s)) refl
     where
       go : (t : Bool) → ltb to (length s) ≡ t → (to < length s) × (n ≡ to + 1)
-      go true t = let z : Line at _ (to + 1) ≡ Line a e n = rw t at p in let k : to + 1 ≡ n = cc in (ltb-true to (length s) t, sym k)
-      go false t = let z : Done ≡ Line a e n = rw t at p in let w : ◌≡◌ {A = ℕ} 0 1 = cc in absurd (omega arith)
+      go true t = let z : Some (bounds at _, to + 1) ≡ Some (bounds a e, n) = rw t at p in let k : to + 1 ≡ n = ap (λ (v : Bounds × ℕ). v.1) (same_Some _ _ z) in (ltb-true to (length s) t, sym k)
+      go false t = let z : None ≡ Some (bounds a e, n) = rw t at p in let w : ◌≡◌ {A = ℕ} 0 1 = cc in absurd (omega arith)
 
-  none_to : line_at s at ≡ Done → length s ≤ to
+  none_to : line_at s at ≡ None → length s ≤ to
   unfolding line_at line_to
   none_to p = go (ltb to (length s)) refl
     where
       go : (t : Bool) → ltb to (length s) ≡ t → length s ≤ to
-      go true t = let z : Line at _ (to + 1) ≡ Done = rw t at p in let w : ◌≡◌ {A = ℕ} 0 1 = cc in absurd (omega arith)
+      go true t = let z : Some (bounds at _, to + 1) ≡ None = rw t at p in let w : ◌≡◌ {A = ℕ} 0 1 = cc in absurd (omega arith)
       go false t = ltb-false to (length s) t
 
   -- a line that an LF ends
-  any_line : (a e n : ℕ) → line_at s at ≡ Line a e n → AnyStands s at a e n
+  any_line : (a e n : ℕ) → line_at s at ≡ Some (bounds a e, n) → AnyStands s at a e n
   unfolding texts_from unended
   any_line a e n p =
       let l = line_found s at a e n p in
@@ -104,7 +108,7 @@ module _ (s : List ℕ) (at : ℕ) where
       }
 
   -- the bytes after the last LF
-  any_rest : line_at s at ≡ Done → at < length s → AnyStands s at at (length s) (length s)
+  any_rest : line_at s at ≡ None → at < length s → AnyStands s at at (length s) (length s)
   unfolding texts_from unended empty part
   any_rest p h =
       let long : length (drop at s) ≡ length s - at = length-drop at s in
@@ -119,30 +123,36 @@ module _ (s : List ℕ) (at : ℕ) where
       }
 
 -- what a step finds
-pub any_found : (s : List ℕ) (at a e n : ℕ) → any_at s at ≡ Line a e n → AnyStands s at a e n
+pub any_found : (s : List ℕ) (at a e n : ℕ) → any_at s at ≡ Some (bounds a e, n) → AnyStands s at a e n
 unfolding any_at
 any_found s at a e n p = go (line_at s at) refl
   where
-    rest : (t : Bool) → ltb at (length s) ≡ t → line_at s at ≡ Done → cond t (Line at (length s) (length s)) Done ≡ Line a e n → AnyStands s at a e n
+    rest : (t : Bool) → ltb at (length s) ≡ t → line_at s at ≡ None → cond {A = Option (Bounds × ℕ)} t (Some (bounds at (length s), length s)) None ≡ Some (bounds a e, n) → AnyStands s at a e n
     rest true h d q =
-        let x : at ≡ a = cc in
-        let y : length s ≡ e = cc in
-        let z : length s ≡ n = cc in
+        let v : ◌≡◌ {A = Bounds × ℕ} (bounds at (length s), length s) (bounds a e, n) = same_Some _ _ q in
+        let x : at ≡ a = ap (λ (u : Bounds × ℕ). u.0.start) v in
+        let y : length s ≡ e = ap (λ (u : Bounds × ℕ). u.0.end) v in
+        let z : length s ≡ n = ap (λ (u : Bounds × ℕ). u.1) v in
         rw (← x, ← y, ← z) (any_rest s at d (ltb-true at (length s) h))
     rest false h d q = let w : ◌≡◌ {A = ℕ} 0 1 = cc in absurd (omega arith)
 
-    go : (x : LineStep) → line_at s at ≡ x → AnyStands s at a e n
-    go (Line b f m) q = any_line s at a e n (q ∙ rw q at p)
-    go Done q = rest (ltb at (length s)) refl q (rw q at p)
+    go : (x : Option (Bounds × ℕ)) → line_at s at ≡ x → AnyStands s at a e n
+    go (Some x) q = any_line s at a e n (q ∙ rw q at p)
+    go None q = rest (ltb at (length s)) refl q (rw q at p)
 
-pub any_none : (s : List ℕ) (at : ℕ) → any_at s at ≡ Done → texts_from s at ≡ []
+pub any_none : (s : List ℕ) (at : ℕ) → any_at s at ≡ None → texts_from s at ≡ []
 unfolding any_at texts_from
 any_none s at p = go (line_at s at) refl
   where
-    over : (t : Bool) → ltb at (length s) ≡ t → cond t (Line at (length s) (length s)) Done ≡ Done → texts_from s at ≡ []
+    over : (t : Bool) → ltb at (length s) ≡ t → cond {A = Option (Bounds × ℕ)} t (Some (bounds at (length s), length s)) None ≡ None → texts_from s at ≡ []
     over true h q = let w : ◌≡◌ {A = ℕ} 0 1 = cc in absurd (omega arith)
     over false h q = nothing_over s at (ltb-false at (length s) h)
 
-    go : (x : LineStep) → line_at s at ≡ x → texts_from s at ≡ []
-    go (Line b f m) q = let z : Line b f m ≡ Done = rw q at p in let w : ◌≡◌ {A = ℕ} 0 1 = cc in absurd (omega arith)
-    go Done q = over (ltb at (length s)) refl (rw q at p)
+    go : (x : Option (Bounds × ℕ)) → line_at s at ≡ x → texts_from s at ≡ []
+    go (Some x) q = let z : Some x ≡ None = rw q at p in let w : ◌≡◌ {A = ℕ} 0 1 = cc in absurd (omega arith)
+    go None q = over (ltb at (length s)) refl (rw q at p)
+
+-- the same in the library's words
+pub or_is : (s : List ℕ) (at : ℕ) (o : Option (Bounds × ℕ)) → option_or o (then_some (ltb at (length s)) (bounds at (length s), length s)) ≡ or_rest s at o
+or_is s at (Some x) = refl
+or_is s at None = chosen (ltb at (length s)) (bounds at (length s), length s)

@@ -1,63 +1,58 @@
 #![tactic(auto)]
 // The faults of each file: as a whole, then line by line in one walk, handed out.
-ghost use Rattle.std.specs.Prelude.{◌≡◌, cond, not, List, [], ◌∷◌, ℕ, ◌+◌, ◌^◌, ◌<◌, ◌≤◌, length};
+ghost use Rattle.std.specs.Prelude.{◌≡◌, not, IfSome, List, [], ◌∷◌, ℕ, ◌+◌, ◌^◌, ◌<◌, ◌≤◌, length};
 ghost use Rattle.meaning.specs.Lists.{empty};
 ghost use Rattle.meaning.specs.Tables.{file_of};
-ghost use Rattle.meaning.specs.Refusals.{max_bytes, test, text_tests, line_tests};
+ghost use Rattle.meaning.specs.Refusals.{max_bytes, test};
 ghost use Rattle.schema.specs.AllKnown.{AllKnown};
 ghost use Rattle.reading.specs.Tests.{first};
 ghost use Rattle.listing.specs.Handing.{state, adding};
 ghost use Rattle.faults.specs.List.{texts_from, texts_of, fault_at, head_said, tests_under, later_faults, line_faults, file_faults};
 ghost use Rattle.faults.specs.Told.{quad};
-ghost use Rattle.file_faults.specs.Walk.{any_at, fault_of, Heads, Header, marked_faults};
+ghost use Rattle.file_faults.specs.Walk.{any_at, fault_of, tests_by, Heads, Header, marked_faults};
 
 use columns::Columns;
 use listing::Sink;
-use meaning::{Column, Place};
+use meaning::{Bounds, Column, Place};
 use reading::Fault;
-use text::LineStep;
 
-// The line that begins at `at`; bytes that no LF ends are a line here.
-fn any_line(s: &[u8], at: usize) -> LineStep
+// Where the line that begins at `at` lies, and where the next one starts; bytes that no LF ends are a line here.
+fn any_line(s: &[u8], at: usize) -> Option<(Bounds, usize)>
     ensures { result ≡ any_at s.now at }
 {
-    match text::next_line(s, at) {
-        LineStep::Line { start, end, next } => LineStep::Line { start, end, next },
-        LineStep::Done => {
-            if at < s.len() {
-                return LineStep::Line {
-                    start: at,
-                    end: s.len(),
-                    next: s.len(),
-                };
-            }
-            LineStep::Done
-        }
-    }
+    let end = s.len();
+    text::next_line(s, at).or((at < end).then_some((Bounds { start: at, end }, end)))
 }
 
 // One fault more, where a rule is broken.
-fn note_fault(out: &mut [i32], k: Sink, p: Place, file: usize, line: usize, t: Fault) -> Sink
-    requires file_bound { (file < 2 ^ 31) × ((line < 2 ^ 31) × ((t.rule < 2 ^ 31) × (t.column < 2 ^ 31))) }
+fn note_fault(
+    out: &mut [i32],
+    k: Sink,
+    p: Place,
+    file: usize,
+    line: usize,
+    t: Option<Fault>,
+) -> Sink
+    requires file_bound { (file < 2 ^ 31) × ((line < 2 ^ 31) × IfSome t (λ u. (u.rule < 2 ^ 31) × (u.column < 2 ^ 31))) }
     requires total_bound { k.total < 2 ^ 62 }
     ensures result_after { state out.new result ≡ adding quad p (fault_of file line t) (state out.old k) }
     ensures total_bound_2 { result.total ≤ k.total + 1 }
 {
-    if t.rule == 0 {
+    let Some(t) = t else {
         return k;
-    }
+    };
     let d = [file as i32, line as i32, t.rule as i32, t.column as i32];
     listing::hand_out(out, k, p, &d)
 }
 
 // A rule of a whole file, where it is broken.
-fn whole_fault(broken: bool, rule: usize) -> Fault
+fn whole_fault(broken: bool, rule: usize) -> Option<Fault>
     ensures { result ≡ first (test rule broken ∷ []) }
 {
     if broken {
-        return Fault { rule, column: 0 };
+        return Some(Fault { rule, column: 0 });
     }
-    Fault { rule: 0, column: 0 }
+    None
 }
 
 // Rules 1, 2 and 4 of a file, by what was found of its rules 1 to 4. Rule 3 is about lent memory, not about the feed.
@@ -72,23 +67,21 @@ fn list_whole(f: usize, whole: [bool; 4], out: &mut [i32], k: Sink, p: Place) ->
 }
 
 // The first rule that a line after the header breaks: of all its rules where the header is good, else of those that don't look at it.
-fn later_fault(f: usize, known: [Column; 10], good: bool, c: Columns, l: &[u8]) -> Fault
+fn later_fault(f: usize, known: [Column; 10], header: Option<Columns>, l: &[u8]) -> Option<Fault>
     requires { (f < 7) × AllKnown f known }
-    ensures { result ≡ first (cond good (line_tests f c.at c.count l.now) (text_tests l.now)) }
+    ensures { result ≡ first (tests_by f header l.now) }
 {
-    if good {
-        return reading::line_fault(f, known, c, l);
+    match header {
+        Some(c) => reading::line_fault(f, known, c, l),
+        None => reading::text_rule(l, text::measure(l)).map(|rule| Fault { rule, column: 0 }),
     }
-    let rule = reading::text_rule(l, text::measure(l));
-    Fault { rule, column: 0 }
 }
 
 // The fault of line n, after the header.
 fn list_line(
     f: usize,
     known: [Column; 10],
-    good: bool,
-    c: Columns,
+    header: Option<Columns>,
     l: &[u8],
     n: usize,
     out: &mut [i32],
@@ -97,18 +90,17 @@ fn list_line(
 ) -> Sink
     requires f_bound { (f < 7) × ((n < 2 ^ 31) × (k.total < 2 ^ 62)) }
     requires all_known { AllKnown f known }
-    requires header { Header f good c.at c.count }
-    ensures by_index { (h : List ℕ) → Heads f h good c.at c.count → state out.new result ≡ adding quad p (fault_at f n (tests_under (head_said f h) f h l.now)) (state out.old k) }
+    requires header { Header f header }
+    ensures by_index { (h : List ℕ) → Heads f h header → state out.new result ≡ adding quad p (fault_at f n (tests_under (head_said f h) f h l.now)) (state out.old k) }
     ensures total_bound { result.total ≤ k.total + 1 }
 {
-    note_fault(out, k, p, f, n, later_fault(f, known, good, c, l))
+    note_fault(out, k, p, f, n, later_fault(f, known, header, l))
 }
 
 // The faults of the lines after the header, from byte `from` on, counted from 2.
 fn list_later(
     f: usize,
-    good: bool,
-    c: Columns,
+    header: Option<Columns>,
     s: &[u8],
     from: usize,
     out: &mut [i32],
@@ -116,26 +108,20 @@ fn list_later(
     p: Place,
 ) -> Sink
     requires f_bound { (f < 7) × ((length s.now ≤ max_bytes) × (k.total < 2 ^ 60)) }
-    requires header { Header f good c.at c.count }
-    ensures by_index { (h : List ℕ) → Heads f h good c.at c.count → state out.new result ≡ adding quad p (later_faults f h 2 (texts_from s.now from)) (state out.old k) }
+    requires header { Header f header }
+    ensures by_index { (h : List ℕ) → Heads f h header → state out.new result ≡ adding quad p (later_faults f h 2 (texts_from s.now from)) (state out.old k) }
     ensures total_bound { result.total ≤ k.total + length s.now }
 {
     let known = schema::all_known(f);
     let mut at = from;
     let mut n: usize = 2;
     let mut sink = k;
-    loop {
-        match any_line(s, at) {
-            LineStep::Line { start, end, next } => {
-                sink = list_line(f, known, good, c, &s[start..end], n, out, sink, p);
-                n += 1;
-                at = next;
-            }
-            LineStep::Done => {
-                return sink;
-            }
-        }
+    while let Some((line, next)) = any_line(s, at) {
+        sink = list_line(f, known, header, &s[line.start..line.end], n, out, sink, p);
+        n += 1;
+        at = next;
     }
+    sink
 }
 
 // The faults of a file's lines: of its header, then of the others.
@@ -144,16 +130,12 @@ fn list_lines(f: usize, s: &[u8], out: &mut [i32], k: Sink, p: Place) -> Sink
     ensures result_after { state out.new result ≡ adding quad p (line_faults f (texts_of s.now)) (state out.old k) }
     ensures total_bound { result.total ≤ k.total + length s.now + 1 }
 {
-    match any_line(s, text::body_start(s)) {
-        LineStep::Line { start, end, next } => {
-            let h = reading::judge_header(f, &s[start..end]);
-            let t = h.fault;
-            let sink = note_fault(out, k, p, f, 1, t);
-            let c = h.columns;
-            list_later(f, t.rule == 0, c, s, next, out, sink, p)
-        }
-        LineStep::Done => k,
-    }
+    let Some((line, next)) = any_line(s, text::body_start(s)) else {
+        return k;
+    };
+    let h = reading::judge_header(f, &s[line.start..line.end]);
+    let sink = note_fault(out, k, p, f, 1, h.err());
+    list_later(f, h.ok(), s, next, out, sink, p)
 }
 
 // The faults of file f: as a whole, then of its lines, where it breaks neither 1 nor 2. `dated`: file 6 is supplied.

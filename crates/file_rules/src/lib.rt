@@ -11,7 +11,7 @@ use judging::MOST_RULES;
 use listing::Sink;
 use meaning::{Place, Profile};
 use rows::{
-    Calendar, Dates, Routes, ServiceRow, StopRow, StopTimes, Stops, TimeRow, TripRow, Trips,
+    Calendar, Dates, Routes, ServiceRow, StopRow, StopTimes, Stops, Table, TimeRow, TripRow, Trips,
 };
 
 // What the line with index i of stops.txt breaks.
@@ -19,16 +19,16 @@ fn stop_line(t: &[i32], marks: &[u16], i: usize) -> [bool; MOST_RULES]
     requires { i < 2 ^ 31 }
     ensures { (w : Feed) (n : ℕ) (stops : List ℤ) → Ready 1 n w t.now stops marks.now → i < n → Judges 1 w i result }
 {
-    let row = i + 1;
-    let repeats = marks::is_marked(marks, Stops::FILE, row);
-    let has_parent = marks::is_marked(marks, marks::PARENT, row);
-    let parent = Stops::parent_at(t, StopRow(row)).0;
+    let row = StopRow::new(i + 1);
+    let repeats = marks::is_marked(marks, Stops::FILE, row.0);
+    let has_parent = marks::is_marked(marks, marks::PARENT, row.0);
+    let parent = Stops::parent_at(t, row);
     judging::judge_stop(
         repeats,
         !has_parent,
-        parent,
-        Stops::kind_at(t, StopRow(row)),
-        Stops::kind_at(t, StopRow(parent)),
+        parent.0,
+        Stops::kind_at(t, row),
+        Stops::kind_at(t, parent),
     )
 }
 
@@ -49,11 +49,11 @@ fn service_line(t: &[i32], marks: &[u16], i: usize) -> [bool; MOST_RULES]
     requires { i < 2 ^ 31 }
     ensures { (w : Feed) (n : ℕ) (stops : List ℤ) → Ready 3 n w t.now stops marks.now → i < n → Judges 3 w i result }
 {
-    let row = i + 1;
+    let row = ServiceRow::new(i + 1);
     judging::judge_service(
-        marks::is_marked(marks, Calendar::FILE, row),
-        Calendar::start_at(t, ServiceRow(row)),
-        Calendar::end_at(t, ServiceRow(row)),
+        marks::is_marked(marks, Calendar::FILE, row.0),
+        Calendar::start_at(t, row),
+        Calendar::end_at(t, row),
     )
 }
 
@@ -62,14 +62,14 @@ fn trip_line(t: &[i32], marks: &[u16], i: usize) -> [bool; MOST_RULES]
     requires { i < 2 ^ 31 }
     ensures { (w : Feed) (n : ℕ) (stops : List ℤ) → Ready 4 n w t.now stops marks.now → i < n → Judges 4 w i result }
 {
-    let row = i + 1;
+    let row = TripRow::new(i + 1);
     judging::judge_trip(
-        marks::is_marked(marks, Trips::FILE, row),
-        Trips::route_at(t, TripRow(row)).0,
-        Trips::service_at(t, TripRow(row)).0,
-        Trips::dated_at(t, TripRow(row)).0,
-        marks::is_marked(marks, marks::PAIRED, row),
-        marks::is_marked(marks, marks::OPEN, row),
+        marks::is_marked(marks, Trips::FILE, row.0),
+        Trips::route_at(t, row).0,
+        Trips::service_at(t, row).0,
+        Trips::dated_at(t, row).0,
+        marks::is_marked(marks, marks::PAIRED, row.0),
+        marks::is_marked(marks, marks::OPEN, row.0),
     )
 }
 
@@ -78,19 +78,19 @@ fn time_line(t: &[i32], stops: &[i32], marks: &[u16], i: usize) -> [bool; MOST_R
     requires { i < 2 ^ 31 }
     ensures { (w : Feed) (n : ℕ) → Ready 5 n w t.now stops.now marks.now → i < n → Judges 5 w i result }
 {
-    let row = i + 1;
-    let stop = StopTimes::stop_at(t, TimeRow(row)).0;
+    let row = TimeRow::new(i + 1);
+    let stop = StopTimes::stop_at(t, row);
     judging::judge_time(
-        StopTimes::trip_at(t, TimeRow(row)).0,
-        stop,
-        Stops::kind_at(stops, StopRow(stop)),
-        StopTimes::arrival_at(t, TimeRow(row)),
-        StopTimes::departure_at(t, TimeRow(row)),
-        StopTimes::pickup_at(t, TimeRow(row)),
-        StopTimes::drop_off_at(t, TimeRow(row)),
-        StopTimes::timepoint_at(t, TimeRow(row)),
-        marks::is_marked(marks, marks::EQUAL, row),
-        marks::is_marked(marks, marks::FALLING, row),
+        StopTimes::trip_at(t, row).0,
+        stop.0,
+        Stops::kind_at(stops, stop),
+        StopTimes::arrival_at(t, row),
+        StopTimes::departure_at(t, row),
+        StopTimes::pickup_at(t, row),
+        StopTimes::drop_off_at(t, row),
+        StopTimes::timepoint_at(t, row),
+        marks::is_marked(marks, marks::EQUAL, row.0),
+        marks::is_marked(marks, marks::FALLING, row.0),
     )
 }
 
@@ -177,11 +177,9 @@ pub fn list_file(
     let numbers = numbers_of(f);
     let rules = count_of(f, asked);
     let mut sink = k;
-    let mut i = 0;
-    while i < n {
+    for i in 0..n {
         let broken = judge_line(f, t, stops, marks, i);
         sink = noting::note_line(out, sink, p, f, i + 2, numbers, broken, rules);
-        i += 1;
     }
     sink
 }

@@ -1,4 +1,8 @@
 -- Laws of value forms, over lists and numbers. Assumes nothing.
+use Rattle.std.specs.Prelude.{Option, Some, None, MatchOption, unwrap_or}
+use Rattle.std.specs.Bool.{then_some}
+use Rattle.std.specs.List.{AllWithin, HoldsAt}
+use Rattle.std.proofs.lemmas.Iterator.{index_from_first}
 use mathlib.Core.Path.{◌≡◌, refl, sym, ap, subst, ◌∙◌}
 use mathlib.Core.Bool.{Bool, true, false, cond, not, ◌&&◌}
 use mathlib.Core.List.{List, [], ◌∷◌, ◌++◌}
@@ -13,29 +17,31 @@ use lib.Signed.{mag}
 use mir.Syntax.{w32}
 use mir.Val.{SFits, to_z, of_z, hbits}
 use mir.Facts.{to_z_pos, to_z-of_z}
-use borrow.Author.Tests.{ltb-true, ltb-false, leb-true, eqb-true, eqb-false, le-leb, lt-leb, eq-eqb, ne_eqb}
-use Rattle.meaning.specs.declared.Number.{Number}
-use Rattle.meaning.specs.declared.Number.TheVariants.{Value, NoNumber}
+use borrow.Author.Tests.{ltb-true, ltb-false, leb-true, leb-false, eqb-true, eqb-false, le-leb, lt-leb, eq-eqb, ne_eqb}
 use Rattle.meaning.specs.declared.Time.{Time}
 use Rattle.meaning.specs.declared.Time.TheVariants.{Seconds, Untimed, NoTime}
-use Rattle.meaning.specs.declared.Degrees.{Degrees}
-use Rattle.meaning.specs.declared.Degrees.TheVariants.{TenMillionths, NoDegrees}
-use Rattle.meaning.specs.declared.Choice.TheVariants.{Picked, NoChoice}
-use Rattle.meaning.specs.declared.Date.TheVariants.{Day, NoDate}
 use Rattle.meaning.specs.Lists.{same}
 use Rattle.meaning.specs.Bytes.{content, value}
 use Rattle.meaning.specs.Forms.{digits, with_number, sequence_text, clock_of, clock, time_text, is_day, date_text, no_mark, formed, to_point, pointed, whole_digits, tail_digits, signed, scaled, size_text, degrees_text, digit_text, route_type_text}
 use Rattle.meaning.proofs.Times.{not_seconds, not_day}
 use Rattle.meaning.proofs.Forms.{not_picked}
 use Rattle.meaning.proofs.Coordinates.{not_degrees, point_within}
-use Rattle.digits.specs.declared.Decimal.{Decimal}
-use Rattle.digits.specs.declared.Decimal.TheVariants.{Kept, NoDecimal}
 use Rattle.digits.specs.Decimals.{decimals_of}
-use Rattle.text.proofs.Laws.{drop_next, drop_over, same_no}
+use Rattle.text.proofs.Laws.{drop_over, same_no}
 use Rattle.text.proofs.Values.{value_mark, value_clean}
 use Rattle.digits.proofs.Laws.{sequence_is, sequence_below, sequence_fits, zero_below, ten_up, ten_some, digits_join, digits_from, scale_whole, under_limit, over_limit, at_limit, past_limit}
 use Rattle.forms.specs.Bounds.{TimeFits, DateFits, DegreesFits, ChoiceFits, NumberFits}
-use Rattle.forms.specs.Parts.{pointed_at, beyond, with_decimal, sized, pair_of}
+use Rattle.forms.specs.Parts.{pointed_at, beyond, with_decimal, sized}
+
+-- none either way is none
+pub either : {A : Type 0} (t : Bool) (none : A) → cond t none none ≡ none
+either true none = refl
+either false none = refl
+
+-- `then_some` as a choice
+pub chosen : {A : Type 0} (b : Bool) (x : A) → then_some b x ≡ cond b (Some x) None
+chosen true x = refl
+chosen false x = refl
 
 -- what is left of a list, as a part up to its end
 pub take_rest : (v : List ℕ) (k : ℕ) → take (length v - k) (drop k v) ≡ drop k v
@@ -46,37 +52,31 @@ pub no_rest : (v : List ℕ) (p : ℕ) → length v ≤ p → take (length v - p
 no_rest v p h = take_rest v p ∙ drop_over v p h ∙ sym (drop_over v (p + 1) (omega arith))
 
 -- two digits write less than a hundred
-pub two_below : (l : List ℕ) (n : ℕ) → length l ≤ 2 → sequence_text l ≡ Value n → n < 100
+pub two_below : (l : List ℕ) (n : ℕ) → length l ≤ 2 → sequence_text l ≡ Some n → n < 100
 two_below l n h e = lt_of_lt_of_le (sequence_below n l e) (ten_up (length l) 2 h)
 
 pub take_two : (v : List ℕ) (k : ℕ) → k ≤ 2 → length (take k v) ≤ 2
 take_two v k h = simp length-take (omega arith)
 
-pub hours_below : (v : List ℕ) (k : ℕ) → k ≤ 2 → (n : ℕ) → sequence_text (take k v) ≡ Value n → n < 100
+pub hours_below : (v : List ℕ) (k : ℕ) → k ≤ 2 → (n : ℕ) → sequence_text (take k v) ≡ Some n → n < 100
 hours_below v k h n e = two_below (take k v) n (take_two v k h) e
 
-pub clock_join : (v : List ℕ) (k : ℕ) (h m x : Number) (b : Bool) (r : Time) → h ≡ sequence_text (take k v)
-    → m ≡ sequence_text (take (k + 3 - (k + 1)) (drop (k + 1) v)) → x ≡ sequence_text (take (k + 6 - (k + 4)) (drop (k + 4) v))
+pub clock_join : (v : List ℕ) (k : ℕ) (h m x : Option ℕ) (b : Bool) (r : Time) → h ≡ sequence_text (take k v)
+    → m ≡ sequence_text (take (k + 3 - (k + 1)) (drop (k + 1) v)) → length v ≡ k + 6 → x ≡ sequence_text (take (length v - (k + 4)) (drop (k + 4) v))
     → b ≡ (eqb (get_or v k 0) 58 && eqb (get_or v (k + 3) 0) 58) → r ≡ clock_of b h m x → r ≡ clock k v
 unfolding clock
-clock_join v k h m x b r p q t u w =
+clock_join v k h m x b r p q long t u w =
     let e : k + 3 - (k + 1) ≡ 2 = omega arith in
-    let d : k + 6 - (k + 4) ≡ 2 = omega arith in
+    let d : length v - (k + 4) ≡ 2 = omega arith in
     cc
 
--- one turn toward the point
-module _ (v : List ℕ) (i k : ℕ) (inv : i + to_point (drop i v) ≡ k) where
-  pub point_here : i < length v → get_or v i 0 ≡ 46 → i ≡ k
-  unfolding to_point
-  point_here h e = omega (arith, rw (drop_next v i h, eq-eqb _ _ e) at inv)
-
-  pub point_turn : i < length v → (get_or v i 0 ≡ 46 → ⊥) → i + 1 + to_point (drop (i + 1) v) ≡ k
-  unfolding to_point
-  point_turn h e = omega (arith, rw (drop_next v i h, ne_eqb _ _ e) at inv)
-
-  pub point_end : length v ≤ i → i ≡ k
-  unfolding to_point
-  point_end h = omega (arith, rw (drop_over v i h) at inv)
+-- what stands before the first point, by std's search for it
+pub point_is : (v : List ℕ) (r : Option ℕ)
+    → MatchOption r (AllWithin (λ x. x ≡ 46 → ⊥) v 0 (length v)) (λ i. (i < length v) × HoldsAt (λ x. x ≡ 46) v i × AllWithin (λ x. x ≡ 46 → ⊥) v 0 i)
+    → to_point v ≡ unwrap_or r (length v)
+unfolding to_point
+point_is v r h =
+    index_from_first to_point (λ x. x ≡ 46) (λ x. x ≡ 46 → ⊥) refl (λ x xs e. rw (eq-eqb x 46 e)) (λ x xs e. rw (ne_eqb x 46 e)) v r h
 
 -- a size with its sign
 pub zero_minus : (z : ℤ) → pos 0 -ℤ z ≡ neg_ℤ z
@@ -106,16 +106,16 @@ within_limit limit w some r e f = go (eqb w limit) refl (sym e ∙ f)
 
 -- The range is tested over all digits, and then those past the seventh are dropped.
 pub scaled_is : (limit w t d : ℕ) (below : Bool) → t < 10 ^ d
-    → cond (beyond limit w (not (eqb t 0))) NoDegrees (TenMillionths (signed below (w * 10000000 + t * 10000000 / 10 ^ d)))
+    → cond (beyond limit w (not (eqb t 0))) None (Some (signed below (w * 10000000 + t * 10000000 / 10 ^ d)))
     ≡ scaled limit below (w * 10 ^ d + t) d
 unfolding scaled beyond
 scaled_is limit w t d below h = rw (scale_whole w t (10 ^ d) (ten_some d)) (go (eqb w limit) (eqb t 0) (ltb limit w) refl refl refl)
   where
-    z : Degrees
-    z = TenMillionths (signed below (w * 10000000 + t * 10000000 / 10 ^ d))
+    z : Option ℤ
+    z = Some (signed below (w * 10000000 + t * 10000000 / 10 ^ d))
 
     go : (x y u : Bool) → eqb w limit ≡ x → eqb t 0 ≡ y → ltb limit w ≡ u
-        → cond (cond x (not y) u) NoDegrees z ≡ cond (leb (w * 10 ^ d + t) (limit * 10 ^ d)) z NoDegrees
+        → cond (cond x (not y) u) None z ≡ cond (leb (w * 10 ^ d + t) (limit * 10 ^ d)) z None
     go true true u e f g = rw (le-leb _ _ (at_limit limit w t (10 ^ d) h (eqb-true _ _ e) (eqb-true _ _ f)))
     go true false u e f g = rw (lt-leb _ _ (past_limit limit w t (10 ^ d) h (eqb-true _ _ e) (eqb-false _ _ f)))
     go false y true e f g = rw (lt-leb _ _ (over_limit limit w t (10 ^ d) h (ltb-true _ _ g)))
@@ -125,24 +125,24 @@ scaled_is limit w t d below h = rw (scale_whole w t (10 ^ d) (ten_some d)) (go (
 
 -- whole degrees and decimals, read one after the other, are the digits read together
 pub sized_is : (limit : ℕ) (below : Bool) (a b : List ℕ) → 1 ≤ length a → length a ≤ 9
-    → sized limit below (sequence_text a) (decimals_of b) ≡ with_number NoDegrees (digits 0 (a ++ b)) (λ n. scaled limit below n (length b))
+    → sized limit below (sequence_text a) (decimals_of b) ≡ with_number None (digits 0 (a ++ b)) (λ n. scaled limit below n (length b))
 unfolding sized decimals_of
 sized_is limit below a b h g = rw (← sequence_is a h g, digits_join 0 a b) (whole (digits 0 a))
   where
-    tail : (w : ℕ) (k : Number) → digits 0 b ≡ k
-        → with_decimal (with_number NoDecimal k (λ t. Kept (t * 10000000 / 10 ^ length b) (not (eqb t 0))))
-        (λ n some. cond (beyond limit w some) NoDegrees (TenMillionths (signed below (w * 10000000 + n))))
-        ≡ with_number NoDegrees (with_number NoNumber k (λ t. Value (w * 10 ^ length b + t))) (λ n. scaled limit below n (length b))
-    tail w (Value t) e = scaled_is limit w t (length b) below (zero_below t b e)
-    tail w NoNumber e = refl
+    tail : (w : ℕ) (k : Option ℕ) → digits 0 b ≡ k
+        → with_decimal (with_number None k (λ t. Some (t * 10000000 / 10 ^ length b, not (eqb t 0))))
+        (λ n some. cond (beyond limit w some) None (Some (signed below (w * 10000000 + n))))
+        ≡ with_number None (with_number None k (λ t. Some (w * 10 ^ length b + t))) (λ n. scaled limit below n (length b))
+    tail w (Some t) e = scaled_is limit w t (length b) below (zero_below t b e)
+    tail w None e = refl
 
-    whole : (k : Number)
-        → with_number NoDegrees k
+    whole : (k : Option ℕ)
+        → with_number None k
         (λ w. with_decimal (decimals_of b)
-        (λ n some. cond (beyond limit w some) NoDegrees (TenMillionths (signed below (w * 10000000 + n)))))
-        ≡ with_number NoDegrees (with_number NoNumber k (λ m. digits m b)) (λ n. scaled limit below n (length b))
-    whole (Value w) = rw (digits_from w b) (tail w (digits 0 b) refl)
-    whole NoNumber = refl
+        (λ n some. cond (beyond limit w some) None (Some (signed below (w * 10000000 + n)))))
+        ≡ with_number None (with_number None k (λ m. digits m b)) (λ n. scaled limit below n (length b))
+    whole (Some w) = rw (digits_from w b) (tail w (digits 0 b) refl)
+    whole None = refl
 
 pub no_test : {A : Type 0} → false ≡ true → A
 no_test z = let w : ◌≡◌ {A = ℕ} 0 1 = cc in absurd (omega arith)
@@ -162,13 +162,13 @@ module _ (limit : ℕ) (below : Bool) (v : List ℕ) (p : ℕ) (at : p ≡ to_po
   unfolding pointed_at pointed
   is_pointed = rw at at e
 
-  pub size_no : t ≡ false → NoDegrees ≡ size_text limit below v
+  pub size_no : t ≡ false → None ≡ size_text limit below v
   unfolding size_text
   size_no h =
       let k : pointed v ≡ false = sym is_pointed ∙ h in
       rw k
 
-  pub size_yes : t ≡ true → (whole : Number) (tail : Decimal) (r : Degrees) → whole ≡ sequence_text (take p v)
+  pub size_yes : t ≡ true → (whole : Option ℕ) (tail : Option (ℕ × Bool)) (r : Option ℤ) → whole ≡ sequence_text (take p v)
       → tail ≡ decimals_of (drop (p + 1) v) → r ≡ sized limit below whole tail → r ≡ size_text limit below v
   unfolding size_text whole_digits tail_digits
   size_yes h whole tail r x y z =
@@ -179,64 +179,87 @@ module _ (limit : ℕ) (below : Bool) (v : List ℕ) (p : ℕ) (at : p ≡ to_po
 
 -- one digit from a to m
 module _ (a m : ℕ) (v : List ℕ) where
-  pub digit_long : (length v ≡ 1 → ⊥) → NoChoice ≡ digit_text a m v
+  pub digit_long : (length v ≡ 1 → ⊥) → None ≡ digit_text a m v
   unfolding digit_text
   digit_long h = rw (ne_eqb _ _ h)
 
-  pub digit_none : length v ≡ 1 → get_or v 0 0 < 48 → NoChoice ≡ digit_text a m v
+  pub digit_none : length v ≡ 1 → get_or v 0 0 < 48 → None ≡ digit_text a m v
   unfolding digit_text
   digit_none h g = rw (eq-eqb _ _ h, lt-leb (48 + a) (get_or v 0 0) (omega arith))
 
-  pub digit_low : length v ≡ 1 → 48 ≤ get_or v 0 0 → get_or v 0 0 - 48 < a → NoChoice ≡ digit_text a m v
+  pub digit_low : length v ≡ 1 → 48 ≤ get_or v 0 0 → get_or v 0 0 - 48 < a → None ≡ digit_text a m v
   unfolding digit_text
   digit_low h g e = rw (eq-eqb _ _ h, lt-leb (48 + a) (get_or v 0 0) (omega arith))
 
   module _ (one : length v ≡ 1) (digit : 48 ≤ get_or v 0 0) (low : a ≤ get_or v 0 0 - 48) where
-    pub digit_high : m < get_or v 0 0 - 48 → NoChoice ≡ digit_text a m v
+    pub digit_high : m < get_or v 0 0 - 48 → None ≡ digit_text a m v
     unfolding digit_text
     digit_high f = rw (eq-eqb _ _ one, le-leb (48 + a) (get_or v 0 0) (omega arith), lt-leb (get_or v 0 0) (48 + m) (omega arith))
 
-    pub digit_is : get_or v 0 0 - 48 ≤ m → (w : ℕ) → w ≡ get_or v 0 0 → Picked (w - 48) ≡ digit_text a m v
+    pub digit_is : get_or v 0 0 - 48 ≤ m → (w : ℕ) → w ≡ get_or v 0 0 → Some (w - 48) ≡ digit_text a m v
     unfolding digit_text
     digit_is f w e = rw (e, eq-eqb _ _ one, le-leb (48 + a) (get_or v 0 0) (omega arith), le-leb (get_or v 0 0) (48 + m) (omega arith))
+
+  pub digit_some : length v ≡ 1 → 48 ≤ get_or v 0 0 → (n : ℕ) → get_or v 0 0 - 48 ≡ n → then_some (leb a n && leb n m) n ≡ digit_text a m v
+  digit_some one digit n e = go (leb a n) (leb n m) refl refl
+    where
+      go : (x y : Bool) → leb a n ≡ x → leb n m ≡ y → then_some (x && y) n ≡ digit_text a m v
+      go true true f g =
+          ap Some (sym e) ∙ digit_is one digit (omega (arith, leb-true a n f)) (omega (arith, leb-true n m g)) _ refl
+      go true false f g = digit_high one digit (omega (arith, leb-true a n f)) (omega (arith, leb-false n m g))
+      go false y f g = digit_low one digit (omega (arith, leb-false a n f))
 
 -- texts of two bytes are compared with "11" and "12", and no others
 pub route_digit : (v : List ℕ) → (length v ≡ 2 → ⊥) → digit_text 0 7 v ≡ route_type_text v
 unfolding route_type_text
 route_digit v h = rw (same_no v (49 ∷ 49 ∷ []) (λ e. h (ap length e)), same_no v (49 ∷ 50 ∷ []) (λ e. h (ap length e)))
 
-pub route_pair : (v : List ℕ) → length v ≡ 2 → pair_of (get_or v 0 0) (get_or v 1 0) ≡ route_type_text v
-unfolding route_type_text pair_of same digit_text
-route_pair [] h = absurd (omega arith)
-route_pair (a ∷ []) h = absurd (omega arith)
-route_pair (a ∷ b ∷ []) h = go (eqb a 49) (eqb b 49) (eqb b 50)
-  where
-    go : (x y z : Bool)
-        → cond x (cond y (Picked 11) (cond z (Picked 12) NoChoice)) NoChoice
-        ≡ cond (cond x (cond y true false) false) (Picked 11) (cond (cond x (cond z true false) false) (Picked 12) NoChoice)
-    go true true z = refl
-    go true false true = refl
-    go true false false = refl
-    go false y z = refl
-route_pair (a ∷ b ∷ c ∷ r) h = absurd (omega arith)
+-- two bytes, said one by one
+pub route_two : (v : List ℕ) (b : ℕ) → length v ≡ 2 → get_or v 0 0 ≡ 49 → get_or v 1 0 ≡ b → v ≡ 49 ∷ b ∷ []
+route_two [] b h e f = absurd (omega arith)
+route_two (x ∷ []) b h e f = absurd (omega arith)
+route_two (x ∷ y ∷ []) b h e f = rw (e, f)
+route_two (x ∷ y ∷ z ∷ r) b h e f = absurd (omega arith)
+
+pub route_eleven : (v : List ℕ) → 2 ≤ length v → length v < 3 → get_or v 0 0 ≡ 49 → get_or v 1 0 ≡ 49 → Some 11 ≡ route_type_text v
+unfolding route_type_text same
+route_eleven v h g e f = rw (route_two v 49 (omega arith) e f)
+
+pub route_twelve : (v : List ℕ) → 2 ≤ length v → length v < 3 → get_or v 0 0 ≡ 49 → get_or v 1 0 ≡ 50 → Some 12 ≡ route_type_text v
+unfolding route_type_text same
+route_twelve v h g e f = rw (route_two v 50 (omega arith) e f)
+
+-- .. and the other texts
+pub route_first : (v : List ℕ) → (get_or v 0 0 ≡ 49 → ⊥) → digit_text 0 7 v ≡ route_type_text v
+unfolding route_type_text
+route_first v h = rw (same_no v (49 ∷ 49 ∷ []) (λ e. h (ap (λ l. get_or l 0 0) e)), same_no v (49 ∷ 50 ∷ []) (λ e. h (ap (λ l. get_or l 0 0) e)))
+
+pub route_second : (v : List ℕ) → (get_or v 1 0 ≡ 49 → ⊥) → (get_or v 1 0 ≡ 50 → ⊥) → digit_text 0 7 v ≡ route_type_text v
+unfolding route_type_text
+route_second v h g = rw (same_no v (49 ∷ 49 ∷ []) (λ e. h (ap (λ l. get_or l 1 0) e)), same_no v (49 ∷ 50 ∷ []) (λ e. g (ap (λ l. get_or l 1 0) e)))
 
 -- the sign
-module _ (limit : ℕ) (v : List ℕ) (r : Degrees) where
-  pub degrees_below : get_or v 0 0 ≡ 45 → r ≡ size_text limit true (take (length v - 1) (drop 1 v)) → r ≡ degrees_text limit v
+module _ (limit : ℕ) (v : List ℕ) (r : Option ℤ) where
+  pub degrees_below : (b : ℕ) (l : List ℕ) → v ≡ b ∷ l → b ≡ 45 → r ≡ size_text limit true l → r ≡ degrees_text limit v
   unfolding degrees_text
-  degrees_below h e = rw (eq-eqb _ _ h) (rw (take_rest v 1) at e)
+  degrees_below b l f h e = rw (f, h) e
 
-  pub degrees_plain : (get_or v 0 0 ≡ 45 → ⊥) → r ≡ size_text limit false v → r ≡ degrees_text limit v
+  pub degrees_plain : (b : ℕ) (l : List ℕ) → v ≡ b ∷ l → (b ≡ 45 → ⊥) → r ≡ size_text limit false v → r ≡ degrees_text limit v
   unfolding degrees_text
-  degrees_plain h e = rw (ne_eqb _ _ h) e
+  degrees_plain b l f h e =
+      let g : get_or v 0 0 ≡ b = ap (λ l. get_or l 0 0) f in
+      rw (ne_eqb (get_or v 0 0) 45 (λ z. h (sym g ∙ z))) e
 
-  pub degrees_empty : length v ≤ 0 → r ≡ size_text limit false v → r ≡ degrees_text limit v
-  degrees_empty h e = degrees_plain (λ z. omega (arith, get_or-eq_default v 0 h)) e
+  pub degrees_empty : length v ≡ 0 → r ≡ size_text limit false v → r ≡ degrees_text limit v
+  unfolding degrees_text
+  degrees_empty h e =
+      let k : length v ≤ 0 = omega arith in
+      rw (ne_eqb (get_or v 0 0) 45 (λ z. omega (arith, get_or-eq_default v 0 k))) e
 
 -- what each form's number keeps to
-clock_fits : (colons : Bool) (h m x : Number) → ((n : ℕ) → h ≡ Value n → n < 100) → TimeFits (clock_of colons h m x)
+clock_fits : (colons : Bool) (h m x : Option ℕ) → ((n : ℕ) → h ≡ Some n → n < 100) → TimeFits (clock_of colons h m x)
 unfolding clock_of
-clock_fits true (Value a) (Value b) (Value e) p n q = go (ltb b 60) (ltb e 60) refl refl q
+clock_fits true (Some a) (Some b) (Some e) p n q = go (ltb b 60) (ltb e 60) refl refl q
   where
     go : (x y : Bool) → ltb b 60 ≡ x → ltb e 60 ≡ y → cond x (cond y (Seconds (a * 3600 + b * 60 + e)) NoTime) NoTime ≡ Seconds n → n < 360000
     go true true f g z =
@@ -244,9 +267,9 @@ clock_fits true (Value a) (Value b) (Value e) p n q = go (ltb b 60) (ltb e 60) r
         omega (arith, p a refl, ltb-true b 60 f, ltb-true e 60 g)
     go true false f g z = not_seconds n z
     go false y f g z = not_seconds n z
-clock_fits true (Value a) (Value b) NoNumber p n q = not_seconds n q
-clock_fits true (Value a) NoNumber x p n q = not_seconds n q
-clock_fits true NoNumber m x p n q = not_seconds n q
+clock_fits true (Some a) (Some b) None p n q = not_seconds n q
+clock_fits true (Some a) None x p n q = not_seconds n q
+clock_fits true None m x p n q = not_seconds n q
 clock_fits false h m x p n q = not_seconds n q
 
 pub time_fits : (v : List ℕ) → TimeFits (time_text v)
@@ -263,15 +286,15 @@ pub date_fits : (v : List ℕ) → DateFits (date_text v)
 unfolding date_text
 date_fits v n e = go (eqb (length v) 8) (sequence_text v) refl refl e
   where
-    last : (m : ℕ) (y : Bool) → m < 100000000 → cond y (Day m) NoDate ≡ Day n → n < 100000000
+    last : (m : ℕ) (y : Bool) → m < 100000000 → cond y (Some m) None ≡ Some n → n < 100000000
     last m true h z = let k : m ≡ n = cc in omega arith
     last m false h z = not_day n z
 
-    go : (x : Bool) (k : Number) → eqb (length v) 8 ≡ x → sequence_text v ≡ k
-        → cond x (with_number NoDate k (λ m. cond (is_day m) (Day m) NoDate)) NoDate ≡ Day n → n < 100000000
-    go true (Value m) p q z =
+    go : (x : Bool) (k : Option ℕ) → eqb (length v) 8 ≡ x → sequence_text v ≡ k
+        → cond x (with_number None k (λ m. cond (is_day m) (Some m) None)) None ≡ Some n → n < 100000000
+    go true (Some m) p q z =
         last m (is_day m) (lt_of_lt_of_le (sequence_below m v q) (ten_up (length v) 8 (omega (arith, eqb-true (length v) 8 p)))) z
-    go true NoNumber p q z = not_day n z
+    go true None p q z = not_day n z
     go false k p q z = not_day n z
 
 pub number_fits : (v : List ℕ) → NumberFits (sequence_text v)
@@ -281,7 +304,7 @@ pub choice_fits : (a m : ℕ) (v : List ℕ) → ChoiceFits m (digit_text a m v)
 unfolding digit_text
 choice_fits a m v n e = go (eqb (length v) 1) (leb (48 + a) (get_or v 0 0)) (leb (get_or v 0 0) (48 + m)) refl e
   where
-    go : (x y z : Bool) → leb (get_or v 0 0) (48 + m) ≡ z → cond (x && (y && z)) (Picked (get_or v 0 0 - 48)) NoChoice ≡ Picked n → n ≤ m
+    go : (x y z : Bool) → leb (get_or v 0 0) (48 + m) ≡ z → cond (x && (y && z)) (Some (get_or v 0 0 - 48)) None ≡ Some n → n ≤ m
     go true true true p q =
         let k : get_or v 0 0 - 48 ≡ n = cc in
         omega (arith, leb-true (get_or v 0 0) (48 + m) p)
@@ -293,7 +316,7 @@ pub route_fits : (v : List ℕ) → ChoiceFits 12 (route_type_text v)
 unfolding route_type_text
 route_fits v n e = go (same v (49 ∷ 49 ∷ [])) (same v (49 ∷ 50 ∷ [])) e
   where
-    go : (x y : Bool) → cond x (Picked 11) (cond y (Picked 12) (digit_text 0 7 v)) ≡ Picked n → n ≤ 12
+    go : (x y : Bool) → cond x (Some 11) (cond y (Some 12) (digit_text 0 7 v)) ≡ Some n → n ≤ 12
     go true y q = let k : 11 ≡ n = cc in omega arith
     go false true q = let k : 12 ≡ n = cc in omega arith
     go false false q = omega (arith, choice_fits 0 7 v n q)
@@ -309,7 +332,7 @@ unfolding scaled
 scaled_fits limit below n d z e = go (leb n (limit * 10 ^ d)) refl e
   where
     go : (x : Bool) → leb n (limit * 10 ^ d) ≡ x
-        → cond x (TenMillionths (signed below (n * 10000000 / 10 ^ d))) NoDegrees ≡ TenMillionths z → nat_abs z ≤ limit * 10000000
+        → cond x (Some (signed below (n * 10000000 / 10 ^ d))) None ≡ Some z → nat_abs z ≤ limit * 10000000
     go true p q =
         let k : signed below (n * 10000000 / 10 ^ d) ≡ z = cc in
         let h : n * 10000000 ≤ 10 ^ d * (limit * 10000000) =
@@ -321,10 +344,10 @@ size_fits : (limit : ℕ) (below : Bool) (v : List ℕ) → DegreesFits limit (s
 unfolding size_text
 size_fits limit below v = go (pointed v) (digits 0 (whole_digits v ++ tail_digits v))
   where
-    go : (x : Bool) (k : Number)
-        → DegreesFits limit (cond x (with_number NoDegrees k (λ n. scaled limit below n (length (tail_digits v)))) NoDegrees)
-    go true (Value n) z q = scaled_fits limit below n (length (tail_digits v)) z q
-    go true NoNumber z q = not_degrees z q
+    go : (x : Bool) (k : Option ℕ)
+        → DegreesFits limit (cond x (with_number None k (λ n. scaled limit below n (length (tail_digits v)))) None)
+    go true (Some n) z q = scaled_fits limit below n (length (tail_digits v)) z q
+    go true None z q = not_degrees z q
     go false k z q = not_degrees z q
 
 pub degrees_fits : (limit : ℕ) (v : List ℕ) → DegreesFits limit (degrees_text limit v)

@@ -3,7 +3,7 @@
 
 ghost use Rattle.std.specs.Prelude.{◌≤◌, ◌≡◌, IfOk, length};
 
-use meaning::{Choice, Date, Degrees, Number, Time};
+use meaning::Time;
 use std::io;
 use std::io::Read;
 
@@ -23,15 +23,15 @@ fn refuse(rt: &impl Print) -> io::Result<()> {
 }
 
 // Writes a coordinate.
-fn tell_degrees(rt: &impl Print, d: Degrees) -> io::Result<()> {
+fn tell_degrees(rt: &impl Print, d: Option<i32>) -> io::Result<()> {
     match d {
-        Degrees::TenMillionths(z) => {
+        Some(z) => {
             if z < 0 {
                 say(rt, b"-")?;
             }
             rt.print(num::size(z))
         }
-        Degrees::NoDegrees => refuse(rt),
+        None => refuse(rt),
     }
 }
 
@@ -44,52 +44,36 @@ fn time(rt: &impl Print, raw: &[u8]) -> io::Result<()> {
     }
 }
 
-// Writes the date of a raw field.
-fn date(rt: &impl Print, raw: &[u8]) -> io::Result<()> {
-    match forms::date_of(raw) {
-        Date::Day(n) => tell(rt, n),
-        Date::NoDate => refuse(rt),
-    }
-}
-
-// Writes the stop_sequence of a raw field.
-fn sequence(rt: &impl Print, raw: &[u8]) -> io::Result<()> {
-    match forms::sequence_of(raw) {
-        Number::Value(n) => tell(rt, n),
-        Number::NoNumber => refuse(rt),
-    }
-}
-
-// Writes a choice.
-fn tell_choice(rt: &impl Print, k: Choice) -> io::Result<()> {
-    match k {
-        Choice::Picked(n) => tell(rt, n),
-        Choice::NoChoice => refuse(rt),
+// Writes a date, a stop_sequence or a choice.
+fn tell_number(rt: &impl Print, n: Option<u32>) -> io::Result<()> {
+    match n {
+        Some(n) => tell(rt, n),
+        None => refuse(rt),
     }
 }
 
 // Writes what a form with a choice answers of a raw field: route_type, exception_type, or one of 0 to the digit that stands for the form.
 fn choice(rt: &impl Print, form: u8, raw: &[u8]) -> io::Result<()> {
     if form == b'r' {
-        return tell_choice(rt, forms::route_type_of(raw));
+        return tell_number(rt, forms::route_type_of(raw));
     }
     if form == b'e' {
-        return tell_choice(rt, forms::exception_of(raw));
+        return tell_number(rt, forms::exception_of(raw));
     }
     if form < b'0' {
         return Ok(());
     }
-    tell_choice(rt, forms::choice_of(raw, form - b'0'))
+    tell_number(rt, forms::choice_of(raw, form - b'0'))
 }
 
 // Writes what a form answers of a raw field.
 fn answer(rt: &impl Print, form: u8, raw: &[u8]) -> io::Result<()> {
     match form {
         b't' => time(rt, raw),
-        b'd' => date(rt, raw),
+        b'd' => tell_number(rt, forms::date_of(raw)),
         b'y' => tell_degrees(rt, forms::latitude_of(raw)),
         b'x' => tell_degrees(rt, forms::longitude_of(raw)),
-        b'n' => sequence(rt, raw),
+        b'n' => tell_number(rt, forms::sequence_of(raw)),
         _ => choice(rt, form, raw),
     }
 }
@@ -110,19 +94,16 @@ fn line_end(s: &[u8], from: usize) -> usize
     requires { from ≤ length s.now }
     ensures { (from ≤ result) × (result ≤ length s.now) }
 {
-    let mut i = from;
-    while i < s.len() {
-        if s[i] == b'\n' {
-            return i;
-        }
-        i += 1;
+    match s[from..].iter().position(|b| *b == b'\n') {
+        Some(i) => from + i,
+        None => s.len(),
     }
-    i
 }
 
 // Writes each case and its answer.
 fn cases(rt: &impl Print, s: &[u8]) -> io::Result<()> {
     let mut at = 0;
+    // No `for`: `split` would give an empty line after the last LF.
     while at < s.len() {
         let e = line_end(s, at);
         case(rt, &s[at..e])?;
@@ -144,6 +125,7 @@ fn read_full(rt: &impl Input, room: &mut [u8]) -> io::Result<usize>
 {
     let mut input = rt.reader();
     let mut n = 0;
+    // No `for`: how far a turn goes is told by the reader.
     while n < room.len() {
         let got = input.read(&mut room[n..])?;
         if got == 0 {

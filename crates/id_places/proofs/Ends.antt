@@ -1,5 +1,7 @@
 -- A line in its file: it ends where its ending begins, and no byte of it is one of an ending.
-use mathlib.Core.Path.{◌≡◌, refl, sym, ◌∙◌}
+use Rattle.std.specs.Prelude.{Some, None}
+use Rattle.std.proofs.lemmas.Option.{same_Some}
+use mathlib.Core.Path.{◌≡◌, refl, sym, ap, ◌∙◌}
 use mathlib.Core.Bool.{Bool, true, false, cond, ◌&&◌, ◌||◌}
 use mathlib.Core.List.{List, [], ◌∷◌}
 use Prim.Native.Nat.{ℕ, zero, suc, ◌+◌, ◌-◌, ◌≤◌, ◌<◌}
@@ -12,7 +14,7 @@ use Rattle.meaning.specs.Lists.{any}
 use Rattle.meaning.specs.Bytes.{bounds, part, end_of}
 use Rattle.meaning.specs.Refusals.{rule5}
 use Rattle.meaning.proofs.ListLaws.{both, and_both}
-use Rattle.text.specs.declared.LineStep.TheVariants.{Line, Done}
+use Rattle.meaning.specs.declared.Bounds.{Bounds}
 use Rattle.text.specs.Lines.{to_first, is_lf, to_lf, line_to, line_at}
 use Rattle.text.proofs.Lines.{first_stands}
 use Rattle.text.specs.Fields.{ends_line}
@@ -43,7 +45,7 @@ calm (b ∷ r) p q = go (eqb b 10) refl (eqb b 13) refl (eqb b 9) refl (calm r)
     go false e false f false g ih = rw (e, f) (ih (rw e at p) (rw (g, f) at q))
 
 -- a byte of an ending stands where a line ends, and no LF before it
-pub line_ends : (s : List ℕ) (at a e n : ℕ) → line_at s at ≡ Line a e n → (ends_line (get_or s e 0) ≡ true) × (any is_lf (part s (bounds a e)) ≡ false)
+pub line_ends : (s : List ℕ) (at a e n : ℕ) → line_at s at ≡ Some (bounds a e, n) → (ends_line (get_or s e 0) ≡ true) × (any is_lf (part s (bounds a e)) ≡ false)
 unfolding line_at line_to end_of part ends_line
 line_ends s at a e n p = go (at + to_lf (drop at s)) refl
   where
@@ -58,18 +60,21 @@ line_ends s at a e n p = go (at + to_lf (drop at s)) refl
       where
         split : (t : Bool) → ltb x (length s) ≡ t → (u : Bool) → (ltb at x && eqb (get_or s (x - 1) 0) 13) ≡ u
             → (ends_line (get_or s e 0) ≡ true) × (any is_lf (part s (bounds a e)) ≡ false)
-        split false t u v = let z : Done ≡ Line a e n = rw (← q, t) at p in let w : ◌≡◌ {A = ℕ} 0 1 = cc in absurd (omega arith)
+        split false t u v = let z : None ≡ Some (bounds a e, n) = rw (← q, t) at p in let w : ◌≡◌ {A = ℕ} 0 1 = cc in absurd (omega arith)
         split true t true v =
-            let z : Line at (x - 1) (x + 1) ≡ Line a e n = rw (← q, t, v) at p in
-            let i : at ≡ a = cc in
-            let j : x - 1 ≡ e = cc in
+            let z : Some (bounds at (x - 1), x + 1) ≡ Some (bounds a e, n) = rw (← q, t, v) at p in
+            let y : ◌≡◌ {A = Bounds × ℕ} (bounds at (x - 1), x + 1) (bounds a e, n) = same_Some _ _ z in
+            let i : at ≡ a = ap (λ (o : Bounds × ℕ). o.0.start) y in
+            let j : x - 1 ≡ e = ap (λ (o : Bounds × ℕ). o.0.end) y in
             let w = and_both (ltb at x) (eqb (get_or s (x - 1) 0) 13) v in
             let k : e - a ≤ to_lf (drop at s) = omega arith in
             (rw (← j) (cr (get_or s (x - 1) 0) w.1), rw (← i) (no_lf (e - at) (drop at s) (omega arith)))
         split true t false v =
-            let z : Line at x (x + 1) ≡ Line a e n = rw (← q, t, v) at p in
-            let i : at ≡ a = cc in
-            let j : x ≡ e = cc in
+            let z : Some (bounds at x, x + 1) ≡ Some (bounds a e, n) = rw (← q, t, v) at p in
+            let y : ◌≡◌ {A = Bounds × ℕ} (bounds at x, x + 1) (bounds a e, n) = same_Some _ _ z in
+            let i : at ≡ a = ap (λ (o : Bounds × ℕ). o.0.start) y in
+            let j : x ≡ e = ap (λ (o : Bounds × ℕ). o.0.end) y in
             let h : x < length s = ltb-true x (length s) t in
-            let b : get_or s x 0 ≡ 10 = rw q (sym (get_or-drop at s (to_lf (drop at s)) 0) ∙ eqb-true _ _ (first_stands is_lf (drop at s) (omega (arith, length-drop at s)))) in
+            let d : to_lf (drop at s) < length (drop at s) = omega (arith, length-drop at s) in
+            let b : get_or s x 0 ≡ 10 = rw q (sym (get_or-drop at s (to_lf (drop at s)) 0) ∙ eqb-true _ _ (first_stands is_lf (drop at s) d)) in
             (rw (← j) (lf (get_or s x 0) b), rw (← i) (no_lf (e - at) (drop at s) (omega arith)))

@@ -8,10 +8,11 @@ use native.Mathlib.Omega.{arith}
 use lib.Dec.{ltb, eqb}
 use lib.ListN.{length, get_or, length-map, length-drop}
 use borrow.Author.Tests.{ltb-true, ltb-false, eqb-true, ne_eqb, not-false}
+use Rattle.meaning.specs.declared.Need.TheVariants.{Always}
 use Rattle.meaning.specs.Lists.{empty}
 use Rattle.meaning.specs.Bytes.{Line, lines_of, start_of, count_lf}
 use Rattle.meaning.specs.Columns as C
-use Rattle.meaning.specs.Columns.{always, column_of, count_of, places, header_of, cell, row_of, rows_of}
+use Rattle.meaning.specs.Columns.{column_of, count_of, places, header_of, cell, row_of, rows_of}
 use Rattle.meaning.specs.Tables.{under, id_column}
 use Rattle.meaning.specs.Refusals.{max_bytes, max_lines, claim, rule1, rule2, ended, rule4, in_file, rule5}
 use Rattle.meaning.specs.Promises.{no_line, NoneBroken}
@@ -33,7 +34,7 @@ use Rattle.id_places.proofs.Starts.{Among, among, start_within, value_on_lem}
 -- the id of each of files 1 to 4 is known and needed
 pub record Needed (f : ℕ) : Type 0 where
   pub known : id_column f < count_of f
-  pub need : (column_of f (id_column f)).need ≡ always
+  pub need : (column_of f (id_column f)).need ≡ Always
 
 pub needed : (f : ℕ) → indexed f ≡ true → Needed f
 unfolding indexed id_column count_of column_of C.known_at C.schema C.schemas C.stops_columns C.routes_columns C.calendar_columns C.trips_columns

@@ -1,4 +1,5 @@
 -- The field that begins where an id does has the id's value, and ids of later records begin later.
+use Rattle.std.specs.Prelude.{Option, Some, None}
 use mathlib.Core.Path.{◌≡◌, refl, sym, ap, ◌∙◌}
 use mathlib.Core.Bool.{Bool, true, false, cond}
 use mathlib.Core.List.{List, [], ◌∷◌, ◌++◌}
@@ -14,8 +15,7 @@ use Rattle.meaning.specs.Columns.{field_at, cell}
 use Rattle.meaning.specs.Refusals.{rule5}
 use Rattle.meaning.specs.Promises.{no_line}
 use Rattle.meaning.proofs.ListLaws.{both}
-use Rattle.text.specs.declared.LineStep.{LineStep}
-use Rattle.text.specs.declared.LineStep.TheVariants as step
+use Rattle.meaning.specs.declared.Bounds.{Bounds}
 use Rattle.text.specs.Lines.{line_at, LineStands}
 use Rattle.text.specs.Fields.{field_len, ends_line, field_run, field_on, fields_from}
 use Rattle.text.proofs.Laws.{drop_next, part_length}
@@ -45,7 +45,7 @@ pub record Among (s : List ℕ) (at k : ℕ) : Type 0 where
   pub later : (j : ℕ) → k < j → j < length (lines_from s at) → over ≤ (get_or (lines_from s at) j no_line).start
 
 -- the first line from a byte on
-first_stood : (s : List ℕ) (at a e n : ℕ) → line_at s at ≡ step.Line a e n → Stood s (record { start = a; text = part s (bounds a e) }) n
+first_stood : (s : List ℕ) (at a e n : ℕ) → line_at s at ≡ Some (bounds a e, n) → Stood s (record { start = a; text = part s (bounds a e) }) n
 first_stood s at a e n p =
     let h = line_found s at a e n p in
     let d = line_ends s at a e n p in
@@ -55,15 +55,15 @@ first_stood s at a e n p =
 starts_from : (k : ℕ) (s : List ℕ) (at : ℕ) → k < length (lines_from s at) → at ≤ (get_or (lines_from s at) k no_line).start
 starts_from zero s at h = go (line_at s at) refl
   where
-    go : (v : LineStep) → line_at s at ≡ v → at ≤ (get_or (lines_from s at) 0 no_line).start
-    go step.Done p = absurd (omega (arith, ap length (line_none s at p)))
-    go (step.Line a e n) p = let f = line_found s at a e n p in rw f.lines (omega (arith, f.starts))
+    go : (v : Option (Bounds × ℕ)) → line_at s at ≡ v → at ≤ (get_or (lines_from s at) 0 no_line).start
+    go None p = absurd (omega (arith, ap length (line_none s at p)))
+    go (Some (b, n)) p = let f = line_found s at b.start b.end n p in rw f.lines (omega (arith, f.starts))
 starts_from (suc k) s at h = go (line_at s at) refl (starts_from k s)
   where
-    go : (v : LineStep) → line_at s at ≡ v → ((m : ℕ) → k < length (lines_from s m) → m ≤ (get_or (lines_from s m) k no_line).start) → at ≤ (get_or (lines_from s at) (suc k) no_line).start
-    go step.Done p ih = absurd (omega (arith, ap length (line_none s at p)))
-    go (step.Line a e n) p ih =
-        let f = line_found s at a e n p in
+    go : (v : Option (Bounds × ℕ)) → line_at s at ≡ v → ((m : ℕ) → k < length (lines_from s m) → m ≤ (get_or (lines_from s m) k no_line).start) → at ≤ (get_or (lines_from s at) (suc k) no_line).start
+    go None p ih = absurd (omega (arith, ap length (line_none s at p)))
+    go (Some (b, n)) p ih =
+        let f = line_found s at b.start b.end n p in
         let l : k < length (lines_from s n) = omega (arith, ap length f.lines) in
         rw f.lines (omega (arith, ih n l, f.starts, f.ordered, f.before))
 
@@ -71,27 +71,27 @@ starts_from (suc k) s at h = go (line_at s at) refl (starts_from k s)
 pub among : (k : ℕ) (s : List ℕ) (at : ℕ) → k < length (lines_from s at) → Among s at k
 among zero s at h = go (line_at s at) refl
   where
-    go : (v : LineStep) → line_at s at ≡ v → Among s at 0
-    go step.Done p = absurd (omega (arith, ap length (line_none s at p)))
-    go (step.Line a e n) p =
-        let f = line_found s at a e n p in
-        record { over = n; stood = rw f.lines (first_stood s at a e n p); from = starts_from 0 s at h; later = rw f.lines after }
+    go : (v : Option (Bounds × ℕ)) → line_at s at ≡ v → Among s at 0
+    go None p = absurd (omega (arith, ap length (line_none s at p)))
+    go (Some (b, n)) p =
+        let f = line_found s at b.start b.end n p in
+        record { over = n; stood = rw f.lines (first_stood s at b.start b.end n p); from = starts_from 0 s at h; later = rw f.lines after }
       where
-        after : (j : ℕ) → 0 < j → j < suc (length (lines_from s n)) → n ≤ (get_or (record { start = a; text = part s (bounds a e) } ∷ lines_from s n) j no_line).start
+        after : (j : ℕ) → 0 < j → j < suc (length (lines_from s n)) → n ≤ (get_or (record { start = b.start; text = part s (bounds b.start b.end) } ∷ lines_from s n) j no_line).start
         after zero x y = absurd (omega arith)
         after (suc j) x y = starts_from j s n (omega arith)
 among (suc k) s at h = go (line_at s at) refl (among k s)
   where
-    go : (v : LineStep) → line_at s at ≡ v → ((m : ℕ) → k < length (lines_from s m) → Among s m k) → Among s at (suc k)
-    go step.Done p ih = absurd (omega (arith, ap length (line_none s at p)))
-    go (step.Line a e n) p ih = carry (line_found s at a e n p) (ih n (omega (arith, ap length (line_found s at a e n p).lines)))
+    go : (v : Option (Bounds × ℕ)) → line_at s at ≡ v → ((m : ℕ) → k < length (lines_from s m) → Among s m k) → Among s at (suc k)
+    go None p ih = absurd (omega (arith, ap length (line_none s at p)))
+    go (Some (b, n)) p ih = carry (line_found s at b.start b.end n p) (ih n (omega (arith, ap length (line_found s at b.start b.end n p).lines)))
       where
         after : (o : ℕ) → ((j : ℕ) → k < j → j < length (lines_from s n) → o ≤ (get_or (lines_from s n) j no_line).start)
-            → (j : ℕ) → suc k < j → j < suc (length (lines_from s n)) → o ≤ (get_or (record { start = a; text = part s (bounds a e) } ∷ lines_from s n) j no_line).start
+            → (j : ℕ) → suc k < j → j < suc (length (lines_from s n)) → o ≤ (get_or (record { start = b.start; text = part s (bounds b.start b.end) } ∷ lines_from s n) j no_line).start
         after o l zero x y = absurd (omega arith)
         after o l (suc j) x y = l j (omega arith) (omega arith)
 
-        carry : LineStands s at a e n → Among s n k → Among s at (suc k)
+        carry : LineStands s at b.start b.end n → Among s n k → Among s at (suc k)
         carry f r = record { over = r.over; stood = rw f.lines r.stood; from = starts_from (suc k) s at h; later = rw f.lines (after r.over r.later) }
 
 -- ---- a field of a line, in its file

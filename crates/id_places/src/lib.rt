@@ -8,7 +8,6 @@ ghost use Rattle.ordering.specs.Cells.{cell_at};
 ghost use Rattle.id_places.specs.Places.{start_in, Ids};
 
 use meaning::{FEW_LINES, MAX_LINES};
-use text::LineStep;
 
 // A number for each record of the longest file; none is placed.
 pub fn blank() -> [i32; MAX_LINES]
@@ -33,19 +32,13 @@ fn place_lines(s: &[u8], at: usize, p: usize, t: &mut [i32]) -> usize
 {
     let mut here = at;
     let mut r = 1;
-    loop {
-        match text::next_line(s, here) {
-            LineStep::Line { start, end, next } => {
-                let field = columns::field_start(&s[start..end], p);
-                ordering::put(t, 1, 0, r, start + field);
-                here = next;
-                r += 1;
-            }
-            LineStep::Done => {
-                return r - 1;
-            }
-        }
+    while let Some((line, next)) = text::next_line(s, here) {
+        let field = columns::field_start(&s[line.start..line.end], p);
+        ordering::put(t, 1, 0, r, line.start + field);
+        here = next;
+        r += 1;
     }
+    r - 1
 }
 
 // Where the id of each record of a file begins, in a number for each; how many records there are.

@@ -6,21 +6,14 @@ ghost use Rattle.indexes.specs.Versions.{Wide};
 
 use indexes::{BEFORE, LEAST, Version};
 
-// A byte as a number.
-fn wide(b: u8) -> usize
-    ensures { (result ≡ b) × (result < 256) }
-{
-    b as usize
-}
-
 // A byte, 0 past the end.
 pub fn byte_at(b: &[u8], at: usize) -> usize
     ensures { (result ≡ get_or b.now at 0) × (result < 256) }
 {
-    if at < b.len() {
-        return wide(b[at]);
+    match b.get(at) {
+        Some(&byte) => usize::from(byte),
+        None => 0,
     }
-    0
 }
 
 // The number that two bytes write, low byte first.
@@ -67,10 +60,7 @@ pub fn entry_at(b: &[u8], v: Version, i: usize) -> usize
 pub fn is_unmarked(b: &[u8]) -> bool
     ensures { result ≡ rule40 b.now }
 {
-    if b.len() < LEAST {
-        return true;
-    }
-    !text::same_bytes(&b[..3], b"TTX")
+    b.len() < LEAST || !b.starts_with(b"TTX")
 }
 
 // 41: has it another version than 1 or 2?

@@ -1,7 +1,7 @@
 // Writes what the index's writer and reader answer, and what the writer leaves in its buffer; the file `stdout` has what document 02's E4 and E9 say.
 #![tactic(auto)]
 
-use indexes::IndexAnswer;
+use indexes::IndexRefusal;
 use std::io;
 
 // What a buffer's bytes are as lent; no index here has it.
@@ -22,20 +22,20 @@ fn tell(rt: &impl Print, n: usize) -> io::Result<()> {
 }
 
 // Writes the answer's numbers.
-fn tell_answer(rt: &impl Print, a: IndexAnswer) -> io::Result<()> {
+fn tell_answer(rt: &impl Print, a: Result<usize, IndexRefusal>) -> io::Result<()> {
     match a {
-        IndexAnswer::Whole(length) => {
+        Ok(length) => {
             say(rt, b" whole")?;
             tell(rt, length)
         }
-        IndexAnswer::Unread(r) => {
+        Err(IndexRefusal::Unread(r)) => {
             say(rt, b" unread")?;
             tell(rt, r.number)?;
             tell(rt, r.file)?;
             tell(rt, r.line)?;
             tell(rt, r.column)
         }
-        IndexAnswer::Barred(number) => {
+        Err(IndexRefusal::Barred(number)) => {
             say(rt, b" barred")?;
             tell(rt, number)
         }
@@ -50,10 +50,8 @@ fn tell_byte(rt: &impl Print, b: u8) -> io::Result<()> {
 
 // Writes bytes in hex.
 fn tell_bytes(rt: &impl Print, b: &[u8]) -> io::Result<()> {
-    let mut i = 0;
-    while i < b.len() {
-        tell_byte(rt, b[i])?;
-        i += 1;
+    for byte in b {
+        tell_byte(rt, *byte)?;
     }
     Ok(())
 }
@@ -357,10 +355,8 @@ fn short_room() -> [u8; 262153] {
 // 65,535 routes.
 fn few_routes() -> [u8; 458765] {
     let mut s = blank_few();
-    let mut i: usize = 0;
-    while i < 458765 {
-        s[i] = file_byte(i);
-        i += 1;
+    for (i, byte) in s.iter_mut().enumerate() {
+        *byte = file_byte(i);
     }
     s
 }
@@ -368,10 +364,8 @@ fn few_routes() -> [u8; 458765] {
 // 65,536 routes.
 fn many_routes() -> [u8; 458772] {
     let mut s = blank_many();
-    let mut i: usize = 0;
-    while i < 458772 {
-        s[i] = file_byte(i);
-        i += 1;
+    for (i, byte) in s.iter_mut().enumerate() {
+        *byte = file_byte(i);
     }
     s
 }

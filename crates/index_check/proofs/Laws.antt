@@ -1,4 +1,5 @@
 -- The tests of an index, one by one, as the reader makes them.
+use Rattle.std.specs.Prelude.{Ok, Err}
 use mathlib.Core.Path.{◌≡◌, refl, sym, ap, ◌∙◌}
 use mathlib.Core.Bool.{Bool, true, false, not, ◌||◌}
 use mathlib.Core.List.{List}
@@ -10,18 +11,18 @@ use lib.IntN.{ℤ}
 use lib.ListN.{length, get_or, take}
 use borrow.Author.Tests.{ltb-false, lt-ltb, le-ltb, eqb-true, eq-eqb, ne_eqb, not-false}
 use Rattle.meaning.specs.declared.Refusal.{Refusal}
-use Rattle.meaning.specs.declared.Verdict.TheVariants.{Readable, Unreadable}
 use Rattle.meaning.specs.Lists.{same, some}
 use Rattle.meaning.specs.Bytes.{count_lf, value}
 use Rattle.text.specs.Fields.{field_on}
-use Rattle.ranking.specs.declared.Order.{Order}
-use Rattle.ranking.specs.declared.Order.TheVariants.{Less, Equal, Greater}
+use Rattle.std.specs.declared.cmp.Ordering.{Ordering}
+use Rattle.std.specs.declared.cmp.Ordering.TheVariants.{Less, Equal, Greater}
 use Rattle.ranking.specs.Ranks.{before, compare, ranked}
 use Rattle.ranking.proofs.Laws.{compare_ranked}
+use Rattle.columns.proofs.Laws.{some_next}
 use Rattle.ordering.specs.Cells.{cell_at}
 use Rattle.ordering.specs.Ids.{value_on}
-use Rattle.indexes.specs.declared.IndexAnswer.{IndexAnswer}
-use Rattle.indexes.specs.declared.IndexAnswer.TheVariants.{Whole, Unread, Barred}
+use Rattle.indexes.specs.Answer.{IndexAnswer}
+use Rattle.indexes.specs.declared.IndexRefusal.TheVariants.{Unread, Barred}
 use Rattle.indexes.specs.Order.{ids_of, id_of}
 use Rattle.indexes.specs.declared.Version.{Version}
 use Rattle.indexes.specs.Index.{number_at, version_of, mark, index_length, entry, rule40, other_version, rule41, misfits, rule42, strays, rule43, rule44, index_tests, spoken, indexed, lone_verdict, barred_or, checked}
@@ -37,26 +38,6 @@ use Rattle.index_check.specs.Entries.{Entries}
 -- ---- the head of an index
 
 module _ (b : List ℕ) where
-  pub short_head : length b < 8 → true ≡ rule40 b
-  unfolding rule40
-  short_head h = rw (lt-ltb (length b) 8 h)
-
-  pub long_head : (r : Bool) → 8 ≤ length b → r ≡ same (take 3 b) mark → not r ≡ rule40 b
-  unfolding rule40
-  long_head r h e = rw (le-ltb (length b) 8 h, e)
-
-  pub head_long : rule40 b ≡ false → 8 ≤ length b
-  unfolding rule40
-  head_long e = ltb-false (length b) 8 (or_neither _ _ e).0
-
-  pub first_known : (k : ℕ) → k ≡ number_at 2 b 3 → k ≡ 1 → not (eqb k 1) ≡ rule41 b
-  unfolding other_version rule41
-  first_known k e h = rw (← e, h)
-
-  pub second_known : (k : ℕ) → k ≡ number_at 2 b 3 → (k ≡ 1 → ⊥) → not (eqb k 2) ≡ rule41 b
-  unfolding other_version rule41
-  second_known k e h = rw (← e, ne_eqb k 1 h)
-
   module _ (v : Version) (f n : ℕ) where
     pub other_version_lem : (number_at 2 b 3 ≡ v.number → ⊥) → true ≡ rule42 v f n b
     unfolding other_version rule42
@@ -68,16 +49,16 @@ module _ (b : List ℕ) where
       other_file_lem h = rw (eq-eqb _ _ version, ne_eqb _ _ h)
 
       module _ (file : get_or b 5 0 ≡ f) where
-        pub other_length : (length b ≡ 6 + v.width + n * v.width → ⊥) → true ≡ rule42 v f n b
-        unfolding other_version misfits rule42 index_length
+        pub other_length : (length b ≡ index_length v n → ⊥) → true ≡ rule42 v f n b
+        unfolding other_version misfits rule42
         other_length h = rw (eq-eqb _ _ version, eq-eqb _ _ file, ne_eqb _ _ h) (go (not (eqb (number_at v.width b 6) n)))
           where
             go : (t : Bool) → true ≡ (t || true)
             go true = refl
             go false = refl
 
-        pub other_count : length b ≡ 6 + v.width + n * v.width → (k : ℕ) → k ≡ number_at v.width b 6 → not (eqb k n) ≡ rule42 v f n b
-        unfolding other_version misfits rule42 index_length
+        pub other_count : length b ≡ index_length v n → (k : ℕ) → k ≡ number_at v.width b 6 → not (eqb k n) ≡ rule42 v f n b
+        unfolding other_version misfits rule42
         other_count h k e = rw (eq-eqb _ _ version, eq-eqb _ _ file, eq-eqb _ _ h, e) (go (not (eqb (number_at v.width b 6) n)))
           where
             go : (t : Bool) → t ≡ (t || false)
@@ -90,12 +71,6 @@ module _ (b : List ℕ) where
         let j = (or_neither (not (eqb (number_at 2 b 3) v.number)) _ e).1 in
         let k = (or_neither (not (eqb (get_or b 5 0) f)) _ j).1 in
         eqb-true _ _ (not-false _ (or_neither (not (eqb (number_at v.width b 6) n)) _ k).1)
-
--- ---- the entries of an index
-
-pub entry_fits : (v : Version) (b : List ℕ) (n i : ℕ) → length b ≡ index_length v n → i < n → index_length v (i + 1) ≤ length b
-unfolding index_length
-entry_fits v b n i e h = omega (arith, e, mul-le-mul_right {m = i + 1} {n = n} v.width (omega arith))
 
 -- ---- the records that are listed
 
@@ -113,13 +88,13 @@ entries_as v m n k b p q e = let z : m ≡ n = omega arith in rw z e
 -- ---- the ids of two records
 
 -- does a comparison say that the first comes before
-abbrev pub told : Order → Bool
+abbrev pub told : Ordering → Bool
 told Less = true
 told Equal = false
 told Greater = false
 
 -- two fields that were read from where their ids begin, and compared
-module _ (s : List ℕ) (x y p q : ℕ) (a b : List ℕ) (o : Order) where
+module _ (s : List ℕ) (x y p q : ℕ) (a b : List ℕ) (o : Ordering) where
   pub before_told : p ≡ x → q ≡ y → a ≡ field_on s p → b ≡ field_on s q → o ≡ compare (value a) (value b) → told o ≡ before (value_on s x) (value_on s y)
   unfolding value_on ranked
   before_told d e i j k = rw (← d, ← e, ← i, ← j, k, compare_ranked) (go (before (value a) (value b)) (same (value a) (value b)))
@@ -133,9 +108,13 @@ module _ (s : List ℕ) (x y p q : ℕ) (a b : List ℕ) (o : Order) where
 abbrev pub falling : Version → List (List ℕ) → List ℕ → ℕ → Bool
 falling v ids b i = not (before (id_of ids (entry v b i)) (id_of ids (entry v b (i + 1))))
 
-pub falls_first : (v : Version) (f : ℕ) (s b : List ℕ) (n : ℕ) → n + 1 ≡ count_lf s → some (falling v (ids_of f s) b) 0 (n - 1 - 0) ≡ rule44 v (ids_of f s) b
+pub falls_first : (v : Version) (f : ℕ) (s b : List ℕ) (n : ℕ) → n + 1 ≡ count_lf s → some (falling v (ids_of f s) b) (1 - 1) (n - 1 - (1 - 1)) ≡ rule44 v (ids_of f s) b
 unfolding rule44
-falls_first v f s b n h = let z : n - 1 - 0 ≡ length (ids_of f s) - 1 = omega (arith, ids_count f s n h) in rw z
+falls_first v f s b n h = let z : n - 1 - (1 - 1) ≡ length (ids_of f s) - 1 = omega (arith, ids_count f s n h) in rw z
+
+-- entry i - 1 is looked at beside entry i
+pub falls_next : (P : ℕ → Bool) (i n : ℕ) (r : Bool) → 1 ≤ i → some P (i - 1) (n - 1 - (i - 1)) ≡ r → i < n → P (i - 1) ≡ false → (j : ℕ) → j ≡ i + 1 → some P (j - 1) (n - 1 - (j - 1)) ≡ r
+falls_next P i n r one inv more here j e = let z : j - 1 ≡ i - 1 + 1 = omega arith in rw z (some_next P (i - 1) (n - 1) r inv (omega arith) here)
 
 -- a table of where ids begin tells the ids that an index lists
 module _ (f : ℕ) (s : List ℕ) (n : ℕ) (t : List ℤ) (reads : Reads f s) (placed : Ids f s n t) where
@@ -149,15 +128,24 @@ module _ (f : ℕ) (s : List ℕ) (n : ℕ) (t : List ℤ) (reads : Reads f s) (
     listed_id : value_on s (cell_at 0 t 1 x) ≡ id_of (ids_of f s) (entry v b i)
     listed_id = let k = known_entry v n b listed.known i more in id_at x (omega (arith, k)) (omega (arith, k)) ∙ ap (id_of (ids_of f s)) p
 
-  pub falls_at : (v : Version) (b : List ℕ) → Entries v n b → (i : ℕ) → i + 1 < n → (x y : ℕ) → x ≡ entry v b i → y ≡ entry v b (i + 1)
+  pub falls_at : (v : Version) (b : List ℕ) → Entries v n b → (i j : ℕ) → j ≡ i + 1 → j < n → (x y : ℕ) → x ≡ entry v b i → y ≡ entry v b j
       → (r : Bool) → r ≡ before (value_on s (cell_at 0 t 1 x)) (value_on s (cell_at 0 t 1 y)) → not r ≡ falling v (ids_of f s) b i
-  falls_at v b listed i more x y p q r e = rw (← listed_id v b listed i (omega arith) x p, ← listed_id v b listed (i + 1) more y q, e)
+  falls_at v b listed i j h more x y p q r e = rw (← listed_id v b listed i (omega arith) x p, ← listed_id v b listed (i + 1) (omega arith) y (rw h at q), e)
 
 -- ---- the lowest number that speaks
 
 module _ (f : ℕ) (s b : List ℕ) (n : ℕ) (count : n + 1 ≡ count_lf s) where
   abbrev Speaks : ℕ → Type 0
   Speaks k = k ≡ spoken (index_tests (version_of (length (ids_of f s))) f (ids_of f s) b)
+
+  -- so it answers
+  pub speaks : (k : ℕ) → 0 < k → Speaks k → Err (Barred k) ≡ barred_or (spoken (index_tests (version_of (length (ids_of f s))) f (ids_of f s) b)) (length b)
+  unfolding barred_or
+  speaks k h e = rw (← e, ne_eqb k 0 (λ z. omega arith))
+
+  pub silent : Speaks 0 → Ok (length b) ≡ barred_or (spoken (index_tests (version_of (length (ids_of f s))) f (ids_of f s) b)) (length b)
+  unfolding barred_or
+  silent e = rw (← e)
 
   pub told_40 : rule40 b ≡ true → Speaks 40
   unfolding spoken index_tests
@@ -192,16 +180,8 @@ fewer f s n reads count = omega (arith, (sized f s reads).few)
 
 -- ---- the answer
 
-pub barred : (k m size : ℕ) → k ≡ m → (k ≡ 0 → ⊥) → Barred k ≡ barred_or m size
-unfolding barred_or
-barred k m size e h = rw (← e, ne_eqb k 0 h)
-
-pub whole : (k m size : ℕ) → k ≡ m → k ≡ 0 → Whole size ≡ barred_or m size
-unfolding barred_or
-whole k m size e h = rw (← e, eq-eqb k 0 h)
-
 module _ (f : ℕ) (s b : List ℕ) where
-  pub outside : ((1 ≤ f) × (f ≤ 4) → ⊥) → Barred 42 ≡ checked f s b
+  pub outside : ((1 ≤ f) × (f ≤ 4) → ⊥) → Err (Barred 42) ≡ checked f s b
   unfolding checked
   outside h = sym (asked_outside f s (asked_not f s h) _)
 
@@ -209,13 +189,13 @@ module _ (f : ℕ) (s b : List ℕ) where
     file : indexed f ≡ true
     file = (asked_range f s).1 (omega arith, high)
 
-    pub reads_it : Readable ≡ lone_verdict f s → Reads f s
+    pub reads_it : Ok tt ≡ lone_verdict f s → Reads f s
     reads_it e = record { asked = file; verdict = (said_readable (lone_verdict f s)).1 (sym e) }
 
-    pub unread : (r : Refusal) → Unreadable r ≡ lone_verdict f s → Unread r ≡ checked f s b
+    pub unread : (r : Refusal) → Err r ≡ lone_verdict f s → Err (Unread r) ≡ checked f s b
     unfolding checked
     unread r e = sym (asked_refused f s file r (sym e) _)
 
-    pub read : (a : IndexAnswer) → Readable ≡ lone_verdict f s → a ≡ barred_or (spoken (index_tests (version_of (length (ids_of f s))) f (ids_of f s) b)) (length b) → a ≡ checked f s b
+    pub read : (a : IndexAnswer) → Ok tt ≡ lone_verdict f s → a ≡ barred_or (spoken (index_tests (version_of (length (ids_of f s))) f (ids_of f s) b)) (length b) → a ≡ checked f s b
     unfolding checked
     read a e h = h ∙ sym (asked_read f s (reads_it e) _)

@@ -1,4 +1,4 @@
--- The bytes of an index while it is written: the head copied, a record number put into its entry.
+-- The bytes of an index while it is written: a record number put into its entry.
 use mathlib.Core.Path.{◌≡◌, refl, sym, ◌∙◌}
 use mathlib.Core.List.{List, ◌++◌}
 use Prim.Native.Nat.{ℕ, zero, suc, ◌+◌, ◌*◌, ◌-◌, ◌/◌, ◌%◌, ◌^◌, ◌≤◌, ◌<◌}
@@ -14,22 +14,6 @@ use Rattle.indexes.specs.declared.Version.{Version}
 use Rattle.indexes.specs.Index.{number_at, head_length, index_length, entry}
 use Rattle.indexes.proofs.Numbers.{four_at}
 use Rattle.index_write.specs.Writing.{Put, Within, Entry}
-
--- a turn of a copy
-module _ (head lent b : List ℕ) (i : ℕ) (inv : b ≡ take i head ++ drop i lent) where
-  pub copy_turn : i < length head → i < length lent → set b i (get_or head i 0) ≡ take (i + 1) head ++ drop (i + 1) lent
-  copy_turn h l =
-      rw (
-        inv,
-        drop-cons lent i 0 l,
-        set_at (take i head) (get_or lent i 0) (drop (suc i) lent) (get_or head i 0) i (length-take-le i head (omega arith)),
-        add-one i,
-        take-suc head i 0 h,
-      )
-      (sym (append_snoc (take i head) (get_or head i 0) (drop (suc i) lent)))
-
-  pub copy_end : (n : ℕ) → i ≡ n → b ≡ take n head ++ drop n lent
-  copy_end n e = rw (← e) inv
 
 -- ---- a number in its bytes
 

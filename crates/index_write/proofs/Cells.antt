@@ -8,8 +8,8 @@ use lib.Dec.{leb, ltb}
 use lib.IntN.{ℤ}
 use borrow.Author.Tests.{le-leb, leb-true, leb-false, ltb-true, ltb-false}
 use Rattle.meaning.proofs.ListLaws.{both, same_self}
-use Rattle.ranking.specs.declared.Order.{Order}
-use Rattle.ranking.specs.declared.Order.TheVariants.{Less, Equal, Greater}
+use Rattle.std.specs.declared.cmp.Ordering.{Ordering}
+use Rattle.std.specs.declared.cmp.Ordering.TheVariants.{Less, Equal, Greater}
 use Rattle.ranking.specs.Ranks.{before, compare, settle, turned}
 use Rattle.ranking.proofs.Laws.{compare_turned, compare_self, compare_equal, less_before}
 use Rattle.ordering.specs.Cells.{cell_at}
@@ -26,7 +26,7 @@ module _ (s : List ℕ) (t : List ℤ) (w : ℕ) where
   unfolding in_order no_later settle turned
   order_one x y h k = go (compare (value_on s x) (value_on s y)) h (rw (compare_turned (value_on s x) (value_on s y)) at k)
     where
-      go : (o : Order) → settle o (leb x y) ≡ true → settle (turned o) (leb y x) ≡ true → x ≡ y
+      go : (o : Ordering) → settle o (leb x y) ≡ true → settle (turned o) (leb y x) ≡ true → x ≡ y
       go Less a b = both false b refl
       go Equal a b = omega (arith, leb-true x y a, leb-true y x b)
       go Greater a b = both false a refl
@@ -36,7 +36,7 @@ module _ (s : List ℕ) (t : List ℤ) (w : ℕ) where
   unfolding in_order no_later settle alike
   order_before x y h k = go (compare (value_on s x) (value_on s y)) refl h
     where
-      go : (o : Order) → compare (value_on s x) (value_on s y) ≡ o → settle o (leb x y) ≡ true → before (value_on s x) (value_on s y) ≡ true
+      go : (o : Ordering) → compare (value_on s x) (value_on s y) ≡ o → settle o (leb x y) ≡ true → before (value_on s x) (value_on s y) ≡ true
       go Less e a = less_before (value_on s x) (value_on s y) e
       go Equal e a = both true refl (rw (compare_equal (value_on s x) (value_on s y) e, same_self (value_on s y)) at k)
       go Greater e a = both false a refl

@@ -1,6 +1,6 @@
 #![tactic(auto)]
 // The writer of an index: the one that lists every record of its file once, in rising order of ids.
-ghost use Rattle.std.specs.Prelude.{◌≡◌, false, ◌+◌, ◌*◌, ◌-◌, ◌/◌, ◌%◌, ◌^◌, ◌<◌, ◌≤◌, length, set, take, drop, ◌++◌};
+ghost use Rattle.std.specs.Prelude.{◌≡◌, false, ◌+◌, ◌*◌, ◌-◌, ◌/◌, ◌%◌, ◌^◌, ◌<◌, ◌≤◌, length, set, take, drop, ◌++◌, Ok};
 ghost use Rattle.meaning.specs.Bytes.{count_lf, lines_from, lines_of};
 ghost use Rattle.meaning.specs.Lists.{some};
 ghost use Rattle.meaning.specs.Refusals.{max_bytes, few_lines};
@@ -14,10 +14,9 @@ ghost use Rattle.indexes.specs.Promises.{Reads};
 ghost use Rattle.id_places.specs.Places.{own_column};
 ghost use Rattle.index_write.specs.Writing.{Ranked, start_of, Put, Entry, Entered, Within};
 
-use indexes::{BEFORE, IndexAnswer, Version};
-use meaning::{FEW_LINES, Verdict};
+use indexes::{BEFORE, IndexRefusal, Version};
+use meaning::FEW_LINES;
 use ordering::By;
-use text::LineStep;
 
 // Have the fields in cells k and k + 1 one value?
 fn is_repeat(s: &[u8], t: &[i32], k: usize) -> bool
@@ -34,12 +33,10 @@ fn has_repeat(s: &[u8], t: &[i32], n: usize) -> bool
     requires { RoomAt 0 1 n t.now }
     ensures { result ≡ some (λ k. alike Field s.now t.now 1 (cell_at 0 t.now 1 k) (cell_at 0 t.now 1 (k + 1))) 1 (n - 1) }
 {
-    let mut k: usize = 1;
-    while k < n {
+    for k in 1..n {
         if is_repeat(s, t, k) {
             return true;
         }
-        k += 1;
     }
     false
 }
@@ -50,6 +47,7 @@ fn cell_of(s: &[u8], t: &[i32], n: usize, x: usize) -> usize
     requires sorted { Sorted (in_order Field s.now t.now 1) (cell_at 0 t.now 1) n × Apart (cell_at 0 t.now 1) n × Stands (cell_at 0 t.now 1) n x }
     ensures { (0 < result) × (result ≤ n) × (cell_at 0 t.now 1 result ≡ x) }
 {
+    // a loop of its own: `t[1..=n].partition_point(..)` would read cells past `ordering::get`, which alone knows where they stand
     let mut lo: usize = 1;
     let mut hi = n;
     while lo < hi {
@@ -68,8 +66,9 @@ fn put_pair(b: &mut [u8], at: usize, v: usize)
     requires { (at + 2 ≤ length b.old) × (v < 65536) }
     ensures { b.new ≡ set (set b.old at (v % 256)) (at + 1) (v / 256) }
 {
-    b[at] = (v % 256) as u8;
-    b[at + 1] = (v / 256) as u8;
+    let [low, high] = (v as u16).to_le_bytes();
+    b[at] = low;
+    b[at + 1] = high;
 }
 
 // A number in as many bytes as a version has for one.
@@ -98,23 +97,18 @@ fn put_start(b: &mut [u8], head: [u8; 6])
     requires { 6 ≤ length b.old }
     ensures { b.new ≡ take 6 head ++ drop 6 b.old }
 {
-    let mut i: usize = 0;
-    while i < BEFORE {
-        b[i] = head[i];
-        i += 1;
-    }
+    b[..BEFORE].copy_from_slice(&head);
 }
 
 // Record r, in the entry whose cell holds the byte x.
 fn put_entry(s: &[u8], t: &[i32], v: Version, n: usize, x: usize, r: usize, b: &mut [u8])
     requires room_at { RoomAt 0 1 n t.now × (x < 2 ^ 32) }
     requires sorted { Sorted (in_order Field s.now t.now 1) (cell_at 0 t.now 1) n × Apart (cell_at 0 t.now 1) n × Stands (cell_at 0 t.now 1) n x }
-    requires wide { Wide v × (index_length v n ≤ length b.old) × (r < 256 ^ v.width) }
+    requires wide { Wide v × (index_length v n ≤ length b.old) × (r < 256 ^ v.width) × (n < 2 ^ 32) }
     ensures { Entry v n x r t.now b.old b.new }
 {
     let k = cell_of(s, t, n, x);
-    let w = v.width;
-    put_number(b, v, BEFORE + w + (k - 1) * w, r);
+    put_number(b, v, index_bytes::length_of(v, k - 1), r);
 }
 
 // The number of each record, in the entry whose cell holds where its id begins: the lines from `at` on, whose ids stand in column p.
@@ -135,18 +129,11 @@ fn put_entries(
 {
     let mut here = at;
     let mut r = 1;
-    loop {
-        match text::next_line(s, here) {
-            LineStep::Line { start, end, next } => {
-                let field = columns::field_start(&s[start..end], p);
-                put_entry(s, t, v, n, start + field, r, b);
-                here = next;
-                r += 1;
-            }
-            LineStep::Done => {
-                return;
-            }
-        }
+    while let Some((line, next)) = text::next_line(s, here) {
+        let field = columns::field_start(&s[line.start..line.end], p);
+        put_entry(s, t, v, n, line.start + field, r, b);
+        here = next;
+        r += 1;
     }
 }
 
@@ -155,7 +142,7 @@ fn put_index(f: usize, s: &[u8], t: &[i32], v: Version, n: usize, b: &mut [u8])
     requires reads { Reads f s.now × Ranked f s.now n t.now × (index_length v n ≤ length b.old) }
     requires f_bound { (f < 5) × (some (λ k. alike Field s.now t.now 1 (cell_at 0 t.now 1 k) (cell_at 0 t.now 1 (k + 1))) 1 (n - 1) ≡ false) }
     requires s_len_bound { (length s.now ≤ max_bytes) × (n < 2 ^ 32) × (v ≡ version_of n) }
-    ensures { b.new ≡ left_by (IndexAnswer.Whole (index_length v n)) (index_of v f (ranked (ids_of f s.now))) b.old }
+    ensures { b.new ≡ left_by (Ok (index_length v n)) (index_of v f (ranked (ids_of f s.now))) b.old }
 {
     let h = columns::read_header(f, s);
     let known = h.known;
@@ -167,7 +154,7 @@ fn put_index(f: usize, s: &[u8], t: &[i32], v: Version, n: usize, b: &mut [u8])
 }
 
 // What is written for a file that can be read, with a table of one number a record.
-fn write_read(f: usize, s: &[u8], t: &mut [i32], b: &mut [u8]) -> IndexAnswer
+fn write_read(f: usize, s: &[u8], t: &mut [i32], b: &mut [u8]) -> Result<usize, IndexRefusal>
     requires { Reads f s.now × (count_lf s.now ≤ length t.old) }
     ensures value { result ≡ barred_or (spoken (writer_tests (version_of (length (ids_of f s.now))) (ids_of f s.now) (length b.old))) (index_length (version_of (length (ids_of f s.now))) (length (ids_of f s.now))) }
     ensures b_after { b.new ≡ left_by result (index_of (version_of (length (ids_of f s.now))) f (ranked (ids_of f s.now))) b.old }
@@ -175,20 +162,19 @@ fn write_read(f: usize, s: &[u8], t: &mut [i32], b: &mut [u8]) -> IndexAnswer
     let n = id_places::place_ids(f, s, t);
     sorting::sort(By::Field, s, t, 1, 0, n);
     if has_repeat(s, t, n) {
-        return IndexAnswer::Barred(45);
+        return Err(IndexRefusal::Barred(45));
     }
     let v = indexes::version_of(n);
-    let w = v.width;
-    let need = BEFORE + w + n * w;
+    let need = index_bytes::length_of(v, n);
     if b.len() < need {
-        return IndexAnswer::Barred(46);
+        return Err(IndexRefusal::Barred(46));
     }
     put_index(f, s, t, v, n, b);
-    IndexAnswer::Whole(need)
+    Ok(need)
 }
 
 // The same, with a table of its own for few lines.
-fn write_few(f: usize, s: &[u8], b: &mut [u8]) -> IndexAnswer
+fn write_few(f: usize, s: &[u8], b: &mut [u8]) -> Result<usize, IndexRefusal>
     requires { Reads f s.now × (count_lf s.now ≤ few_lines) }
     ensures value { result ≡ barred_or (spoken (writer_tests (version_of (length (ids_of f s.now))) (ids_of f s.now) (length b.old))) (index_length (version_of (length (ids_of f s.now))) (length (ids_of f s.now))) }
     ensures b_after { b.new ≡ left_by result (index_of (version_of (length (ids_of f s.now))) f (ranked (ids_of f s.now))) b.old }
@@ -198,7 +184,7 @@ fn write_few(f: usize, s: &[u8], b: &mut [u8]) -> IndexAnswer
 }
 
 // The same, with a table of its own for as many lines as there may be.
-fn write_many(f: usize, s: &[u8], b: &mut [u8]) -> IndexAnswer
+fn write_many(f: usize, s: &[u8], b: &mut [u8]) -> Result<usize, IndexRefusal>
     requires { Reads f s.now }
     ensures value { result ≡ barred_or (spoken (writer_tests (version_of (length (ids_of f s.now))) (ids_of f s.now) (length b.old))) (index_length (version_of (length (ids_of f s.now))) (length (ids_of f s.now))) }
     ensures b_after { b.new ≡ left_by result (index_of (version_of (length (ids_of f s.now))) f (ranked (ids_of f s.now))) b.old }
@@ -208,7 +194,7 @@ fn write_many(f: usize, s: &[u8], b: &mut [u8]) -> IndexAnswer
 }
 
 // The same, of a file that has so many LF bytes.
-fn write_alone(f: usize, s: &[u8], lf: usize, b: &mut [u8]) -> IndexAnswer
+fn write_alone(f: usize, s: &[u8], lf: usize, b: &mut [u8]) -> Result<usize, IndexRefusal>
     requires { Reads f s.now × (lf ≡ count_lf s.now) }
     ensures value { result ≡ barred_or (spoken (writer_tests (version_of (length (ids_of f s.now))) (ids_of f s.now) (length b.old))) (index_length (version_of (length (ids_of f s.now))) (length (ids_of f s.now))) }
     ensures b_after { b.new ≡ left_by result (index_of (version_of (length (ids_of f s.now))) f (ranked (ids_of f s.now))) b.old }
@@ -220,19 +206,16 @@ fn write_alone(f: usize, s: &[u8], lf: usize, b: &mut [u8]) -> IndexAnswer
 }
 
 // The writer: any file number, any file, any buffer.
-pub fn write_index(f: usize, s: &[u8], b: &mut [u8]) -> IndexAnswer
+pub fn write_index(f: usize, s: &[u8], b: &mut [u8]) -> Result<usize, IndexRefusal>
     ensures value { result ≡ wrote f s.now (length b.old) }
     ensures b_after { b.new ≡ written f s.now b.old }
 {
-    if f == 0 {
-        return IndexAnswer::Barred(42);
-    }
-    if 4 < f {
-        return IndexAnswer::Barred(42);
+    if f == 0 || 4 < f {
+        return Err(IndexRefusal::Barred(42));
     }
     let lf = text::count_lf(s);
     match alone::read_alone(f, s, lf) {
-        Verdict::Readable => write_alone(f, s, lf, b),
-        Verdict::Unreadable(r) => IndexAnswer::Unread(r),
+        Ok(()) => write_alone(f, s, lf, b),
+        Err(r) => Err(IndexRefusal::Unread(r)),
     }
 }

@@ -1,4 +1,5 @@
 -- An index beside the feed: each sentence of document 02's E4 holds.
+use Rattle.std.specs.Prelude.{Ok, Err}
 use Prim.Native.Nat.{ℕ, zero, suc, ◌+◌, ◌*◌, ◌≤◌, ◌<◌}
 use native.Mathlib.Omega.{arith}
 use mathlib.Core.Path.{◌≡◌, refl, sym, ap, ◌∙◌}
@@ -11,8 +12,7 @@ use lib.Seq.{take_at, drop_at}
 use lib.Dec.{ltb, eqb}
 use borrow.Author.Tests.{ltb-true, ltb-false, lt-ltb, eqb-true, eqb-false, eq-eqb, ne_eqb}
 use Rattle.meaning.specs.declared.Refusal.{Refusal}
-use Rattle.meaning.specs.declared.Verdict.{Verdict}
-use Rattle.meaning.specs.declared.Verdict.TheVariants.{Readable, Unreadable}
+use Rattle.std.specs.Prelude.{Result, Ok, Err}
 use Rattle.meaning.specs.Lists.{empty, any, laid}
 use Rattle.meaning.specs.Bytes.{count_lf}
 use Rattle.meaning.specs.Tables.{file_of}
@@ -24,8 +24,8 @@ use Rattle.meaning.proofs.References.{any_yes}
 use Rattle.meaning.proofs.Records.{rows_count}
 use Rattle.meaning.proofs.Tests.{untrue}
 use Rattle.text.proofs.Lines.{lines_all}
-use Rattle.indexes.specs.declared.IndexAnswer.{IndexAnswer}
-use Rattle.indexes.specs.declared.IndexAnswer.TheVariants.{Whole, Unread, Barred}
+use Rattle.indexes.specs.Answer.{IndexAnswer}
+use Rattle.indexes.specs.declared.IndexRefusal.TheVariants.{Unread, Barred}
 use Rattle.indexes.specs.Order.{ids_of, repeats, ranked}
 use Rattle.indexes.specs.declared.Version.{Version}
 use Rattle.indexes.specs.Index.{version_of, index_of, index_length, index_tests, spoken, writer_tests, indexed, lone_claims, lone_verdict, if_read, asked_of, barred_or, checked, wrote, left_by, written, index_numbers}
@@ -67,15 +67,15 @@ of_lowest (t ∷ ts) zero h b silent = spoken_yes t ts b
 of_lowest (t ∷ ts) (suc at) h b silent = spoken_no t ts (silent 0 (omega arith)) ∙ of_lowest ts at (omega arith) b (λ k l. silent (suc k) (omega arith))
 
 -- an answer with a number is that of the lowest, where no test has number 0
-barred_lowest : (ts : List Test) (size n : ℕ) → any (λ t. eqb t.number 0) ts ≡ false → barred_or (spoken ts) size ≡ Barred n ↔ Lowest ts n
+barred_lowest : (ts : List Test) (size n : ℕ) → any (λ t. eqb t.number 0) ts ≡ false → barred_or (spoken ts) size ≡ Err (Barred n) ↔ Lowest ts n
 unfolding barred_or
 barred_lowest ts size n named = (λ e. there (eqb (spoken ts) 0) refl e, back)
   where
-    there : (b : Bool) → eqb (spoken ts) 0 ≡ b → cond b (Whole size) (Barred (spoken ts)) ≡ Barred n → Lowest ts n
+    there : (b : Bool) → eqb (spoken ts) 0 ≡ b → cond b (Ok size) (Err (Barred (spoken ts))) ≡ Err (Barred n) → Lowest ts n
     there true q e = let z : ◌≡◌ {A = ℕ} 0 1 = cc in absurd (omega arith)
     there false q e = let k : spoken ts ≡ n = cc in lowest_of ts n k (λ z. eqb-false _ _ q (k ∙ z))
 
-    back : Lowest ts n → cond (eqb (spoken ts) 0) (Whole size) (Barred (spoken ts)) ≡ Barred n
+    back : Lowest ts n → cond (eqb (spoken ts) 0) (Ok size) (Err (Barred (spoken ts))) ≡ Err (Barred n)
     back l =
         let k : spoken ts ≡ n = of_lowest ts l.at l.inside l.broken l.silent ∙ l.number in
         let z : n ≡ 0 → ⊥ = λ e. both _ (any_yes (λ t. eqb t.number 0) no_test ts l.at l.inside (eq-eqb _ _ (l.number ∙ e))) named in
@@ -89,11 +89,11 @@ write_named : (v : Version) (ids : List (List ℕ)) (room : ℕ) → any (λ t. 
 unfolding any writer_tests
 write_named v ids room = refl
 
-pub barred_whole : (k size n : ℕ) → barred_or k size ≡ Whole n → (k ≡ 0) × (size ≡ n)
+pub barred_whole : (k size n : ℕ) → barred_or k size ≡ Ok n → (k ≡ 0) × (size ≡ n)
 unfolding barred_or
 barred_whole k size n e = go (eqb k 0) refl e
   where
-    go : (b : Bool) → eqb k 0 ≡ b → cond b (Whole size) (Barred k) ≡ Whole n → (k ≡ 0) × (size ≡ n)
+    go : (b : Bool) → eqb k 0 ≡ b → cond b (Ok size) (Err (Barred k)) ≡ Ok n → (k ≡ 0) × (size ≡ n)
     go true q e = (eqb-true k 0 q, cc)
     go false q e = let z : ◌≡◌ {A = ℕ} 0 1 = cc in absurd (omega arith)
 
@@ -104,36 +104,36 @@ module _ (f : ℕ) (s : List ℕ) where
   unfolding asked_of
   asked_read r a = rw (r.asked, (said_readable (lone_verdict f s)).0 r.verdict)
 
-  pub asked_refused : indexed f ≡ true → (r : Refusal) → lone_verdict f s ≡ Unreadable r → (a : IndexAnswer) → asked_of f (lone_verdict f s) a ≡ Unread r
+  pub asked_refused : indexed f ≡ true → (r : Refusal) → lone_verdict f s ≡ Err r → (a : IndexAnswer) → asked_of f (lone_verdict f s) a ≡ Err (Unread r)
   unfolding asked_of
   asked_refused e r v a = rw (e, v)
 
-  asked_unread : indexed f ≡ true → (r : Refusal) → FirstBroken (lone_claims f s) r → (a : IndexAnswer) → asked_of f (lone_verdict f s) a ≡ Unread r
+  asked_unread : indexed f ≡ true → (r : Refusal) → FirstBroken (lone_claims f s) r → (a : IndexAnswer) → asked_of f (lone_verdict f s) a ≡ Err (Unread r)
   unfolding lone_verdict
   asked_unread e r b a = asked_refused e r ((spoken_first (lone_claims f s) r).1 b) a
 
-  pub asked_outside : indexed f ≡ false → (a : IndexAnswer) → asked_of f (lone_verdict f s) a ≡ Barred 42
+  pub asked_outside : indexed f ≡ false → (a : IndexAnswer) → asked_of f (lone_verdict f s) a ≡ Err (Barred 42)
   unfolding asked_of
   asked_outside e a = rw e
 
-  pub asked_whole : (a : IndexAnswer) (n : ℕ) → asked_of f (lone_verdict f s) a ≡ Whole n → Reads f s × (a ≡ Whole n)
+  pub asked_whole : (a : IndexAnswer) (n : ℕ) → asked_of f (lone_verdict f s) a ≡ Ok n → Reads f s × (a ≡ Ok n)
   unfolding asked_of
   asked_whole a n e = go (indexed f) refl (lone_verdict f s) refl e
     where
-      go : (t : Bool) → indexed f ≡ t → (v : Verdict) → lone_verdict f s ≡ v → cond t (if_read v a) (Barred 42) ≡ Whole n → Reads f s × (a ≡ Whole n)
+      go : (t : Bool) → indexed f ≡ t → (v : Result Unit Refusal) → lone_verdict f s ≡ v → cond t (if_read v a) (Err (Barred 42)) ≡ Ok n → Reads f s × (a ≡ Ok n)
       go false p v q e = let z : ◌≡◌ {A = ℕ} 0 1 = cc in absurd (omega arith)
-      go true p Readable q e = (record { asked = p; verdict = (said_readable (lone_verdict f s)).1 q }, e)
-      go true p (Unreadable r) q e = let z : ◌≡◌ {A = ℕ} 0 1 = cc in absurd (omega arith)
+      go true p (Ok tt) q e = (record { asked = p; verdict = (said_readable (lone_verdict f s)).1 q }, e)
+      go true p (Err r) q e = let z : ◌≡◌ {A = ℕ} 0 1 = cc in absurd (omega arith)
 
-  asked_refusal : (k size : ℕ) (r : Refusal) → asked_of f (lone_verdict f s) (barred_or k size) ≡ Unread r → FirstBroken (lone_claims f s) r
+  asked_refusal : (k size : ℕ) (r : Refusal) → asked_of f (lone_verdict f s) (barred_or k size) ≡ Err (Unread r) → FirstBroken (lone_claims f s) r
   unfolding asked_of barred_or lone_verdict
   asked_refusal k size r e = (spoken_first (lone_claims f s) r).0 (go (indexed f) (lone_verdict f s) refl (eqb k 0) e)
     where
-      go : (t : Bool) (v : Verdict) → lone_verdict f s ≡ v → (z : Bool) → cond t (if_read v (cond z (Whole size) (Barred k))) (Barred 42) ≡ Unread r → lone_verdict f s ≡ Unreadable r
+      go : (t : Bool) (v : Result Unit Refusal) → lone_verdict f s ≡ v → (z : Bool) → cond t (if_read v (cond z (Ok size) (Err (Barred k)))) (Err (Barred 42)) ≡ Err (Unread r) → lone_verdict f s ≡ Err r
       go false v q z e = let z : ◌≡◌ {A = ℕ} 0 1 = cc in absurd (omega arith)
-      go true Readable q true e = let z : ◌≡◌ {A = ℕ} 0 1 = cc in absurd (omega arith)
-      go true Readable q false e = let z : ◌≡◌ {A = ℕ} 0 1 = cc in absurd (omega arith)
-      go true (Unreadable p) q z e = cc
+      go true (Ok tt) q true e = let z : ◌≡◌ {A = ℕ} 0 1 = cc in absurd (omega arith)
+      go true (Ok tt) q false e = let z : ◌≡◌ {A = ℕ} 0 1 = cc in absurd (omega arith)
+      go true (Err p) q z e = cc
 
   -- a file has fewer records than lines
   pub fewer : (m : ℕ) → 0 < m → count_lf s ≤ m → length (ids_of f s) < m
@@ -172,7 +172,7 @@ module _ (f : ℕ) (s : List ℕ) where
     room : n ≤ length lent
     is : written f s lent ≡ index ++ drop n lent
 
-  wrote_whole : (lent : List ℕ) (n : ℕ) → wrote f s (length lent) ≡ Whole n → Wrote lent n
+  wrote_whole : (lent : List ℕ) (n : ℕ) → wrote f s (length lent) ≡ Ok n → Wrote lent n
   unfolding wrote written writer_tests spoken laid
   wrote_whole lent n e =
       let a = asked_whole _ n e in
@@ -185,21 +185,21 @@ module _ (f : ℕ) (s : List ℕ) where
   none_repeats : repeats ids ≡ false → Lists f ids index
   none_repeats e = record { records = ranked ids; rising = ranked_rising ids e; bytes = refl }
 
-  pub accepts : Reads f s → (b : List ℕ) → Lists f ids b → checked f s b ≡ Whole (length b)
+  pub accepts : Reads f s → (b : List ℕ) → Lists f ids b → checked f s b ≡ Ok (length b)
   unfolding checked barred_or
   accepts r b l = asked_read r _ ∙ rw (lists_accepted f ids b (omega (arith, few r)) l)
 
   writes : (lent : List ℕ) (n : ℕ) → Wrote lent n → take n (written f s lent) ≡ index
   writes lent n w = rw w.is (take_at index (drop n lent) n w.size)
 
-  unchanged : (lent : List ℕ) → ((n : ℕ) → wrote f s (length lent) ≡ Whole n → ⊥) → written f s lent ≡ lent
+  unchanged : (lent : List ℕ) → ((n : ℕ) → wrote f s (length lent) ≡ Ok n → ⊥) → written f s lent ≡ lent
   unfolding written
   unchanged lent h = go (wrote f s (length lent)) refl
     where
       go : (a : IndexAnswer) → wrote f s (length lent) ≡ a → left_by a index lent ≡ lent
-      go (Whole n) e = absurd (h n e)
-      go (Unread r) e = refl
-      go (Barred n) e = refl
+      go (Ok n) e = absurd (h n e)
+      go (Err (Unread r)) e = refl
+      go (Err (Barred n)) e = refl
 
   -- ---- files 1 to 4
 
@@ -232,21 +232,21 @@ module _ (f : ℕ) (s : List ℕ) where
 
   -- ---- the cases, from their numbers
 
-  pub whole_checked : (b : List ℕ) (n : ℕ) → index_numbers (checked f s b) ≡ says_whole n → checked f s b ≡ Whole n
+  pub whole_checked : (b : List ℕ) (n : ℕ) → index_numbers (checked f s b) ≡ says_whole n → checked f s b ≡ Ok n
   whole_checked b n = told_whole (checked f s b) n (apart_checked f s b)
 
-  whole_wrote : (room n : ℕ) → index_numbers (wrote f s room) ≡ says_whole n → wrote f s room ≡ Whole n
+  whole_wrote : (room n : ℕ) → index_numbers (wrote f s room) ≡ says_whole n → wrote f s room ≡ Ok n
   whole_wrote room n = told_whole (wrote f s room) n (apart_wrote f s room)
 
-  pub says_whole_lem : (a : IndexAnswer) (n : ℕ) → a ≡ Whole n → index_numbers a ≡ says_whole n
+  pub says_whole_lem : (a : IndexAnswer) (n : ℕ) → a ≡ Ok n → index_numbers a ≡ says_whole n
   unfolding index_numbers
   says_whole_lem a n e = ap index_numbers e
 
-  pub says_unread_lem : (a : IndexAnswer) (r : Refusal) → a ≡ Unread r → index_numbers a ≡ says_unread r
+  pub says_unread_lem : (a : IndexAnswer) (r : Refusal) → a ≡ Err (Unread r) → index_numbers a ≡ says_unread r
   unfolding index_numbers
   says_unread_lem a r e = ap index_numbers e
 
-  pub says_barred_lem : (a : IndexAnswer) (n : ℕ) → a ≡ Barred n → index_numbers a ≡ says_barred n
+  pub says_barred_lem : (a : IndexAnswer) (n : ℕ) → a ≡ Err (Barred n) → index_numbers a ≡ says_barred n
   unfolding index_numbers
   says_barred_lem a n e = ap index_numbers e
 
@@ -258,31 +258,31 @@ module _ (f : ℕ) (s : List ℕ) where
   unfolding wrote
   own_wrote r low room e = asked_refusal _ _ r (told_unread (wrote f s room) r low (apart_wrote f s room) e)
 
-  read_lowest : Reads f s → (b : List ℕ) (n : ℕ) → checked f s b ≡ Barred n ↔ Lowest (index_tests (version_of (length ids)) f ids b) n
+  read_lowest : Reads f s → (b : List ℕ) (n : ℕ) → checked f s b ≡ Err (Barred n) ↔ Lowest (index_tests (version_of (length ids)) f ids b) n
   unfolding checked
   read_lowest r b n = rw (asked_read r _) (barred_lowest (index_tests (version_of (length ids)) f ids b) (length b) n (read_named (version_of (length ids)) f ids b))
 
-  write_lowest : Reads f s → (room n : ℕ) → wrote f s room ≡ Barred n ↔ Lowest (writer_tests (version_of (length ids)) ids room) n
+  write_lowest : Reads f s → (room n : ℕ) → wrote f s room ≡ Err (Barred n) ↔ Lowest (writer_tests (version_of (length ids)) ids room) n
   unfolding wrote
   write_lowest r room n = rw (asked_read r _) (barred_lowest (writer_tests (version_of (length ids)) ids room) (index_length (version_of (length ids)) (length ids)) n (write_named (version_of (length ids)) ids room))
 
-  accepted : Reads f s → (b : List ℕ) → Bytes b → checked f s b ≡ Whole (length b) → Lists f ids b
+  accepted : Reads f s → (b : List ℕ) → Bytes b → checked f s b ≡ Ok (length b) → Lists f ids b
   unfolding checked
   accepted r b small e = accepted_lists f ids b small (barred_whole _ _ _ (sym (asked_read r _) ∙ e)).0
 
-  outside_checked : indexed f ≡ false → (b : List ℕ) → checked f s b ≡ Barred 42
+  outside_checked : indexed f ≡ false → (b : List ℕ) → checked f s b ≡ Err (Barred 42)
   unfolding checked
   outside_checked e b = asked_outside e _
 
-  outside_wrote : indexed f ≡ false → (room : ℕ) → wrote f s room ≡ Barred 42
+  outside_wrote : indexed f ≡ false → (room : ℕ) → wrote f s room ≡ Err (Barred 42)
   unfolding wrote
   outside_wrote e room = asked_outside e _
 
-  unread_checked : indexed f ≡ true → (r : Refusal) → FirstBroken (lone_claims f s) r → (b : List ℕ) → checked f s b ≡ Unread r
+  unread_checked : indexed f ≡ true → (r : Refusal) → FirstBroken (lone_claims f s) r → (b : List ℕ) → checked f s b ≡ Err (Unread r)
   unfolding checked
   unread_checked e r t b = asked_unread e r t _
 
-  unread_wrote : indexed f ≡ true → (r : Refusal) → FirstBroken (lone_claims f s) r → (room : ℕ) → wrote f s room ≡ Unread r
+  unread_wrote : indexed f ≡ true → (r : Refusal) → FirstBroken (lone_claims f s) r → (room : ℕ) → wrote f s room ≡ Err (Unread r)
   unfolding wrote
   unread_wrote e r t room = asked_unread e r t _
 
@@ -308,7 +308,7 @@ module _ (f : ℕ) (s : List ℕ) where
     need = need;
     unchanged = λ lent h. unchanged lent (λ n e. h n (says_whole_lem _ n e));
     writes = λ lent n e. let w = wrote_told lent n e in rw (writes lent n w) (none_repeats w.apart);
-    agrees = λ lent n e. let w = wrote_told lent n e in rw (writes lent n w) (says_whole_lem _ n (accepts w.reads index (none_repeats w.apart) ∙ ap Whole w.size));
+    agrees = λ lent n e. let w = wrote_told lent n e in rw (writes lent n w) (says_whole_lem _ n (accepts w.reads index (none_repeats w.apart) ∙ ap Ok w.size));
     leaves = λ lent n e. let w = wrote_told lent n e in (rw (w.is, length-append, length-drop) (omega (arith, w.size, w.room)), rw w.is (drop_at index (drop n lent) n w.size));
     told = λ lent n e. let w = wrote_told lent n e in sym w.size ∙ index_size;
   }

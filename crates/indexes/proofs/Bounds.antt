@@ -1,4 +1,5 @@
 -- The numbers of an answer about an index are small.
+use Rattle.std.specs.Prelude.{Ok, Err}
 use Prim.Native.Nat.{ℕ, zero, suc, ◌+◌, ◌*◌, ◌-◌, ◌≤◌, ◌<◌}
 use native.Mathlib.Omega.{arith}
 use mathlib.Core.Path.{◌≡◌, refl, subst}
@@ -9,8 +10,7 @@ use lib.ListN.{length, get_or, drop, length-take, length-drop}
 use borrow.Author.Tests.{leb-true, ltb-true, ltb-false, eqb-true}
 use Rattle.meaning.specs.declared.Bounds.{Bounds}
 use Rattle.meaning.specs.declared.Refusal.{Refusal}
-use Rattle.meaning.specs.declared.Verdict.{Verdict}
-use Rattle.meaning.specs.declared.Verdict.TheVariants.{Readable, Unreadable}
+use Rattle.std.specs.Prelude.{Result, Ok, Err}
 use Rattle.meaning.specs.Bytes.{Line, bounds, part, start, next, cuts, end_of, line_of, lines_from, lines_of, start_of, count_lf}
 use Rattle.meaning.specs.Columns.{places, header_of}
 use Rattle.meaning.specs.Refusals.{Test, Claim, max_bytes, max_lines, rule1, rule2, rule11, rule12, rule13, text_tests, head_tests, value_tests, line_tests, in_file, refusal}
@@ -26,8 +26,8 @@ use Rattle.meaning.proofs.Sayable.{Fit, plain, again, long, blank, formless, Col
 use Rattle.text.specs.Fields as F
 use Rattle.text.proofs.Lines.{lines_all}
 use Rattle.text.proofs.Fields.{fields_count}
-use Rattle.indexes.specs.declared.IndexAnswer.{IndexAnswer}
-use Rattle.indexes.specs.declared.IndexAnswer.TheVariants.{Whole, Unread, Barred}
+use Rattle.indexes.specs.Answer.{IndexAnswer}
+use Rattle.indexes.specs.declared.IndexRefusal.TheVariants.{Unread, Barred}
 use Rattle.indexes.specs.Order.{ids_of}
 use Rattle.indexes.specs.Index.{version_of, index_length, index_tests, writer_tests, spoken, indexed, lone_claims, lone_verdict, if_read, asked_of, barred_or, checked, wrote}
 use Rattle.indexes.specs.Promises.{Reads}
@@ -87,7 +87,7 @@ module _ (f : ℕ) (s : List ℕ) where
       go (formless k) = within 13 _ (leftmost_within f (header_of (lines_of s)) _ _) k
 
   -- rules 1 and 2 are kept where a line speaks
-  small_line : f ≤ 4 → (p : Claim) → Memᴰ p (in_file f (lines_of s)) → rule1 f s 0 ≡ false → rule2 f s 0 ≡ false → Small (Unread (refusal p))
+  small_line : f ≤ 4 → (p : Claim) → Memᴰ p (in_file f (lines_of s)) → rule1 f s 0 ≡ false → rule2 f s 0 ≡ false → Small (Err (Unread (refusal p)))
   unfolding rule1 rule2
   small_line low p m one two =
       let w = (in_file_lem f (lines_of s) p).0 m in
@@ -95,7 +95,7 @@ module _ (f : ℕ) (s : List ℕ) where
       let lines : count_lf s ≤ max_lines = ltb-false _ _ two in
       (numbers_few f (lines_of s) p.line _ (test_of p) w.rule, (rw w.file low, (omega (arith, w.to, lines_all s, lines), omega (arith, column_few p w, short))))
 
-  small_first : f ≤ 4 → (at : ℕ) → at < length (lone_claims f s) → ((k : ℕ) → k < at → (get_or (lone_claims f s) k no_claim).broken ≡ false) → Small (Unread (refusal (get_or (lone_claims f s) at no_claim)))
+  small_first : f ≤ 4 → (at : ℕ) → at < length (lone_claims f s) → ((k : ℕ) → k < at → (get_or (lone_claims f s) k no_claim).broken ≡ false) → Small (Err (Unread (refusal (get_or (lone_claims f s) at no_claim))))
   unfolding lone_claims
   small_first low zero h silent = (omega arith, (low, (omega arith, omega arith)))
   small_first low (suc zero) h silent = (omega arith, (low, (omega arith, omega arith)))
@@ -103,28 +103,28 @@ module _ (f : ℕ) (s : List ℕ) where
   small_first low (suc (suc (suc k))) h silent =
       small_line low (get_or (in_file f (lines_of s)) k no_claim) (get_d_mem (in_file f (lines_of s)) k no_claim (omega arith)) (silent 0 (omega arith)) (silent 1 (omega arith))
 
-  small_unread : indexed f ≡ true → (r : Refusal) → lone_verdict f s ≡ Unreadable r → Small (Unread r)
+  small_unread : indexed f ≡ true → (r : Refusal) → lone_verdict f s ≡ Err r → Small (Err (Unread r))
   unfolding indexed lone_verdict
   small_unread e r v =
       let b = (spoken_first (lone_claims f s) r).0 v in
       let l = ltb-true f 5 (and_both (ltb 0 f) (ltb f 5) e).1 in
-      subst (λ (q : Refusal). Small (Unread q)) b.spoken (small_first (omega (arith, l)) b.at b.inside b.silent)
+      subst (λ (q : Refusal). Small (Err (Unread q))) b.spoken (small_first (omega (arith, l)) b.at b.inside b.silent)
 
   -- an answer is small where the one about the index is
   small_asked : (a : IndexAnswer) → (Reads f s → Small a) → Small (asked_of f (lone_verdict f s) a)
   unfolding asked_of
   small_asked a h = go (indexed f) refl (lone_verdict f s) refl
     where
-      go : (t : Bool) → indexed f ≡ t → (v : Verdict) → lone_verdict f s ≡ v → Small (cond t (if_read v a) (Barred 42))
+      go : (t : Bool) → indexed f ≡ t → (v : Result Unit Refusal) → lone_verdict f s ≡ v → Small (cond t (if_read v a) (Err (Barred 42)))
       go false p v q = omega arith
-      go true p Readable q = h (record { asked = p; verdict = (said_readable (lone_verdict f s)).1 q })
-      go true p (Unreadable r) q = small_unread p r q
+      go true p (Ok tt) q = h (record { asked = p; verdict = (said_readable (lone_verdict f s)).1 q })
+      go true p (Err r) q = small_unread p r q
 
 small_barred : (k size : ℕ) → k ≤ 46 → (k ≡ 0 → size ≤ 10 + 4 * max_lines) → Small (barred_or k size)
 unfolding barred_or
 small_barred k size h w = go (eqb k 0) refl
   where
-    go : (t : Bool) → eqb k 0 ≡ t → Small (cond t (Whole size) (Barred k))
+    go : (t : Bool) → eqb k 0 ≡ t → Small (cond t (Ok size) (Err (Barred k)))
     go true e = w (eqb-true k 0 e)
     go false e = h
 

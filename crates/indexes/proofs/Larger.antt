@@ -1,4 +1,5 @@
 -- Larger feeds: each sentence of document 02's E9 holds of an index.
+use Rattle.std.specs.Prelude.{Ok, Err}
 use Prim.Native.Nat.{ℕ, zero, suc, ◌+◌, ◌*◌, ◌≤◌, ◌<◌}
 use native.Mathlib.Omega.{arith}
 use mathlib.Core.Path.{◌≡◌, refl, ap, ◌∙◌}
@@ -9,8 +10,8 @@ use mathlib.Core.List.{List}
 use lib.ListN.{length, get_or, take}
 use lib.Dec.{ltb, eqb}
 use borrow.Author.Tests.{ltb-true, ltb-false, lt-ltb, le-ltb, ne_eqb}
-use Rattle.meaning.specs.declared.Verdict.{Verdict}
-use Rattle.meaning.specs.declared.Verdict.TheVariants.{Readable, Unreadable}
+use Rattle.std.specs.Prelude.{Result, Ok, Err}
+use Rattle.meaning.specs.declared.Refusal.{Refusal}
 use Rattle.meaning.specs.Bytes.{count_lf, lines_of}
 use Rattle.meaning.specs.Refusals.{claim, max_bytes, max_lines, rule1, rule2, in_file, speaks, verdict_numbers}
 use Rattle.meaning.specs.Promises.{no_claim, says_readable}
@@ -19,7 +20,7 @@ use Rattle.meaning.proofs.Claims.{in_file_lem}
 use Rattle.meaning.proofs.FirstBroken.{silent_none, said_readable}
 use Rattle.meaning.proofs.Tests.{or_right}
 use Rattle.indexes.specs.declared.Version.{Version}
-use Rattle.indexes.specs.declared.IndexAnswer.TheVariants.{Whole, Barred}
+use Rattle.indexes.specs.declared.IndexRefusal.TheVariants.{Barred}
 use Rattle.indexes.specs.Order.{ids_of, repeats, ranked, Rising}
 use Rattle.indexes.specs.Index.{low_first, number_at, mark, version1, version2, version_of, index_of, index_length, rule40, other_version, rule41, misfits, rule42, index_tests, spoken, writer_tests, indexed, lone_claims, lone_verdict, if_read, asked_of, barred_or, checked, wrote, written, index_numbers}
 use Rattle.indexes.specs.Promises.{Bytes, Reads, says_whole, says_unread, says_barred}
@@ -100,13 +101,13 @@ module _ (f : ℕ) (s : List ℕ) where
   of_older (suc (suc (suc k))) h = ((in_file_lem f (lines_of s) _).0 (get_d_mem (in_file f (lines_of s)) k no_claim (omega arith))).file
 
   -- what it reads lies within the old limits, and can be read
-  within : older_verdict f s ≡ Readable → (length s ≤ 16777216) × (count_lf s ≤ 65536)
+  within : older_verdict f s ≡ Ok tt → (length s ≤ 16777216) × (count_lf s ≤ 65536)
   unfolding older_verdict older_claims
   within e =
       let none = (silent_none (older_claims f s)).0 e in
       (ltb-false _ _ (none (claim 1 f 0 (ltb 16777216 (length s))) (Memᴰ.head refl)), ltb-false _ _ (none (claim 2 f 0 (ltb 65536 (count_lf s))) (Memᴰ.tail (Memᴰ.head refl))))
 
-  reads_still : indexed f ≡ true → older_verdict f s ≡ Readable → Reads f s
+  reads_still : indexed f ≡ true → older_verdict f s ≡ Ok tt → Reads f s
   unfolding older_verdict older_claims lone_verdict lone_claims rule1 rule2 speaks
   reads_still asked e =
       let w = within e in
@@ -123,7 +124,7 @@ module _ (f : ℕ) (s : List ℕ) where
       rw (p.0, q.0, r.0) r.1
 
   -- its answer by its numbers
-  older_whole : (b : List ℕ) → index_numbers (older f s b) ≡ says_whole (length b) → older f s b ≡ Whole (length b)
+  older_whole : (b : List ℕ) → index_numbers (older f s b) ≡ says_whole (length b) → older f s b ≡ Ok (length b)
   unfolding older older_verdict older_tests
   older_whole b = told_whole (older f s b) (length b) (apart_asked f (older_claims f s) of_older _ (apart_barred (spoken (older_tests f ids b)) (length b) (spoken_from (older_tests f ids b) tt) (long b)))
     where
@@ -138,10 +139,10 @@ module _ (f : ℕ) (s : List ℕ) where
   unfolding older asked_of
   stored b h = go (indexed f) refl (older_verdict f s) refl (older_whole b h)
     where
-      go : (t : Bool) → indexed f ≡ t → (v : Verdict) → older_verdict f s ≡ v → cond t (if_read v (barred_or (spoken (older_tests f ids b)) (length b))) (Barred 42) ≡ Whole (length b) → index_numbers (checked f s b) ≡ says_whole (length b)
+      go : (t : Bool) → indexed f ≡ t → (v : Result Unit Refusal) → older_verdict f s ≡ v → cond t (if_read v (barred_or (spoken (older_tests f ids b)) (length b))) (Err (Barred 42)) ≡ Ok (length b) → index_numbers (checked f s b) ≡ says_whole (length b)
       go false p v q e = let z : ◌≡◌ {A = ℕ} 0 1 = cc in absurd (omega arith)
-      go true p (Unreadable r) q e = let z : ◌≡◌ {A = ℕ} 0 1 = cc in absurd (omega arith)
-      go true p Readable q e = silent_good b (silent_still b (barred_whole _ _ _ e).0) (reads_still p q) (up_to (length ids) (omega (arith, fewer f s 65536 (omega arith) (within q).1)))
+      go true p (Err r) q e = let z : ◌≡◌ {A = ℕ} 0 1 = cc in absurd (omega arith)
+      go true p (Ok tt) q e = silent_good b (silent_still b (barred_whole _ _ _ e).0) (reads_still p q) (up_to (length ids) (omega (arith, fewer f s 65536 (omega arith) (within q).1)))
 
   past : indexed f ≡ true → (16777216 < length s) ⊎ (65536 < count_lf s) → (b : List ℕ) → (index_numbers (older f s b) ≡ says_unread (whole_file 1 f)) ⊎ (index_numbers (older f s b) ≡ says_unread (whole_file 2 f))
   unfolding older asked_of older_verdict older_claims speaks index_numbers

@@ -1,4 +1,5 @@
 -- The five numbers of an answer about an index tell its case: different cases never give equal numbers.
+use Rattle.std.specs.Prelude.{Ok, Err}
 use Prim.Native.Nat.{ℕ, zero, suc, ◌≤◌, ◌<◌}
 use native.Mathlib.Omega.{arith}
 use mathlib.Core.Path.{◌≡◌, refl, subst, ap}
@@ -8,8 +9,7 @@ use lib.Dec.{T, leb, ltb, eqb}
 use lib.ListN.{length, get_or}
 use borrow.Author.Tests.{leb-true, ltb-true, eqb-true, eqb-false}
 use Rattle.meaning.specs.declared.Refusal.{Refusal}
-use Rattle.meaning.specs.declared.Verdict.{Verdict}
-use Rattle.meaning.specs.declared.Verdict.TheVariants.{Readable, Unreadable}
+use Rattle.std.specs.Prelude.{Result, Ok, Err}
 use Rattle.meaning.specs.Bytes.{lines_of}
 use Rattle.meaning.specs.Refusals.{Test, Claim, in_file, speaks}
 use Rattle.meaning.specs.Promises.{no_claim}
@@ -18,8 +18,8 @@ use Rattle.meaning.proofs.Laws.{get_d_mem}
 use Rattle.meaning.proofs.ListLaws.{and_both}
 use Rattle.meaning.proofs.Claims.{in_file_lem}
 use Rattle.meaning.proofs.FirstBroken.{spoken_first}
-use Rattle.indexes.specs.declared.IndexAnswer.{IndexAnswer}
-use Rattle.indexes.specs.declared.IndexAnswer.TheVariants.{Whole, Unread, Barred}
+use Rattle.indexes.specs.Answer.{IndexAnswer}
+use Rattle.indexes.specs.declared.IndexRefusal.TheVariants.{Unread, Barred}
 use Rattle.indexes.specs.Order.{ids_of}
 use Rattle.indexes.specs.Index.{version_of, index_length, index_tests, writer_tests, spoken, indexed, lone_claims, lone_verdict, if_read, asked_of, barred_or, checked, wrote, index_numbers}
 use Rattle.indexes.specs.Promises.{says_whole, says_unread, says_barred}
@@ -28,35 +28,35 @@ use Rattle.indexes.proofs.Accepted.{sound}
 
 -- an index has bytes, a file's own refusal names the file, another has a number from 40 on
 abbrev pub Apart : IndexAnswer → Type 0
-Apart (Whole n) = 1 ≤ n
-Apart (Unread r) = 1 ≤ r.file
-Apart (Barred n) = 40 ≤ n
+Apart (Ok n) = 1 ≤ n
+Apart (Err (Unread r)) = 1 ≤ r.file
+Apart (Err (Barred n)) = 40 ≤ n
 
 -- ---- such an answer is told by its numbers
 
 nth : {a b : List ℕ} (k : ℕ) → a ≡ b → get_or a k 0 ≡ get_or b k 0
 nth k e = ap (λ (ns : List ℕ). get_or ns k 0) e
 
-pub told_whole : (a : IndexAnswer) (n : ℕ) → Apart a → index_numbers a ≡ says_whole n → a ≡ Whole n
+pub told_whole : (a : IndexAnswer) (n : ℕ) → Apart a → index_numbers a ≡ says_whole n → a ≡ Ok n
 unfolding index_numbers
-told_whole (Whole m) n h e = ap Whole (nth 4 e)
-told_whole (Unread r) n h e = absurd (omega (arith, nth 1 e))
-told_whole (Barred m) n h e = absurd (omega (arith, nth 0 e))
+told_whole (Ok m) n h e = ap Ok (nth 4 e)
+told_whole (Err (Unread r)) n h e = absurd (omega (arith, nth 1 e))
+told_whole (Err (Barred m)) n h e = absurd (omega (arith, nth 0 e))
 
-pub told_barred : (a : IndexAnswer) (n : ℕ) → Apart a → index_numbers a ≡ says_barred n → a ≡ Barred n
+pub told_barred : (a : IndexAnswer) (n : ℕ) → Apart a → index_numbers a ≡ says_barred n → a ≡ Err (Barred n)
 unfolding index_numbers
-told_barred (Whole m) n h e = absurd (omega (arith, nth 4 e))
-told_barred (Unread r) n h e = absurd (omega (arith, nth 1 e))
-told_barred (Barred m) n h e = ap Barred (nth 0 e)
+told_barred (Ok m) n h e = absurd (omega (arith, nth 4 e))
+told_barred (Err (Unread r)) n h e = absurd (omega (arith, nth 1 e))
+told_barred (Err (Barred m)) n h e = ap (λ x. Err (Barred x)) (nth 0 e)
 
 one_refusal : (q r : Refusal) → says_unread q ≡ says_unread r → q ≡ r
 one_refusal q r e = λ i. record { number = nth 0 e i; file = nth 1 e i; line = nth 2 e i; column = nth 3 e i }
 
-pub told_unread : (a : IndexAnswer) (r : Refusal) → r.number < 40 → Apart a → index_numbers a ≡ says_unread r → a ≡ Unread r
+pub told_unread : (a : IndexAnswer) (r : Refusal) → r.number < 40 → Apart a → index_numbers a ≡ says_unread r → a ≡ Err (Unread r)
 unfolding index_numbers
-told_unread (Whole m) r low h e = absurd (omega (arith, nth 4 e))
-told_unread (Unread q) r low h e = ap Unread (one_refusal q r e)
-told_unread (Barred m) r low h e = absurd (omega (arith, nth 0 e))
+told_unread (Ok m) r low h e = absurd (omega (arith, nth 4 e))
+told_unread (Err (Unread q)) r low h e = ap (λ x. Err (Unread x)) (one_refusal q r e)
+told_unread (Err (Barred m)) r low h e = absurd (omega (arith, nth 0 e))
 
 -- ---- the reader's answer is such a one, and the writer's
 
@@ -65,7 +65,7 @@ abbrev pub Of : ℕ → List Claim → Type 0
 Of f cs = (at : ℕ) → at < length cs → (get_or cs at no_claim).file ≡ f
 
 module _ (f : ℕ) (cs : List Claim) (of : Of f cs) where
-  apart_unread : indexed f ≡ true → (r : Refusal) → speaks cs ≡ Unreadable r → 1 ≤ r.file
+  apart_unread : indexed f ≡ true → (r : Refusal) → speaks cs ≡ Err r → 1 ≤ r.file
   unfolding indexed
   apart_unread e r v =
       let b = (spoken_first cs r).0 v in
@@ -76,10 +76,10 @@ module _ (f : ℕ) (cs : List Claim) (of : Of f cs) where
   unfolding asked_of
   apart_asked a h = go (indexed f) refl (speaks cs) refl
     where
-      go : (t : Bool) → indexed f ≡ t → (v : Verdict) → speaks cs ≡ v → Apart (cond t (if_read v a) (Barred 42))
+      go : (t : Bool) → indexed f ≡ t → (v : Result Unit Refusal) → speaks cs ≡ v → Apart (cond t (if_read v a) (Err (Barred 42)))
       go false p v q = omega arith
-      go true p Readable q = h
-      go true p (Unreadable r) q = apart_unread p r q
+      go true p (Ok tt) q = h
+      go true p (Err r) q = apart_unread p r q
 
 of_lone : (f : ℕ) (s : List ℕ) → Of f (lone_claims f s)
 unfolding lone_claims
@@ -102,7 +102,7 @@ pub apart_barred : (k size : ℕ) → ((k ≡ 0 → ⊥) → 40 ≤ k) → (k �
 unfolding barred_or
 apart_barred k size h w = go (eqb k 0) refl
   where
-    go : (t : Bool) → eqb k 0 ≡ t → Apart (cond t (Whole size) (Barred k))
+    go : (t : Bool) → eqb k 0 ≡ t → Apart (cond t (Ok size) (Err (Barred k)))
     go true e = w (eqb-true k 0 e)
     go false e = h (eqb-false k 0 e)
 

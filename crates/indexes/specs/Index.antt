@@ -1,14 +1,13 @@
 -- An index beside the feed: its bytes, and the refusals of its reader and its writer.
-use Rattle.std.specs.Prelude.{ℕ, zero, suc, ◌+◌, ◌*◌, ◌-◌, ◌/◌, ◌%◌, Bool, cond, not, ◌&&◌, ◌||◌, List, [], ◌∷◌, ◌++◌, map, length, get_or, take, ltb, eqb}
-use Rattle.meaning.specs.declared.Verdict.{Verdict}
-use Rattle.meaning.specs.declared.Verdict.TheVariants.{Readable, Unreadable}
+use Rattle.std.specs.Prelude.{ℕ, zero, suc, ◌+◌, ◌*◌, ◌-◌, ◌/◌, ◌%◌, Bool, cond, not, ◌&&◌, ◌||◌, List, [], ◌∷◌, ◌++◌, map, length, get_or, take, ltb, eqb, Result, Ok, Err}
+use Rattle.meaning.specs.declared.Refusal.{Refusal}
 use Rattle.meaning.specs.Lists.{ascii, same, some, flat, laid}
 use Rattle.meaning.specs.Bytes.{lines_of}
 use Rattle.meaning.specs.Refusals.{Test, test, Claim, claim, rule1, rule2, rule4, in_file, speaks}
 use Rattle.ranking.specs.Ranks.{before}
 use Rattle.indexes.specs.declared.Version.{Version}
-use Rattle.indexes.specs.declared.IndexAnswer.{IndexAnswer}
-use Rattle.indexes.specs.declared.IndexAnswer.TheVariants.{Whole, Unread, Barred}
+use Rattle.indexes.specs.Answer.{IndexAnswer}
+use Rattle.indexes.specs.declared.IndexRefusal.TheVariants.{Unread, Barred}
 use Rattle.indexes.specs.Order.{ids_of, id_of, repeats, ranked}
 
 -- ---- the bytes
@@ -126,21 +125,21 @@ lone_claims f s =
     ∷ claim 4 f 0 (rule4 [] f s 0)
     ∷ in_file f (lines_of s)
 
-unfoldable pub lone_verdict : ℕ → List ℕ → Verdict
+unfoldable pub lone_verdict : ℕ → List ℕ → Result Unit Refusal
 lone_verdict f s = speaks (lone_claims f s)
 
 -- the file's own refusal, or an answer about the index
-abbrev pub if_read : Verdict → IndexAnswer → IndexAnswer
-if_read Readable a = a
-if_read (Unreadable r) a = Unread r
+abbrev pub if_read : Result Unit Refusal → IndexAnswer → IndexAnswer
+if_read (Ok tt) a = a
+if_read (Err r) a = Err (Unread r)
 
 -- A file number outside 1 to 4 asked of reader or writer answers 42 at once; then the file's own refusal speaks.
-unfoldable pub asked_of : ℕ → Verdict → IndexAnswer → IndexAnswer
-asked_of f own a = cond (indexed f) (if_read own a) (Barred 42)
+unfoldable pub asked_of : ℕ → Result Unit Refusal → IndexAnswer → IndexAnswer
+asked_of f own a = cond (indexed f) (if_read own a) (Err (Barred 42))
 
 -- a broken rule, or an index of so many bytes
 unfoldable pub barred_or : ℕ → ℕ → IndexAnswer
-barred_or n size = cond (eqb n 0) (Whole size) (Barred n)
+barred_or n size = cond (eqb n 0) (Ok size) (Err (Barred n))
 
 -- ---- the reader and the writer
 
@@ -156,15 +155,15 @@ wrote f s room =
 
 -- the buffer after the writer's answer: a refusal changes nothing, an index stands at its start and leaves the rest unchanged
 abbrev pub left_by : IndexAnswer → List ℕ → List ℕ → List ℕ
-left_by (Whole n) index lent = laid index lent
-left_by (Unread r) index lent = lent
-left_by (Barred n) index lent = lent
+left_by (Ok n) index lent = laid index lent
+left_by (Err (Unread r)) index lent = lent
+left_by (Err (Barred n)) index lent = lent
 
 unfoldable pub written : ℕ → List ℕ → List ℕ → List ℕ
 written f s lent = left_by (wrote f s (length lent)) (index_of (version_of (length (ids_of f s))) f (ranked (ids_of f s))) lent
 
 -- what document 02 calls each case of the answer, as five numbers: number (0 written or accepted), the file's own refusal's file, line and column, the index's length
 unfoldable pub index_numbers : IndexAnswer → List ℕ
-index_numbers (Whole n) = 0 ∷ 0 ∷ 0 ∷ 0 ∷ n ∷ []
-index_numbers (Unread r) = r.number ∷ r.file ∷ r.line ∷ r.column ∷ 0 ∷ []
-index_numbers (Barred n) = n ∷ 0 ∷ 0 ∷ 0 ∷ 0 ∷ []
+index_numbers (Ok n) = 0 ∷ 0 ∷ 0 ∷ 0 ∷ n ∷ []
+index_numbers (Err (Unread r)) = r.number ∷ r.file ∷ r.line ∷ r.column ∷ 0 ∷ []
+index_numbers (Err (Barred n)) = n ∷ 0 ∷ 0 ∷ 0 ∷ 0 ∷ []

@@ -1,12 +1,11 @@
 -- Larger feeds, document 02's E9, sentence by sentence, of calls that are lent file f. The limits of rules 1 and 2 stand in meaning's Limits.
-use Rattle.std.specs.Prelude.{ℕ, ◌+◌, ◌*◌, ◌≤◌, ◌<◌, ◌≡◌, ◌↔◌, ◌⊎◌, true, false, List, [], ◌∷◌, ◌++◌, map, length, take, ltb}
+use Rattle.std.specs.Prelude.{ℕ, ◌+◌, ◌*◌, ◌≤◌, ◌<◌, ◌≡◌, ◌↔◌, ◌⊎◌, true, false, List, [], ◌∷◌, ◌++◌, map, length, take, ltb, Result}
 use Rattle.meaning.specs.declared.Refusal.{Refusal}
-use Rattle.meaning.specs.declared.Verdict.{Verdict}
 use Rattle.meaning.specs.Lists.{ascii, flat}
 use Rattle.meaning.specs.Bytes.{count_lf, lines_of}
 use Rattle.meaning.specs.Refusals.{Test, test, Claim, claim, rule4, in_file, speaks, verdict_numbers}
 use Rattle.meaning.specs.Promises.{says_readable}
-use Rattle.indexes.specs.declared.IndexAnswer.{IndexAnswer}
+use Rattle.indexes.specs.Answer.{IndexAnswer}
 use Rattle.indexes.specs.Order.{ids_of, repeats, ranked, Rising}
 use Rattle.indexes.specs.Index.{low_first, number_at, version1, version2, index_of, head_length, rule40, other_version, misfits, rule43, rule44, spoken, indexed, asked_of, barred_or, checked, wrote, written, index_numbers}
 use Rattle.indexes.specs.Promises.{Bytes, Reads, says_whole, says_unread, says_barred}
@@ -21,7 +20,7 @@ older_claims f s =
     ∷ claim 4 f 0 (rule4 [] f s 0)
     ∷ in_file f (lines_of s)
 
-unfoldable pub older_verdict : ℕ → List ℕ → Verdict
+unfoldable pub older_verdict : ℕ → List ℕ → Result Unit Refusal
 older_verdict f s = speaks (older_claims f s)
 
 -- The tests of E4: version 1 is the only one.

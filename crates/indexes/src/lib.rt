@@ -1,7 +1,7 @@
 #![tactic(auto)]
 // What an index beside the feed is, and what is answered about one.
-ghost use Rattle.std.specs.Prelude.{◌≡◌, cond};
-ghost use Rattle.indexes.specs.Index.{version1, version2, version_of, version_named};
+ghost use Rattle.std.specs.Prelude.{◌≡◌};
+ghost use Rattle.indexes.specs.Index.{version_of, version_named};
 
 use meaning::Refusal;
 
@@ -11,48 +11,42 @@ pub const LEAST: usize = 8;
 // How many bytes stand before the count.
 pub const BEFORE: usize = 6;
 
-// A version: its number, and in how many bytes the count and each record number stand.
+// A version: its number, and in how many bytes the count and each record number stand. No enum, since `version1` and `version2` are these two numbers.
 #[derive(Clone, Copy)]
 pub struct Version {
     pub number: usize,
     pub width: usize,
 }
 
-// Version 1, or else version 2.
-fn chosen(first: bool) -> Version
-    ensures { result ≡ cond first version1 version2 }
-{
-    if first {
-        return Version {
-            number: 1,
-            width: 2,
-        };
-    }
-    Version {
-        number: 2,
-        width: 4,
-    }
-}
+// The version whose numbers stand in two bytes.
+const FIRST: Version = Version {
+    number: 1,
+    width: 2,
+};
+
+// The version whose numbers stand in four.
+const SECOND: Version = Version {
+    number: 2,
+    width: 4,
+};
 
 // Version 1 up to 65,535 records and version 2 above.
 pub fn version_of(n: usize) -> Version
     ensures { result ≡ version_of n }
 {
-    chosen(n < 65536)
+    if n < 65536 { FIRST } else { SECOND }
 }
 
 // The version with this number, where it is 1 or 2.
 pub fn version_named(k: usize) -> Version
     ensures { result ≡ version_named k }
 {
-    chosen(k == 1)
+    if k == 1 { FIRST } else { SECOND }
 }
 
-// The answer of the index's writer and reader.
+// Why an index is neither written nor accepted. Else the writer and the reader answer its length.
 #[derive(Clone, Copy)]
-pub enum IndexAnswer {
-    // an index of so many bytes was written, or is accepted
-    Whole(usize),
+pub enum IndexRefusal {
     // the file's own refusal
     Unread(Refusal),
     // a refusal from 40 to 46, which names no file and no line

@@ -1,8 +1,8 @@
 #![tactic(auto)]
 // What the stored numbers of one line, and a few tests of its values, say of each binding rule.
-ghost use Rattle.std.specs.Prelude.{◌≡◌, ◌||◌};
+ghost use Rattle.std.specs.Prelude.{◌≡◌, ◌≤◌, ◌||◌, false};
 ghost use Rattle.meaning.specs.Rules.{kind_of_parent, is_late};
-ghost use Rattle.judging.specs.Judging.{loose, off_kind, misplaced, half_timed, sooner, on_request, stop_judged, route_judged, service_judged, trip_judged, time_judged, date_judged};
+ghost use Rattle.judging.specs.Judging.{filled_up, loose, off_kind, misplaced, half_timed, sooner, on_request, stop_judged, route_judged, service_judged, trip_judged, time_judged, date_judged};
 
 use meaning::Time;
 use rows::times;
@@ -81,6 +81,16 @@ fn is_either_late(arrival: Time, departure: Time) -> bool
     is_late(arrival) | is_late(departure)
 }
 
+// What was judged of the first rules of a line, filled up by false.
+fn filled_up<const N: usize>(broken: [bool; N]) -> [bool; MOST_RULES]
+    requires { N ≤ 9 }
+    ensures { result ≡ filled_up false broken.entry }
+{
+    let mut all = [false; MOST_RULES];
+    all[..N].copy_from_slice(&broken);
+    all
+}
+
 // Rules 20, 21 and 22 on a line of stops.txt.
 pub fn judge_stop(
     repeats: bool,
@@ -91,31 +101,25 @@ pub fn judge_stop(
 ) -> [bool; MOST_RULES]
     ensures { result ≡ stop_judged repeats no_parent parent kind parent_kind }
 {
-    let mut broken = [false; MOST_RULES];
-    broken[0] = repeats;
-    broken[1] = is_loose(no_parent, parent);
-    broken[2] = is_misplaced(no_parent, parent, kind, parent_kind);
-    broken
+    filled_up([
+        repeats,
+        is_loose(no_parent, parent),
+        is_misplaced(no_parent, parent, kind, parent_kind),
+    ])
 }
 
 // Rules 20 and 25 on a line of routes.txt.
 pub fn judge_route(repeats: bool, nameless: bool) -> [bool; MOST_RULES]
     ensures { result ≡ route_judged repeats nameless }
 {
-    let mut broken = [false; MOST_RULES];
-    broken[0] = repeats;
-    broken[1] = nameless;
-    broken
+    filled_up([repeats, nameless])
 }
 
 // Rules 20 and 24 on a line of calendar.txt.
 pub fn judge_service(repeats: bool, start: usize, end: usize) -> [bool; MOST_RULES]
     ensures { result ≡ service_judged repeats start end }
 {
-    let mut broken = [false; MOST_RULES];
-    broken[0] = repeats;
-    broken[1] = end < start;
-    broken
+    filled_up([repeats, end < start])
 }
 
 // Rules 20, 21, 30 and 31 on a line of trips.txt, none of whose references is empty, by rule 12.
@@ -129,12 +133,12 @@ pub fn judge_trip(
 ) -> [bool; MOST_RULES]
     ensures { result ≡ trip_judged repeats route service dated paired open_ended }
 {
-    let mut broken = [false; MOST_RULES];
-    broken[0] = repeats;
-    broken[1] = is_loose(false, route) | (is_loose(false, service) & is_loose(false, dated));
-    broken[2] = !repeats & !paired;
-    broken[3] = !repeats & open_ended;
-    broken
+    filled_up([
+        repeats,
+        is_loose(false, route) | (is_loose(false, service) & is_loose(false, dated)),
+        !repeats & !paired,
+        !repeats & open_ended,
+    ])
 }
 
 // Rules 21, 23, 26 to 29 and 60 to 62 on a line of stop_times.txt, neither of whose references is empty, by rule 12.
@@ -169,7 +173,5 @@ pub fn judge_time(
 pub fn judge_date(repeats: bool) -> [bool; MOST_RULES]
     ensures { result ≡ date_judged repeats }
 {
-    let mut broken = [false; MOST_RULES];
-    broken[0] = repeats;
-    broken
+    filled_up([repeats])
 }

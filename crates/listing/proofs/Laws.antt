@@ -1,20 +1,24 @@
 -- Entries that come in one by one end in the list, the written ones and the total that the definitions say.
 use mathlib.Core.Path.{◌≡◌, refl, sym, ap, ◌∙◌}
 use mathlib.Core.List.{List, [], ◌∷◌, ◌++◌, append_assoc, append-nil}
-use mathlib.Core.Bool.{Bool, true, false, cond}
+use mathlib.Core.Bool.{Bool, true, false, cond, not, ◌&&◌, ◌||◌}
 use Prim.Native.Nat.{ℕ, suc, ◌+◌, ◌*◌, ◌-◌, ◌/◌, ◌≤◌, ◌<◌}
 use native.Mathlib.Nat.{mul_comm, add-mul, one-mul, le-div_iff_mul-le}
 use native.Mathlib.Omega.{arith}
 use borrow.Author.Tests.{ltb-true, ltb-false}
 use lib.Dec.{ltb}
 use lib.IntN.{ℤ}
+use lib.Signed.{lt_z}
+use Rattle.std.proofs.Common.{Option, Some, Ordering, Less, Equal, Greater}
+use Rattle.std.specs.Ordering.{is_lt, is_some_and, partial_lt, partial_ordering_then}
+use Rattle.meaning.specs.contracts.PlacePartialOrd.TheImpl as place_order
 use lib.ListN.{length, take, length-append, length-take}
 use lib.Seq.{take_all, take-append-le, take-nil}
 use Rattle.meaning.specs.declared.Place.{Place}
 use Rattle.meaning.specs.Lists.{keep, flat, laid}
 use Rattle.meaning.specs.Refusals.{Test, Claim, on_line}
 use Rattle.meaning.specs.Rules.{on_records}
-use Rattle.meaning.specs.Pages.{place_in, behind, page_of, room_for, rowed, handed_of}
+use Rattle.meaning.specs.Pages.{place_in, above, behind, page_of, room_for, rowed, handed_of}
 use Rattle.meaning.specs.Findings.{Finding, finding, listed, triple}
 use Rattle.meaning.proofs.ListLaws.{keep_append}
 use Rattle.meaning.proofs.Handing.{Kind, rowed_append, rowed_length, handed_long}
@@ -36,6 +40,27 @@ listed_append (c ∷ cs) ds = go c.broken (finding c.file c.line c.number) (list
         → cond b (f ∷ listed (cs ++ ds)) (listed (cs ++ ds)) ≡ cond b (f ∷ listed cs) (listed cs) ++ listed ds
     go true f e = ap (λ (l : List Finding). f ∷ l) e
     go false f e = e
+
+-- ---- a place below another, by the derived order
+
+-- what two tests say: is it less, is it greater
+abbrev ordered : Bool → Bool → Option Ordering
+ordered a b = Some (cond a Less (cond b Greater Equal))
+
+pub less_behind : (p q : Place) → partial_lt (place_order.partial_cmp-value).it p q ≡ behind p q
+unfolding behind above
+less_behind p q = go (lt_z p.file q.file) (lt_z q.file p.file) (lt_z p.line q.line) (lt_z q.line p.line) (lt_z p.rule q.rule) (lt_z q.rule p.rule)
+  where
+    go :
+        (a b c d e f : Bool)
+        → is_some_and is_lt (partial_ordering_then (ordered a b) (partial_ordering_then (ordered c d) (ordered e f))) ≡ (a || (not b && (c || (not d && e))))
+    go true b c d e f = refl
+    go false true c d e f = refl
+    go false false true d e f = refl
+    go false false false true e f = refl
+    go false false false false true f = refl
+    go false false false false false true = refl
+    go false false false false false false = refl
 
 -- ---- one entry more, by its row
 

@@ -2,7 +2,7 @@
 // Entries handed out into a lent list: those after a starting place, as many as fit, and how many there are.
 ghost use Rattle.std.specs.Prelude.{◌≡◌, ◌+◌, ◌^◌, ◌<◌, ◌≤◌, length};
 ghost use Rattle.meaning.specs.Refusals.{claim};
-ghost use Rattle.meaning.specs.Pages.{above, behind, place_in};
+ghost use Rattle.meaning.specs.Pages.{behind, place_in};
 ghost use Rattle.listing.specs.Handing.{state, added, noted};
 
 use meaning::Place;
@@ -14,31 +14,17 @@ pub struct Sink {
     pub total: usize,
 }
 
-// Whether three numbers are strictly greater than three others, compared in that order.
-fn greater(a: i32, b: i32, c: i32, x: i32, y: i32, z: i32) -> bool
-    ensures { result ≡ above a b c x y z }
-{
-    if a < x {
-        return true;
-    }
-    if x < a {
-        return false;
-    }
-    if b < y {
-        return true;
-    }
-    if y < b {
-        return false;
-    }
-    c < z
-}
-
 // Whether an entry, by its row, is strictly greater than the starting place.
 fn comes_after(p: Place, e: &[i32]) -> bool
     requires { 3 ≤ length e.now }
     ensures { result ≡ behind p (place_in e.now) }
 {
-    greater(p.file, p.line, p.rule, e[0], e[1], e[2])
+    let here = Place {
+        file: e[0],
+        line: e[1],
+        rule: e[2],
+    };
+    p < here
 }
 
 // One entry more, by its row: file, line and rule, and whatever else it tells.
@@ -50,14 +36,12 @@ pub fn hand_out(out: &mut [i32], k: Sink, p: Place, e: &[i32]) -> Sink
 {
     let written = k.written;
     let total = k.total + 1;
-    if comes_after(p, e) {
-        if written < out.len() / e.len() {
-            rows::cells::store(out, written * e.len(), e);
-            return Sink {
-                written: written + 1,
-                total,
-            };
-        }
+    if comes_after(p, e) && written < out.len() / e.len() {
+        rows::cells::store(out, written * e.len(), e);
+        return Sink {
+            written: written + 1,
+            total,
+        };
     }
     Sink { written, total }
 }

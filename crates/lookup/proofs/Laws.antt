@@ -1,6 +1,9 @@
 -- The lookup's tests, one by one, and a turn of its halving.
+use Rattle.std.specs.Prelude.{Ok, Err, IsErr}
+use Rattle.std.specs.declared.cmp.Ordering.{Ordering}
 use mathlib.Core.Path.{◌≡◌, refl, sym, ap, ◌∙◌}
 use mathlib.Core.Bool.{Bool, true, false, not}
+use mathlib.Core.Logic.{◌⊎◌, inl, inr}
 use mathlib.Core.List.{List}
 use Prim.Native.Nat.{ℕ, zero, suc, ◌+◌, ◌*◌, ◌-◌, ◌^◌, ◌≤◌, ◌<◌}
 use native.Mathlib.Omega.{arith}
@@ -12,6 +15,7 @@ use borrow.Author.Tests.{ltb-true, lt-ltb, le-ltb, eq-eqb, ne_eqb}
 use mir.Syntax.{w32}
 use mir.Val.{SFits, to_z, of_z}
 use mir.ValLaws.{to_z-of_z}
+use Rattle.std.specs.declared.cmp.Ordering.TheVariants.{Less, Equal, Greater}
 use Rattle.meaning.specs.Lists.{empty}
 use Rattle.meaning.specs.Bytes.{good, fields, count_lf, marked, content, undouble, value}
 use Rattle.meaning.proofs.ListLaws.{both}
@@ -20,15 +24,10 @@ use Rattle.text.proofs.Spans.{up_few, up_exact}
 use Rattle.text.proofs.Values.{und_bare}
 use Rattle.num.specs.Signs.{nat_of}
 use Rattle.num.proofs.Laws.{kept}
-use Rattle.ranking.specs.declared.Order.{Order}
 use Rattle.ranking.specs.Ranks.{compare}
 use Rattle.indexes.specs.declared.Version.{Version}
 use Rattle.indexes.specs.Index.{number_at, version_of, version_named, index_length, entry, rule40, rule41}
-use Rattle.lookups.specs.declared.Standing.{Standing}
-use Rattle.lookups.specs.declared.Standing.TheVariants.{Before, Here, After, Unsound}
-use Rattle.lookups.specs.declared.LookupAnswer.{LookupAnswer}
-use Rattle.lookups.specs.declared.LookupAnswer.TheVariants.{Found, Refused}
-use Rattle.lookups.specs.Lookup.{named, own_count, miscounted, barred, outside, is_place, misplaced, not_one, number_in, raw_id, standing_of, standing_to, standing, middle, lastly, halve, standing_at, sought, lookup}
+use Rattle.lookups.specs.Lookup.{Standing, LookupAnswer, refused, named, own_count, miscounted, barred, outside, is_place, misplaced, not_one, number_in, raw_id, standing_of, standing_to, standing, middle, lastly, halve, standing_at, sought, lookup}
 
 -- ---- an index that is refused
 
@@ -78,6 +77,12 @@ within_at n (negsuc k) m e h = both true refl e
 pub handed : (z : ℤ) → SFits w32 z → to_z w32 (of_z w32 z) ≡ z
 handed z f = to_z-of_z w32 z f
 
+-- places are compared as the numbers that they are
+forward : (n : ℕ) (a e : ℤ) → is_place n a ≡ true → is_place n e ≡ true → lt_z e a ≡ ltb (nat_of e) (nat_of a)
+forward n (pos x) (pos y) h g = refl
+forward n (pos x) (negsuc y) h g = both false g refl
+forward n (negsuc x) e h g = both false h refl
+
 module _ (n : ℕ) (a e : ℤ) where
   pub misplaced_start : is_place n a ≡ false → true ≡ misplaced n a e
   unfolding misplaced
@@ -87,9 +92,9 @@ module _ (n : ℕ) (a e : ℤ) where
   unfolding misplaced
   misplaced_end h g = rw (h, g)
 
-  pub misplaced_back : is_place n a ≡ true → is_place n e ≡ true → (x y : ℕ) → x ≡ nat_of e → y ≡ nat_of a → ltb x y ≡ misplaced n a e
+  pub misplaced_back : is_place n a ≡ true → is_place n e ≡ true → lt_z e a ≡ misplaced n a e
   unfolding misplaced
-  misplaced_back h g x y i j = rw (h, g, i, j)
+  misplaced_back h g = rw (h, g, forward n a e h g)
 
 module _ (raw : List ℕ) where
   pub one_bad : good raw ≡ false → true ≡ not_one raw
@@ -107,16 +112,16 @@ module _ (raw : List ℕ) where
     one_line g x e = rw (h, eq-eqb (length (fields raw)) 1 (sym (up_exact _ k counted (omega arith)) ∙ g), e)
 
 module _ (code raw : List ℕ) where
-  pub stands_unsound : not_one raw ≡ true → Unsound ≡ standing_to code raw
+  pub stands_unsound : not_one raw ≡ true → refused ≡ standing_to code raw
   unfolding standing_to
   stands_unsound h = rw h
 
-  pub stands_as : not_one raw ≡ false → (o : Order) (c : List ℕ) (m : Bool) → c ≡ content raw → m ≡ marked raw → o ≡ compare (undouble false code) (undouble m c) → standing_of o ≡ standing_to code raw
+  pub stands_as : not_one raw ≡ false → (o : Ordering) (c : List ℕ) (m : Bool) → c ≡ content raw → m ≡ marked raw → o ≡ compare (undouble false code) (undouble m c) → standing_of o ≡ standing_to code raw
   unfolding standing_to value
   stands_as h o c m i j e = rw (h, ← i, ← j, ← und_bare code, ← e)
 
 module _ (s : List ℕ) (t : List ℤ) (code : List ℕ) (r : ℕ) where
-  pub stand_outside : length t < (r + 1) * 7 → Unsound ≡ standing s t code r
+  pub stand_outside : length t < (r + 1) * 7 → refused ≡ standing s t code r
   unfolding standing outside
   stand_outside h = rw (lt-ltb _ _ h)
 
@@ -128,7 +133,7 @@ module _ (s : List ℕ) (t : List ℤ) (code : List ℕ) (r : ℕ) where
       rw z (rw (kept (get_or t (r * 7) (pos 0)) h, kept (get_or t (r * 7 + 1) (pos 0)) g) at e)
 
   module _ (room : (r + 1) * 7 ≤ length t) where
-    pub stand_misplaced : misplaced (length s) (number_in t r 0) (number_in t r 1) ≡ true → Unsound ≡ standing s t code r
+    pub stand_misplaced : misplaced (length s) (number_in t r 0) (number_in t r 1) ≡ true → refused ≡ standing s t code r
     unfolding standing outside
     stand_misplaced h = rw (le-ltb _ _ room, h)
 
@@ -137,6 +142,11 @@ module _ (s : List ℕ) (t : List ℤ) (code : List ℕ) (r : ℕ) where
     stand_at h q e = rw (le-ltb _ _ room, h) e
 
 -- ---- a turn of the halving
+
+-- there is one refusal
+pub err_only : (r : LookupAnswer) → IsErr r → refused ≡ r
+err_only (Ok n) h = both false h refl
+err_only (Err e) h = refl
 
 module _ (at : ℕ → Standing) (en : ℕ → ℕ) (low high : ℕ) (some : low < high) where
   -- the answers that a range may have
@@ -149,31 +159,36 @@ module _ (at : ℕ → Standing) (en : ℕ → ℕ) (low high : ℕ) (some : low
   last_left one q r e f (suc n) h = rw (eq-eqb _ _ one, e, f)
 
   module _ (more : high - low ≡ 1 → ⊥) where
-    pub half_unsound : Unsound ≡ at (middle low high) → Is Refused
+    pub half_unsound : refused ≡ at (middle low high) → Is refused
     unfolding halve
     half_unsound e zero h = absurd (omega arith)
     half_unsound e (suc n) h = rw (ne_eqb _ _ more, ← e)
 
-    pub half_below : Before ≡ at (middle low high) → (a : LookupAnswer) → ((n : ℕ) → middle low high - low ≤ n → a ≡ halve at en n low (middle low high)) → Is a
+    pub half_below : (Ok Less) ≡ at (middle low high) → (a : LookupAnswer) → ((n : ℕ) → middle low high - low ≤ n → a ≡ halve at en n low (middle low high)) → Is a
     unfolding halve
     half_below e a w zero h = absurd (omega arith)
     half_below e a w (suc n) h = rw (ne_eqb _ _ more, ← e) (w n (omega arith))
 
-    pub half_here : Here ≡ at (middle low high) → (a : LookupAnswer) → ((n : ℕ) → high - middle low high ≤ n → a ≡ halve at en n (middle low high) high) → Is a
+    pub half_here : (Ok Equal) ≡ at (middle low high) → (a : LookupAnswer) → ((n : ℕ) → high - middle low high ≤ n → a ≡ halve at en n (middle low high) high) → Is a
     unfolding halve
     half_here e a w zero h = absurd (omega arith)
     half_here e a w (suc n) h = rw (ne_eqb _ _ more, ← e) (w n (omega arith))
 
-    pub half_above : After ≡ at (middle low high) → (a : LookupAnswer) → ((n : ℕ) → high - middle low high ≤ n → a ≡ halve at en n (middle low high) high) → Is a
+    pub half_above : (Ok Greater) ≡ at (middle low high) → (a : LookupAnswer) → ((n : ℕ) → high - middle low high ≤ n → a ≡ halve at en n (middle low high) high) → Is a
     unfolding halve
     half_above e a w zero h = absurd (omega arith)
     half_above e a w (suc n) h = rw (ne_eqb _ _ more, ← e) (w n (omega arith))
+
+    -- where the code is the id of the entry in the middle, or comes after it
+    pub half_upper : (o : Ordering) → (o ≡ Equal) ⊎ (o ≡ Greater) → Ok o ≡ at (middle low high) → (a : LookupAnswer) → ((n : ℕ) → high - middle low high ≤ n → a ≡ halve at en n (middle low high) high) → Is a
+    half_upper o (inl e) = let z : Ok o ≡ Ok Equal = ap Ok e in λ h. half_here (sym z ∙ h)
+    half_upper o (inr e) = let z : Ok o ≡ Ok Greater = ap Ok e in λ h. half_above (sym z ∙ h)
 
 -- ---- the answer
 
 module _ (s : List ℕ) (t : List ℤ) (b code : List ℕ) where
   module _ (v : Version) (is : v ≡ named b) (n : ℕ) (count : n ≡ number_at v.width b 6) where
-    pub sought_none : n ≡ 0 → Found 0 ≡ sought s t b code
+    pub sought_none : n ≡ 0 → Ok 0 ≡ sought s t b code
     unfolding sought own_count
     sought_none h = rw (← is, ← count, eq-eqb n 0 h)
 
@@ -184,12 +199,12 @@ module _ (s : List ℕ) (t : List ℤ) (b code : List ℕ) where
         let z : a ≡ halve (standing_at s t b code) (entry (named b) b) n 0 n = rw is at (w n (omega arith)) in
         rw (← c, ne_eqb n 0 h) z
 
-  pub look_empty : length code ≡ 0 → Found 0 ≡ lookup s t b code
+  pub look_empty : length code ≡ 0 → Ok 0 ≡ lookup s t b code
   unfolding lookup empty
   look_empty h = rw (eq-eqb _ _ h)
 
   module _ (h : length code ≡ 0 → ⊥) where
-    pub look_barred : barred b ≡ true → Refused ≡ lookup s t b code
+    pub look_barred : barred b ≡ true → refused ≡ lookup s t b code
     unfolding lookup empty
     look_barred e = rw (ne_eqb _ _ h, e)
 

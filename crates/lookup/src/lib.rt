@@ -1,14 +1,14 @@
 #![tactic(auto)]
 // One code, asked at the counter: the record with that id, found by halving the range of an index's entries.
-ghost use Rattle.std.specs.Prelude.{◌≡◌, ℕ, ◌+◌, ◌-◌, ◌^◌, ◌<◌, ◌≤◌};
+ghost use Rattle.std.specs.Prelude.{◌≡◌, ℕ, ◌+◌, ◌-◌, ◌^◌, ◌<◌, ◌≤◌, Ok};
 ghost use Rattle.indexes.specs.Index.{number_at, entry};
 ghost use Rattle.indexes.specs.Versions.{Wide};
 ghost use Rattle.lookups.specs.Lookup.{miscounted, barred, is_place, misplaced, not_one, standing_to, standing, lastly, halve, sought, lookup};
 
 use indexes::{BEFORE, Version};
-use lookups::{LookupAnswer, Standing};
-use ranking::Order;
-use rows::Stops;
+use lookups::Refused;
+use rows::{Stops, Table};
+use std::cmp::Ordering;
 
 // Has an index whose version has number k not the version of as many records as it counts, or not the length of its own count?
 fn is_miscounted(b: &[u8], k: usize) -> bool
@@ -44,23 +44,23 @@ fn is_barred(b: &[u8]) -> bool
 fn is_within(x: i32, n: usize) -> bool
     ensures { result ≡ is_place n «x» }
 {
-    if num::less(x, 0) {
-        return false;
+    match usize::try_from(x) {
+        Ok(place) => place <= n,
+        Err(_) => false,
     }
-    num::nat(x) <= n
 }
 
 // Does a place run backward, or outside a file of n bytes?
 fn is_misplaced(n: usize, a: i32, e: i32) -> bool
     ensures { result ≡ misplaced n «a» «e» }
 {
-    if is_within(a, n) {
-        if is_within(e, n) {
-            return num::nat(e) < num::nat(a);
-        }
+    if !is_within(a, n) {
         return true;
     }
-    true
+    if !is_within(e, n) {
+        return true;
+    }
+    e < a
 }
 
 // Are bytes, walked alone, not one good field without LF?
@@ -68,53 +68,44 @@ fn is_not_one(raw: &[u8]) -> bool
     ensures { result ≡ not_one raw.now }
 {
     let m = text::measure(raw);
-    if m.good {
-        if m.fields == 1 {
-            return text::count_lf(raw) != 0;
-        }
+    if !m.good {
         return true;
     }
-    true
+    m.fields != 1 || text::count_lf(raw) != 0
 }
 
 // How a code stands to the value of a raw field.
-fn stand_to(code: &[u8], raw: &[u8]) -> Standing
+fn stand_to(code: &[u8], raw: &[u8]) -> Result<Ordering, Refused>
     ensures { result ≡ standing_to code.now raw.now }
 {
     if is_not_one(raw) {
-        return Standing::Unsound;
+        return Err(Refused);
     }
-    match ranking::compare_content(code, false, text::content_of(raw), text::is_marked(raw)) {
-        Order::Less => Standing::Before,
-        Order::Equal => Standing::Here,
-        Order::Greater => Standing::After,
-    }
+    Ok(ranking::compare_content(code, false, text::content_of(raw), text::is_marked(raw)))
 }
 
 // How a code stands to the id of a record.
-fn stand(s: &[u8], t: &[i32], code: &[u8], r: usize) -> Standing
+fn stand(s: &[u8], t: &[i32], code: &[u8], r: usize) -> Result<Ordering, Refused>
     requires { r < 2 ^ 32 }
     ensures { result ≡ standing s.now t.now code.now r }
 {
     if t.len() < (r + 1) * Stops::WIDTH {
-        return Standing::Unsound;
+        return Err(Refused);
     }
     let at = r * Stops::WIDTH;
     if is_misplaced(s.len(), t[at], t[at + 1]) {
-        return Standing::Unsound;
+        return Err(Refused);
     }
     stand_to(code, ordering::raw_id(s, t, Stops::WIDTH, r))
 }
 
-// What the one entry that is left tells, which lists record r.
-fn answer_of(q: Standing, r: usize) -> LookupAnswer
-    ensures { result ≡ lastly q r }
+// The record r that the one entry left lists, where the code is its id, else 0.
+fn answer_of(order: Ordering, r: usize) -> usize
+    ensures { Ok result ≡ lastly (Ok order) r }
 {
-    match q {
-        Standing::Before => LookupAnswer::Found(0),
-        Standing::Here => LookupAnswer::Found(r),
-        Standing::After => LookupAnswer::Found(0),
-        Standing::Unsound => LookupAnswer::Refused,
+    match order {
+        Ordering::Equal => r,
+        Ordering::Less | Ordering::Greater => 0,
     }
 }
 
@@ -127,44 +118,42 @@ fn seek(
     v: Version,
     low: usize,
     high: usize,
-) -> LookupAnswer
+) -> Result<usize, Refused>
     requires { (low < high) × (high < 2 ^ 32) × Wide v }
     ensures { (n : ℕ) → high - low ≤ n → result ≡ halve (λ i. standing s.now t.now code.now (entry v b.now i)) (entry v b.now) n low high }
 {
     if high - low == 1 {
         let r = index_bytes::entry_at(b, v, low);
-        return answer_of(stand(s, t, code, r), r);
+        return Ok(answer_of(stand(s, t, code, r)?, r));
     }
     let mid = low + (high - low) / 2;
-    match stand(s, t, code, index_bytes::entry_at(b, v, mid)) {
-        Standing::Before => seek(s, t, b, code, v, low, mid),
-        Standing::Here => seek(s, t, b, code, v, mid, high),
-        Standing::After => seek(s, t, b, code, v, mid, high),
-        Standing::Unsound => LookupAnswer::Refused,
+    match stand(s, t, code, index_bytes::entry_at(b, v, mid))? {
+        Ordering::Less => seek(s, t, b, code, v, low, mid),
+        Ordering::Equal | Ordering::Greater => seek(s, t, b, code, v, mid, high),
     }
 }
 
 // The answer of an index that isn't refused.
-fn sought_in(s: &[u8], t: &[i32], b: &[u8], code: &[u8]) -> LookupAnswer
+fn sought_in(s: &[u8], t: &[i32], b: &[u8], code: &[u8]) -> Result<usize, Refused>
     ensures { result ≡ sought s.now t.now b.now code.now }
 {
     let v = indexes::version_named(index_bytes::pair_at(b, 3));
     let n = index_bytes::number_at(b, v, BEFORE);
     if n == 0 {
-        return LookupAnswer::Found(0);
+        return Ok(0);
     }
     seek(s, t, b, code, v, 0, n)
 }
 
 // The record of stops.txt with a code as its id, or 0; any file, any table, any index, any code.
-pub fn look_up(file: &[u8], table: &[i32], index: &[u8], code: &[u8]) -> LookupAnswer
+pub fn look_up(file: &[u8], table: &[i32], index: &[u8], code: &[u8]) -> Result<usize, Refused>
     ensures { result ≡ lookup file.now table.now index.now code.now }
 {
-    if code.len() == 0 {
-        return LookupAnswer::Found(0);
+    if code.is_empty() {
+        return Ok(0);
     }
     if is_barred(index) {
-        return LookupAnswer::Refused;
+        return Err(Refused);
     }
     sought_in(file, table, index, code)
 }

@@ -1,7 +1,7 @@
 // Asks for codes at the counter and writes what is answered; the file `stdout` has what document 02's E5 and E9 say.
 #![tactic(auto)]
 
-use lookups::LookupAnswer;
+use lookups::Refused;
 use std::io;
 
 // Record 1 is B, record 2 is A in quotes, record 3 is AB: their ids stand from 36 to 37, 44 to 47 and 54 to 56.
@@ -21,9 +21,9 @@ fn say(rt: &impl Print, word: &[u8]) -> io::Result<()> {
 }
 
 // Writes an answer after a blank: a record, "none", or 50.
-fn tell_answer(rt: &impl Print, a: LookupAnswer) -> io::Result<()> {
+fn tell_answer(rt: &impl Print, a: Result<usize, Refused>) -> io::Result<()> {
     match a {
-        LookupAnswer::Found(r) => {
+        Ok(r) => {
             if r == 0 {
                 say(rt, b" none")
             } else {
@@ -31,7 +31,7 @@ fn tell_answer(rt: &impl Print, a: LookupAnswer) -> io::Result<()> {
                 rt.print(r)
             }
         }
-        LookupAnswer::Refused => say(rt, b" 50"),
+        Err(Refused) => say(rt, b" 50"),
     }
 }
 
@@ -324,10 +324,8 @@ fn blank_second() -> [u8; 262154] {
 // 65,536 ids.
 fn many_ids() -> [u8; 262144] {
     let mut s = blank_ids();
-    let mut i: usize = 0;
-    while i < 262144 {
-        s[i] = id_byte(i);
-        i += 1;
+    for (i, byte) in s.iter_mut().enumerate() {
+        *byte = id_byte(i);
     }
     s
 }
@@ -335,10 +333,8 @@ fn many_ids() -> [u8; 262144] {
 // Their table.
 fn many_records() -> [i32; 458759] {
     let mut t = blank_table();
-    let mut i: usize = 0;
-    while i < 458759 {
-        t[i] = number_of(i / 7, i % 7);
-        i += 1;
+    for (i, number) in t.iter_mut().enumerate() {
+        *number = number_of(i / 7, i % 7);
     }
     t
 }
@@ -346,10 +342,8 @@ fn many_records() -> [i32; 458759] {
 // An index of version 1 of the first 65,535 of them.
 fn first_index() -> [u8; 131078] {
     let mut b = blank_first();
-    let mut i: usize = 0;
-    while i < 131078 {
-        b[i] = first_byte(i);
-        i += 1;
+    for (i, byte) in b.iter_mut().enumerate() {
+        *byte = first_byte(i);
     }
     b
 }
@@ -357,10 +351,8 @@ fn first_index() -> [u8; 131078] {
 // An index of version 2 of all of them.
 fn second_index() -> [u8; 262154] {
     let mut b = blank_second();
-    let mut i: usize = 0;
-    while i < 262154 {
-        b[i] = second_byte(i);
-        i += 1;
+    for (i, byte) in b.iter_mut().enumerate() {
+        *byte = second_byte(i);
     }
     b
 }

@@ -1,4 +1,5 @@
 -- One code, asked at the counter: each sentence of document 02's E5 holds.
+use Rattle.std.specs.Prelude.{Ok, Err}
 use mathlib.Core.Path.{◌≡◌, refl, sym, ap, ◌∙◌}
 use mathlib.Core.Logic.{◌⊎◌, inl, inr}
 use mathlib.Core.Bool.{Bool, true, false, cond, not, ◌||◌}
@@ -9,6 +10,7 @@ use lib.Dec.{ltb, eqb}
 use lib.IntN.{ℤ}
 use lib.ListN.{length, get_or}
 use borrow.Author.Tests.{ltb-true, ltb-false, lt-ltb, le-ltb, eqb-true, eqb-false, eq-eqb, ne_eqb}
+use Rattle.std.specs.declared.cmp.Ordering.TheVariants.{Less, Equal, Greater}
 use Rattle.meaning.specs.Lists.{empty, same, find}
 use Rattle.meaning.specs.Bytes.{lines_of, count_lf}
 use Rattle.meaning.specs.Tables.{refer}
@@ -17,19 +19,14 @@ use Rattle.meaning.proofs.ListLaws.{both, same_equal, same_self}
 use Rattle.meaning.proofs.Laws.{place_of, get_d_mem}
 use Rattle.meaning.proofs.References.{find_first}
 use Rattle.text.proofs.Lines.{lines_all}
-use Rattle.ranking.specs.declared.Order.{Order}
-use Rattle.ranking.specs.declared.Order.TheVariants.{Less, Equal, Greater}
+use Rattle.std.specs.declared.cmp.Ordering.{Ordering}
 use Rattle.ranking.specs.Ranks.{compare, turned}
 use Rattle.ranking.proofs.Laws.{compare_self, compare_equal, compare_turned, before_less}
 use Rattle.indexes.specs.Order.{ids_of, id_of, Rising}
 use Rattle.indexes.specs.Index.{number_at, version_of, version_named, index_length, entry, rule40, other_version, rule41}
 use Rattle.indexes.proofs.Order.{rising_length}
 use Rattle.id_places.proofs.Own.{sized, ids_count, id_there, id_is_lem}
-use Rattle.lookups.specs.declared.Standing.{Standing}
-use Rattle.lookups.specs.declared.Standing.TheVariants.{Before, Here, After, Unsound}
-use Rattle.lookups.specs.declared.LookupAnswer.{LookupAnswer}
-use Rattle.lookups.specs.declared.LookupAnswer.TheVariants.{Found, Refused}
-use Rattle.lookups.specs.Lookup.{named, own_count, miscounted, barred, stop_width, outside, standing_of, standing, halve, standing_at, sought, lookup, lookup_numbers}
+use Rattle.lookups.specs.Lookup.{Standing, LookupAnswer, refused, named, own_count, miscounted, barred, stop_width, outside, standing_of, standing, halve, standing_at, sought, lookup, lookup_numbers}
 use Rattle.lookups.specs.Promises.{says, fifty, Unfit, Stumbles, Counter}
 use Rattle.lookups.proofs.Halving.{halve_few, halve_none, halve_found, Stands, halve_listed, halve_unsound, halve_stopped}
 use Rattle.lookups.proofs.Unfit.{unfit_unsound, unsound_unfit}
@@ -50,11 +47,11 @@ something [] h = absurd (h refl)
 something (c ∷ r) h = ne_eqb (suc (length r)) 0 (λ z. omega arith)
 
 module _ (s : List ℕ) (t : List ℤ) (b code : List ℕ) where
-  asked_empty : empty code ≡ true → lookup s t b code ≡ Found 0
+  asked_empty : empty code ≡ true → lookup s t b code ≡ Ok 0
   unfolding lookup
   asked_empty h = rw h
 
-  asked_barred : empty code ≡ false → barred b ≡ true → lookup s t b code ≡ Refused
+  asked_barred : empty code ≡ false → barred b ≡ true → lookup s t b code ≡ refused
   unfolding lookup
   asked_barred h g = rw (h, g)
 
@@ -63,11 +60,11 @@ module _ (s : List ℕ) (t : List ℤ) (b code : List ℕ) where
   asked_sought h g = rw (h, g)
 
   -- no entries, or no answer but that of the entries
-  asked_none : barred b ≡ false → own_count b ≡ 0 → lookup s t b code ≡ Found 0
+  asked_none : barred b ≡ false → own_count b ≡ 0 → lookup s t b code ≡ Ok 0
   unfolding sought
   asked_none h g = go (empty code) refl
     where
-      go : (e : Bool) → empty code ≡ e → lookup s t b code ≡ Found 0
+      go : (e : Bool) → empty code ≡ e → lookup s t b code ≡ Ok 0
       go true e = asked_empty e
       go false e = asked_sought e h ∙ rw (eq-eqb (own_count b) 0 g)
 
@@ -201,7 +198,7 @@ module _ (s : List ℕ) (t : List ℤ) (b : List ℕ) (ours : Paired s t b) wher
           at_is (id i) j h ∙ rw z;
     }
 
-    found_at : lookup s t b (id i) ≡ Found (get_or rs i 0)
+    found_at : lookup s t b (id i) ≡ Ok (get_or rs i 0)
     found_at =
         let k = record_in i inside in
         asked_some s t b (id i) (id_some (get_or rs i 0) k.0 k.1) (not_barred ids b few ours.index) (length ids) (count_is ids b few ours.index) (omega arith)
@@ -209,7 +206,7 @@ module _ (s : List ℕ) (t : List ℤ) (b : List ℕ) (ours : Paired s t b) wher
         ∙ rw (entry_is i inside))
 
   -- the record with that id,
-  found_one : (code : List ℕ) (r : ℕ) → 1 ≤ r → r ≤ length ids → id_of ids r ≡ code → lookup s t b code ≡ Found r
+  found_one : (code : List ℕ) (r : ℕ) → 1 ≤ r → r ≤ length ids → id_of ids r ≡ code → lookup s t b code ≡ Ok r
   found_one code r h g e =
       let p = place_of rs 0 r (rising.every r h g) in
       let z : get_or rs p.index 0 ≡ r = p.here in
@@ -217,18 +214,18 @@ module _ (s : List ℕ) (t : List ℤ) (b : List ℕ) (ours : Paired s t b) wher
       rw (q, z) at (found_at p.index (omega (arith, p.inside, long)))
 
   -- or 0
-  passed : (code : List ℕ) → ((r : ℕ) → 1 ≤ r → r ≤ length ids → id_of ids r ≡ code → ⊥) → (j : ℕ) → 0 ≤ j → j < length ids → (standing_at s t b code j ≡ Before) ⊎ (standing_at s t b code j ≡ After)
+  passed : (code : List ℕ) → ((r : ℕ) → 1 ≤ r → r ≤ length ids → id_of ids r ≡ code → ⊥) → (j : ℕ) → 0 ≤ j → j < length ids → (standing_at s t b code j ≡ Ok Less) ⊎ (standing_at s t b code j ≡ Ok Greater)
   passed code none j a h = go (compare code (id j)) refl
     where
-      go : (o : Order) → compare code (id j) ≡ o → (standing_at s t b code j ≡ Before) ⊎ (standing_at s t b code j ≡ After)
+      go : (o : Ordering) → compare code (id j) ≡ o → (standing_at s t b code j ≡ Ok Less) ⊎ (standing_at s t b code j ≡ Ok Greater)
       go Less e = inl (at_is code j h ∙ rw e)
       go Equal e = let k = record_in j h in absurd (none (get_or rs j 0) k.0 k.1 (sym (compare_equal code (id j) e)))
       go Greater e = inr (at_is code j h ∙ rw e)
 
-  missing_none : (code : List ℕ) → ((r : ℕ) → 1 ≤ r → r ≤ length ids → id_of ids r ≡ code → ⊥) → lookup s t b code ≡ Found 0
+  missing_none : (code : List ℕ) → ((r : ℕ) → 1 ≤ r → r ≤ length ids → id_of ids r ≡ code → ⊥) → lookup s t b code ≡ Ok 0
   missing_none code none = go (empty code) refl (ltb 0 (length ids)) refl
     where
-      go : (e : Bool) → empty code ≡ e → (u : Bool) → ltb 0 (length ids) ≡ u → lookup s t b code ≡ Found 0
+      go : (e : Bool) → empty code ≡ e → (u : Bool) → ltb 0 (length ids) ≡ u → lookup s t b code ≡ Ok 0
       go true e u f = asked_empty s t b code e
       go false e false f = asked_none s t b code (not_barred ids b few ours.index) (omega (arith, count_is ids b few ours.index, ltb-false 0 (length ids) f))
       go false e true f =
@@ -236,14 +233,14 @@ module _ (s : List ℕ) (t : List ℤ) (b : List ℕ) (ours : Paired s t b) wher
           ∙ halve_none (standing_at s t b code) (entry (named b) b) (length ids) 0 (length ids) (ltb-true 0 (length ids) f) (omega arith) (passed code none)
 
   -- as reading every line would have it
-  read_every : (code : List ℕ) → lookup s t b code ≡ Found (refer code ids)
+  read_every : (code : List ℕ) → lookup s t b code ≡ Ok (refer code ids)
   unfolding refer id_of
   read_every code = go (empty code) refl (find code 1 ids) (find_first code 1 ids)
     where
       back : (k : ℕ) → 1 + k - 1 ≡ k
       back k = omega arith
 
-      go : (e : Bool) → empty code ≡ e → (r : ℕ) → First code 1 ids r → lookup s t b code ≡ Found (cond e 0 r)
+      go : (e : Bool) → empty code ≡ e → (r : ℕ) → First code 1 ids r → lookup s t b code ≡ Ok (cond e 0 r)
       go true e r f = asked_empty s t b code e
       go false e r (absent z none) = rw z (missing_none code (λ q h g i. both (same code code) (same_self code) (rw (at_one q h i) at (none (q - 1) (omega arith)))))
         where
@@ -253,34 +250,34 @@ module _ (s : List ℕ) (t : List ℤ) (b : List ℕ) (ours : Paired s t b) wher
 
 -- ---- any other table or index
 
-told_found : (a : LookupAnswer) (r : ℕ) → lookup_numbers a ≡ says r → a ≡ Found r
+told_found : (a : LookupAnswer) (r : ℕ) → lookup_numbers a ≡ says r → a ≡ Ok r
 unfolding lookup_numbers
-told_found (Found q) r e = let z : q ≡ r = cc in ap Found z
-told_found Refused r e = let z : ◌≡◌ {A = ℕ} 50 0 = cc in absurd (omega arith)
+told_found (Ok q) r e = let z : q ≡ r = cc in ap Ok z
+told_found (Err x) r e = let z : ◌≡◌ {A = ℕ} 50 0 = cc in absurd (omega arith)
 
-found_none : {X : Type 0} (r : ℕ) → 1 ≤ r → Found 0 ≡ Found r → X
+found_none : {X : Type 0} (r : ℕ) → 1 ≤ r → ◌≡◌ {A = LookupAnswer} (Ok 0) (Ok r) → X
 found_none r h e = let z : ◌≡◌ {A = ℕ} 0 r = cc in absurd (omega arith)
 
-refused_found : {X : Type 0} (r : ℕ) → Refused ≡ Found r → X
+refused_found : {X : Type 0} (r : ℕ) → refused ≡ Ok r → X
 refused_found r e = let z : ◌≡◌ {A = ℕ} 0 1 = cc in absurd (omega arith)
 
-unsound_here : {X : Type 0} → Unsound ≡ Here → X
+unsound_here : {X : Type 0} → refused ≡ Ok Equal → X
 unsound_here e = let z : ◌≡◌ {A = ℕ} 0 1 = cc in absurd (omega arith)
 
-here_inside : (s : List ℕ) (t : List ℤ) (code : List ℕ) (r : ℕ) → standing s t code r ≡ Here → (r + 1) * stop_width ≤ length t
+here_inside : (s : List ℕ) (t : List ℤ) (code : List ℕ) (r : ℕ) → standing s t code r ≡ Ok Equal → (r + 1) * stop_width ≤ length t
 unfolding standing outside
 here_inside s t code r e = go _ (ltb (length t) ((r + 1) * stop_width)) refl e
   where
-    go : (k : Standing) (u : Bool) → ltb (length t) ((r + 1) * stop_width) ≡ u → cond u Unsound k ≡ Here → (r + 1) * stop_width ≤ length t
+    go : (k : Standing) (u : Bool) → ltb (length t) ((r + 1) * stop_width) ≡ u → cond u refused k ≡ Ok Equal → (r + 1) * stop_width ≤ length t
     go k true f g = unsound_here g
     go k false f g = ltb-false (length t) ((r + 1) * stop_width) f
 
 module _ (s : List ℕ) (t : List ℤ) (b code : List ℕ) where
-  found_inside : (r : ℕ) → 1 ≤ r → lookup s t b code ≡ Found r → (r + 1) * stop_width ≤ length t
+  found_inside : (r : ℕ) → 1 ≤ r → lookup s t b code ≡ Ok r → (r + 1) * stop_width ≤ length t
   unfolding lookup sought
   found_inside r h e = go (empty code) (barred b) (eqb (own_count b) 0) e
     where
-      go : (x y z : Bool) → cond x (Found 0) (cond y Refused (cond z (Found 0) (halve (standing_at s t b code) (entry (named b) b) (own_count b) 0 (own_count b)))) ≡ Found r → (r + 1) * stop_width ≤ length t
+      go : (x y z : Bool) → cond x (Ok 0) (cond y refused (cond z (Ok 0) (halve (standing_at s t b code) (entry (named b) b) (own_count b) 0 (own_count b)))) ≡ Ok r → (r + 1) * stop_width ≤ length t
       go true y z f = found_none r h f
       go false true z f = refused_found r f
       go false false true f = found_none r h f
@@ -290,22 +287,22 @@ module _ (s : List ℕ) (t : List ℤ) (b code : List ℕ) where
 
 -- ---- what is answered 50
 
-told_refused : (a : LookupAnswer) → lookup_numbers a ≡ fifty → a ≡ Refused
+told_refused : (a : LookupAnswer) → lookup_numbers a ≡ fifty → a ≡ refused
 unfolding lookup_numbers
-told_refused (Found q) e = let z : ◌≡◌ {A = ℕ} 0 50 = cc in absurd (omega arith)
-told_refused Refused e = refl
+told_refused (Ok q) e = let z : ◌≡◌ {A = ℕ} 0 50 = cc in absurd (omega arith)
+told_refused (Err x) e = refl
 
 module _ (s : List ℕ) (t : List ℤ) (b code : List ℕ) (fit : barred b ≡ false) where
-  all_unfit : (code ≡ [] → ⊥) → 0 < own_count b → ((i : ℕ) → i < own_count b → Unfit s t (entry (named b) b i)) → lookup s t b code ≡ Refused
+  all_unfit : (code ≡ [] → ⊥) → 0 < own_count b → ((i : ℕ) → i < own_count b → Unfit s t (entry (named b) b i)) → lookup s t b code ≡ refused
   all_unfit h some w =
       asked_some s t b code (something code h) fit (own_count b) refl some
       ∙ halve_unsound (standing_at s t b code) (entry (named b) b) (own_count b) 0 (own_count b) some (omega arith) (λ j x y. unfit_unsound s t code (entry (named b) b j) (w j y))
 
-  one_unfit : lookup s t b code ≡ Refused → Stumbles s t b
+  one_unfit : lookup s t b code ≡ refused → Stumbles s t b
   unfolding lookup sought
   one_unfit e = go (empty code) (eqb (own_count b) 0) refl (rw fit at e)
     where
-      go : (x z : Bool) → eqb (own_count b) 0 ≡ z → cond x (Found 0) (cond z (Found 0) (halve (standing_at s t b code) (entry (named b) b) (own_count b) 0 (own_count b))) ≡ Refused → Stumbles s t b
+      go : (x z : Bool) → eqb (own_count b) 0 ≡ z → cond x (Ok 0) (cond z (Ok 0) (halve (standing_at s t b code) (entry (named b) b) (own_count b) 0 (own_count b))) ≡ refused → Stumbles s t b
       go true z g f = refused_found 0 (sym f)
       go false true g f = refused_found 0 (sym f)
       go false false g f =

@@ -1,18 +1,15 @@
 -- One code, asked at the counter: file 1, its table, an index and a code, each of any bytes.
-use Rattle.std.specs.Prelude.{ℕ, zero, suc, ◌+◌, ◌*◌, ◌-◌, ◌/◌, Bool, false, cond, not, ◌||◌, List, [], ◌∷◌, length, get_or, ℤ, pos, negsuc, leb, ltb, eqb}
+use Rattle.std.specs.declared.cmp.Ordering.{Ordering}
+use Rattle.std.specs.declared.cmp.Ordering.TheVariants.{Less, Equal, Greater}
+use Rattle.std.specs.Prelude.{ℕ, zero, suc, ◌+◌, ◌*◌, ◌-◌, ◌/◌, Bool, false, cond, not, ◌||◌, List, [], ◌∷◌, length, get_or, ℤ, pos, negsuc, leb, ltb, eqb, Result, Ok, Err}
 use Rattle.meaning.specs.Lists.{empty}
 use Rattle.meaning.specs.Bytes.{part, good, fields, count_lf, value}
 use Rattle.num.specs.Signs.{nat_of}
 use Rattle.rows.specs.Cells.{bounds_at}
-use Rattle.ranking.specs.declared.Order.{Order}
-use Rattle.ranking.specs.declared.Order.TheVariants.{Less, Equal, Greater}
 use Rattle.ranking.specs.Ranks.{compare}
 use Rattle.indexes.specs.declared.Version.{Version}
 use Rattle.indexes.specs.Index.{number_at, version_of, version_named, index_length, entry, rule40, rule41}
-use Rattle.lookups.specs.declared.Standing.{Standing}
-use Rattle.lookups.specs.declared.Standing.TheVariants.{Before, Here, After, Unsound}
-use Rattle.lookups.specs.declared.LookupAnswer.{LookupAnswer}
-use Rattle.lookups.specs.declared.LookupAnswer.TheVariants.{Found, Refused}
+use Rattle.lookups.specs.declared.Refused.{Refused}
 
 -- ---- the index
 
@@ -64,19 +61,29 @@ number_in t r j = get_or t (r * stop_width + j) (pos 0)
 abbrev pub raw_id : List ℕ → List ℤ → ℕ → List ℕ
 raw_id s t r = part s (bounds_at t (r * stop_width))
 
-abbrev pub standing_of : Order → Standing
-standing_of Less = Before
-standing_of Equal = Here
-standing_of Greater = After
+-- How a code stands to the id of a record: before it, equal or after it. Or 50: the record lies outside its table, or what stands there is no id.
+abbrev pub Standing : Type 0
+Standing = Result Ordering Refused
+
+-- the record with that id, or 0 where there is none; or 50
+abbrev pub LookupAnswer : Type 0
+LookupAnswer = Result ℕ Refused
+
+-- 50
+abbrev pub refused : {T : Type 0} → Result T Refused
+refused = Err (record {})
+
+abbrev pub standing_of : Ordering → Standing
+standing_of o = Ok o
 
 -- The code is a value: it stands to the value of a raw field.
 unfoldable pub standing_to : List ℕ → List ℕ → Standing
-standing_to code raw = cond (not_one raw) Unsound (standing_of (compare code (value raw)))
+standing_to code raw = cond (not_one raw) refused (standing_of (compare code (value raw)))
 
 -- how a code stands to the id of a record
 unfoldable pub standing : List ℕ → List ℤ → List ℕ → ℕ → Standing
 standing s t code r =
-    cond (outside t r) Unsound (cond (misplaced (length s) (number_in t r 0) (number_in t r 1)) Unsound (standing_to code (raw_id s t r)))
+    cond (outside t r) refused (cond (misplaced (length s) (number_in t r 0) (number_in t r 1)) refused (standing_to code (raw_id s t r)))
 
 -- ---- halving
 
@@ -86,34 +93,34 @@ middle low high = low + (high - low) / 2
 
 -- what the one entry that is left tells, which lists record r
 abbrev pub lastly : Standing → ℕ → LookupAnswer
-lastly Before r = Found 0
-lastly Here r = Found r
-lastly After r = Found 0
-lastly Unsound r = Refused
+lastly (Ok Less) r = Ok 0
+lastly (Ok Equal) r = Ok r
+lastly (Ok Greater) r = Ok 0
+lastly (Err e) r = Err e
 
 -- the half that is left after entry m was probed: those below it where the code comes before its id, else those from it on
 abbrev pub low_of : Standing → ℕ → ℕ → ℕ
-low_of Before low m = low
-low_of Here low m = m
-low_of After low m = m
-low_of Unsound low m = m
+low_of (Ok Less) low m = low
+low_of (Ok Equal) low m = m
+low_of (Ok Greater) low m = m
+low_of (Err e) low m = m
 
 abbrev pub high_of : Standing → ℕ → ℕ → ℕ
-high_of Before m high = m
-high_of Here m high = high
-high_of After m high = high
-high_of Unsound m high = high
+high_of (Ok Less) m high = m
+high_of (Ok Equal) m high = high
+high_of (Ok Greater) m high = high
+high_of (Err e) m high = high
 
 abbrev pub onward : Standing → LookupAnswer → LookupAnswer
-onward Before a = a
-onward Here a = a
-onward After a = a
-onward Unsound a = Refused
+onward (Ok Less) a = a
+onward (Ok Equal) a = a
+onward (Ok Greater) a = a
+onward (Err e) a = Err e
 
 -- Halve the range of index entries until one is left: `at i` is how the code stands to the id of entry i, `en i` the record that it lists.
 -- The first number is how many turns are allowed: as many as there are entries are enough.
 unfoldable pub halve : (ℕ → Standing) → (ℕ → ℕ) → ℕ → ℕ → ℕ → LookupAnswer
-halve at en zero low high = Found 0
+halve at en zero low high = Ok 0
 halve at en (suc k) low high =
     let m = middle low high in
     let a = halve at en k (low_of (at m) low m) (high_of (at m) m high) in
@@ -130,13 +137,13 @@ unfoldable pub sought : List ℕ → List ℤ → List ℕ → List ℕ → Look
 sought s t b code =
     let n = own_count b in
     let a = halve (standing_at s t b code) (entry (named b) b) n 0 n in
-    cond (eqb n 0) (Found 0) a
+    cond (eqb n 0) (Ok 0) a
 
 -- An empty code answers 0 before anything else is looked at.
 unfoldable pub lookup : List ℕ → List ℤ → List ℕ → List ℕ → LookupAnswer
-lookup s t b code = let a = sought s t b code in cond (empty code) (Found 0) (cond (barred b) Refused a)
+lookup s t b code = let a = sought s t b code in cond (empty code) (Ok 0) (cond (barred b) refused a)
 
 -- what document 02 calls each case of the answer: number (0 or 50), record
 unfoldable pub lookup_numbers : LookupAnswer → List ℕ
-lookup_numbers (Found r) = 0 ∷ r ∷ []
-lookup_numbers Refused = 50 ∷ 0 ∷ []
+lookup_numbers (Ok r) = 0 ∷ r ∷ []
+lookup_numbers (Err e) = 50 ∷ 0 ∷ []

@@ -1,6 +1,5 @@
 -- One code, asked at the counter, document 02's E5, sentence by sentence.
-use Rattle.std.specs.Prelude.{ℕ, ◌+◌, ◌*◌, ◌^◌, ◌≤◌, ◌<◌, ◌≡◌, ◌⊎◌, true, false, List, [], ◌∷◌, map, length, get_or, ℤ, pos, negsuc}
-use Rattle.meaning.specs.declared.Verdict.TheVariants.{Readable}
+use Rattle.std.specs.Prelude.{ℕ, ◌+◌, ◌*◌, ◌^◌, ◌≤◌, ◌<◌, ◌≡◌, ◌⊎◌, true, false, List, [], ◌∷◌, map, length, get_or, ℤ, pos, negsuc, Ok}
 use Rattle.meaning.specs.declared.Place.{Place}
 use Rattle.meaning.specs.declared.Profile.{Profile}
 use Rattle.meaning.specs.Bytes.{bounds, part, good, fields, count_lf}
@@ -47,7 +46,7 @@ pub record Ours (s : List ℕ) (t : List ℤ) (b : List ℕ) : Type 0 where
   pub list : List ℤ
   pub from : Place
   pub asked : Profile
-  pub readable : verdict_of (s ∷ others) (map length (lent ∷ rest)) ≡ Readable
+  pub readable : verdict_of (s ∷ others) (map length (lent ∷ rest)) ≡ Ok tt
   pub wrote : get_or (outcome (s ∷ others) (lent ∷ rest) list from asked).tables 0 [] ≡ t
   pub bytes : Bytes b
   pub accepted : index_numbers (checked 1 s b) ≡ says_whole (length b)

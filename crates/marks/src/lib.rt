@@ -3,9 +3,8 @@
 ghost use Rattle.std.specs.Prelude.{◌≡◌, ◌<◌};
 ghost use Rattle.marks.specs.Marks.{marked, Blank, OneMore, MarkedIf};
 
-use meaning::{FEW_LINES, MAX_LINES};
-
 // Mark f, of files 1 to 4 and 6: the id of the line, with its date in file 6, stands on an earlier one of file f. The marks from 7 on have names.
+// They are numbers and no enum, since the contracts of `is_marked`, `mark` and `mark_if` (`marked m b r`) take a file's number for its mark.
 pub const PARENT: usize = 7;
 
 pub const NAMELESS: usize = 8;
@@ -22,18 +21,11 @@ pub const OPEN: usize = 12;
 
 pub const MET: usize = 13;
 
-// No record is marked. As many entries as a file can have lines: record r of any file has entry r.
-pub fn blank() -> [u16; MAX_LINES]
+// No record is marked. Where files have no more than N lines, record r of any file has entry r.
+pub fn blank<const N: usize>() -> [u16; N]
     ensures { Blank result }
 {
-    [0u16; MAX_LINES]
-}
-
-// The same for files of few lines.
-pub fn blank_few() -> [u16; FEW_LINES]
-    ensures { Blank result }
-{
-    [0u16; FEW_LINES]
+    [0u16; N]
 }
 
 // Has record r mark b? None has that has no entry.
@@ -41,10 +33,7 @@ pub fn is_marked(m: &[u16], b: usize, r: usize) -> bool
     requires { b < 16 }
     ensures { result ≡ marked m.now b r }
 {
-    if r < m.len() {
-        return (m[r] >> b) % 2 == 1;
-    }
-    false
+    r < m.len() && (m[r] >> b) % 2 == 1
 }
 
 // Record r gets mark b, if it has an entry.
@@ -53,7 +42,7 @@ pub fn mark(m: &mut [u16], b: usize, r: usize)
     ensures { OneMore m.old m.new b r }
 {
     if r < m.len() {
-        m[r] = m[r] | (1u16 << b);
+        m[r] |= 1u16 << b;
     }
 }
 

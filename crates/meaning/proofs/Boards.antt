@@ -1,4 +1,5 @@
 -- A profile for boards: each sentence of document 02's E13 holds of every call.
+use Rattle.std.specs.Prelude.{Option, Some, None}
 use Prim.Native.Nat.{ℕ, zero, suc, ◌+◌, ◌-◌, ◌<◌}
 use native.Mathlib.Omega.{arith}
 use native.Mathlib.Nat.{add-sub_cancel}
@@ -14,10 +15,8 @@ use lib.Dec.{eqb}
 use borrow.Author.Tests.{eqb-true, leb-true, le-leb, not-true}
 use Rattle.meaning.specs.declared.Time.{Time}
 use Rattle.meaning.specs.declared.Time.TheVariants.{Seconds, Untimed, NoTime}
-use Rattle.meaning.specs.declared.Choice.{Choice}
-use Rattle.meaning.specs.declared.Choice.TheVariants.{Picked, NoChoice}
-use Rattle.meaning.specs.declared.Verdict.{Verdict}
-use Rattle.meaning.specs.declared.Verdict.TheVariants.{Readable, Unreadable}
+use Rattle.std.specs.Prelude.{Result, Ok, Err}
+use Rattle.meaning.specs.declared.Refusal.{Refusal}
 use Rattle.meaning.specs.declared.Place.{Place}
 use Rattle.meaning.specs.declared.Profile.TheVariants.{Plain, Boards}
 use Rattle.meaning.specs.Lists.{keep, flat}
@@ -167,9 +166,9 @@ untimed_exactly w i = (λ e. not-true _ e, λ e. rw e)
 two_or_three : (v : List ℕ) → is_two_or_three (choice_of 3 v) ≡ true ↔ TwoOrThree v
 two_or_three v = (go (choice_of 3 v), ⊎_elim (λ e. rw e) (λ e. rw e))
   where
-    go : (c : Choice) → is_two_or_three c ≡ true → (c ≡ Picked 2) ⊎ (c ≡ Picked 3)
-    go (Picked n) e = ⊎_elim (λ q. inl (ap Picked (eqb-true n 2 q))) (λ q. inr (ap Picked (eqb-true n 3 q))) (either (eqb n 2) (eqb n 3) e)
-    go NoChoice e = both false e refl
+    go : (c : Option ℕ) → is_two_or_three c ≡ true → (c ≡ Some 2) ⊎ (c ≡ Some 3)
+    go (Some n) e = ⊎_elim (λ q. inl (ap Some (eqb-true n 2 q))) (λ q. inr (ap Some (eqb-true n 3 q))) (either (eqb n 2) (eqb n 3) e)
+    go None e = both false e refl
 
 late_exactly : (v : List ℕ) → is_late (time_of v) ≡ true ↔ Late v
 late_exactly v = (go (time_of v) refl, λ l. rw (l.is, le-leb two_days l.time l.late))
@@ -298,9 +297,9 @@ module _ (files : List (List ℕ)) (tables : List (List ℤ)) (list : List ℤ) 
   unfolding outcome read_outcome
   tables_alike = go (verdict_of files (map length tables))
     where
-      go : (v : Verdict) → (refused_or v (read_outcome files tables list p Boards) tables list).tables ≡ (refused_or v (read_outcome files tables list p Plain) tables list).tables
-      go Readable = refl
-      go (Unreadable r) = refl
+      go : (v : Result Unit Refusal) → (refused_or v (read_outcome files tables list p Boards) tables list).tables ≡ (refused_or v (read_outcome files tables list p Plain) tables list).tables
+      go (Ok tt) = refl
+      go (Err r) = refl
 
   pub for_boards_lem : ForBoards files tables list p
   unfolding rules_of time_rules added_rules

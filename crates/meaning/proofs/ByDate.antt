@@ -10,8 +10,8 @@ use lib.ListN.{length, get_or, length-map}
 use borrow.Author.Tests.{eq-eqb, ne_eqb, eqb-true}
 use Rattle.meaning.specs.declared.Place.{Place}
 use Rattle.meaning.specs.declared.Profile.{Profile}
-use Rattle.meaning.specs.declared.Verdict.{Verdict}
-use Rattle.meaning.specs.declared.Verdict.TheVariants.{Readable, Unreadable}
+use Rattle.std.specs.Prelude.{Result, Ok, Err}
+use Rattle.meaning.specs.declared.Refusal.{Refusal}
 use Rattle.meaning.specs.Lists.{same, empty, any, place, find, stands}
 use Rattle.meaning.specs.Tables.{Feed, feed_of, file_of, refer, service_ids, dated_ids, exception_service}
 use Rattle.meaning.specs.Refusals.{claim, claims, may_lack, ended, rule4, verdict_of}
@@ -130,9 +130,9 @@ module _ (files : List (List ℕ)) (tables : List (List ℤ)) (list : List ℤ) 
   unfolding outcome read_outcome
   table_left k h e = go (verdict_of files (map length tables))
     where
-      go : (v : Verdict) → get_or (refused_or v (read_outcome files tables list p asked) tables list).tables k [] ≡ get_or tables k []
-      go Readable = filled_at 1 (feed_of files) files tables k (omega arith) (omega arith) ∙ rw e (unsupplied (1 + k) (feed_of files) (get_or tables k []))
-      go (Unreadable r) = refl
+      go : (v : Result Unit Refusal) → get_or (refused_or v (read_outcome files tables list p asked) tables list).tables k [] ≡ get_or tables k []
+      go (Ok tt) = filled_at 1 (feed_of files) files tables k (omega arith) (omega arith) ∙ rw e (unsupplied (1 + k) (feed_of files) (get_or tables k []))
+      go (Err r) = refl
 
   pub by_date : ByDate files tables (outcome files tables list p asked)
   unfolding file_of

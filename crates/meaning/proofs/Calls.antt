@@ -11,7 +11,7 @@ use lib.ListN.{length, get_or, length-map}
 use borrow.Author.Tests.{le-ltb}
 use Rattle.meaning.specs.declared.Place.{Place}
 use Rattle.meaning.specs.declared.Profile.{Profile}
-use Rattle.meaning.specs.declared.Verdict.TheVariants.{Readable}
+use Rattle.std.specs.Prelude.{Ok}
 use Rattle.meaning.specs.Bytes.{count_lf}
 use Rattle.meaning.specs.Tables.{file_of, feed_of, width_of}
 use Rattle.meaning.specs.Refusals.{Test, Claim, rule1, rule2, rule3, rule4, claims, verdict_of}
@@ -31,7 +31,7 @@ use Rattle.meaning.proofs.Held.{tables_long, list_long}
 
 -- ---- other tables that are long enough
 
-module _ (files : List (List ℕ)) (tables others : List (List ℤ)) (count : length tables ≡ length files) (read : verdict_of files (map length tables) ≡ Readable) (enough : LongEnough files others) where
+module _ (files : List (List ℕ)) (tables others : List (List ℤ)) (count : length tables ≡ length files) (read : verdict_of files (map length tables) ≡ Ok tt) (enough : LongEnough files others) where
   whole : (f : ℕ) → 1 ≤ f → f ≤ length files → WholeKept files f (file_of files f) (get_or (map length tables) (f - 1) 0)
   whole f low high = whole_kept files (map length tables) read f low high (omega (arith, length-map tables length))
 
@@ -50,7 +50,7 @@ module _ (files : List (List ℕ)) (tables others : List (List ℤ)) (count : le
       (Memᴰ.cases_cons m)) (Memᴰ.cases_cons m)) (Memᴰ.cases_cons m)) (Memᴰ.cases_cons c.rule)
 
   -- A feed that reads with some tables reads with any that are long enough.
-  pub reads_again : verdict_of files (map length others) ≡ Readable
+  pub reads_again : verdict_of files (map length others) ≡ Ok tt
   reads_again = (readable_exactly files (map length others)).1 none
     where
       none : NoneBroken (claims files (map length others))
@@ -65,7 +65,7 @@ FindingsCall asked files = Call findings_kind (findings_of asked (feed_of files)
 abbrev FindingsChain : Profile → List (List ℕ) → Place → List Outcome → Type 0
 FindingsChain asked files = Chain findings_kind (findings_of asked (feed_of files)) (list_ordered asked (feed_of files)) written written_of total_of
 
-module _ (files : List (List ℕ)) (tables : List (List ℤ)) (list : List ℤ) (p : Place) (asked : Profile) (read : verdict_of files (map length tables) ≡ Readable) where
+module _ (files : List (List ℕ)) (tables : List (List ℤ)) (list : List ℤ) (p : Place) (asked : Profile) (read : verdict_of files (map length tables) ≡ Ok tt) where
   abbrev found : List Finding
   found = findings_of asked (feed_of files)
 
@@ -87,7 +87,7 @@ module _ (asked : Profile) (files : List (List ℕ)) (six : length files ≡ 6) 
   -- what the calls from here on need: six tables with which the feed reads, and room for a finding
   record Ready (tables : List (List ℤ)) (list : List ℤ) : Type 0 where
     count : length tables ≡ length files
-    reads : verdict_of files (map length tables) ≡ Readable
+    reads : verdict_of files (map length tables) ≡ Ok tt
     room : 3 ≤ length list
 
   -- what is lent to a call is enough
@@ -123,7 +123,7 @@ module _ (asked : Profile) (files : List (List ℕ)) (six : length files ≡ 6) 
       )
 
   -- Calls from the list's beginning until one hands out none together give the whole list; each tells the same total; they end.
-  pub findings_join : (tables : List (List ℤ)) (list : List ℤ) → length tables ≡ 6 → verdict_of files (map length tables) ≡ Readable → 3 ≤ length list
+  pub findings_join : (tables : List (List ℤ)) (list : List ℤ) → length tables ≡ 6 → verdict_of files (map length tables) ≡ Ok tt → 3 ≤ length list
       → (xs : List Lending) → Each (Enough files) xs → CallsJoin asked files tables list xs
   findings_join tables list count reads room xs enough =
       calls_join findings_kind (findings_of asked (feed_of files)) (list_ordered asked (feed_of files)) written written_of total_of

@@ -1,4 +1,5 @@
 -- Document 01's table of columns, by name: the schema is what the table's two columns, the names' letters and the forms by name say, and so are rules 8, 9, 11, 12 and 13.
+use Rattle.std.specs.Prelude.{Option, Some, None}
 use Prim.Native.Nat.{ℕ, zero, suc, ◌+◌, ◌≤◌, ◌<◌}
 use native.Mathlib.Omega.{arith}
 use native.Mathlib.Decide.{ℕ_discrete}
@@ -10,12 +11,14 @@ use mathlib.Core.List.{List, [], ◌∷◌, map, Memᴰ}
 use lib.ListN.{length, get_or, length-map}
 use lib.Dec.{ltb, eqb}
 use borrow.Author.Tests.{ltb-true, ltb-false, le-ltb, not-true}
+use Rattle.meaning.specs.declared.Need.{Need}
+use Rattle.meaning.specs.declared.Need.TheVariants.{Never, AllButInner, AllButPlaceless, Always}
+use Rattle.meaning.specs.declared.Form.{Form as Kind}
+use Rattle.meaning.specs.declared.Form.TheVariants as F
 use Rattle.meaning.specs.declared.Column.{Column}
 use Rattle.meaning.specs.Lists.{ascii, same, empty, any, find, stands}
-use Rattle.meaning.specs.Columns.{Known, Row, any_text, a_time, a_date, a_latitude, a_longitude, a_sequence, up_to1, up_to2, up_to3, a_route_type, an_exception, up_to4, never, all_but_inner, all_but_placeless, always, unknown, stops_columns, routes_columns, calendar_columns, trips_columns, stop_times_columns, calendar_dates_columns, schemas, schema, known_at, name_of, column_of, count_of, places, cell, row_of}
-use Rattle.meaning.specs.declared.Choice.{Choice}
-use Rattle.meaning.specs.declared.Choice.TheVariants.{Picked, NoChoice}
-use Rattle.meaning.specs.Forms.{no_mark, formed, digit_text, choice_of, shapes, shape}
+use Rattle.meaning.specs.Columns.{Known, Row, rank, unknown, stops_columns, routes_columns, calendar_columns, trips_columns, stop_times_columns, calendar_dates_columns, schemas, schema, known_at, name_of, column_of, count_of, places, cell, row_of}
+use Rattle.meaning.specs.Forms.{no_mark, formed, digit_text, choice_of, shape}
 use Rattle.meaning.specs.Tables.{stop_lat, stop_lon, location_type, one_if, kind_of, inner, placed}
 use Rattle.meaning.specs.Refusals.{rule8, rule9, rule11, rule12, rule13, slack, long, blank, formless}
 use Rattle.meaning.specs.Promises.{Each}
@@ -31,21 +34,21 @@ use Rattle.meaning.proofs.Nodes.{elsewhere}
 
 -- ---- what the schema says of a name
 
--- the number of the form that a name has
-numbered : List Form → List ℕ → Name → ℕ
-numbered [] ms n = any_text
-numbered (k ∷ r) [] n = any_text
-numbered (k ∷ r) (m ∷ ms) n = let rest = numbered r ms n in cond (stands n k.names) m rest
+-- the form that a name has
+kind_of_name : List Form → List Kind → Name → Kind
+kind_of_name [] ms n = F.Text
+kind_of_name (k ∷ r) [] n = F.Text
+kind_of_name (k ∷ r) (m ∷ ms) n = let rest = kind_of_name r ms n in cond (stands n k.names) m rest
 
-form_numbers : List ℕ
-form_numbers = a_time ∷ a_date ∷ a_latitude ∷ a_longitude ∷ a_sequence ∷ up_to4 ∷ a_route_type ∷ up_to1 ∷ up_to1 ∷ up_to2 ∷ up_to3 ∷ an_exception ∷ []
+kinds : List Kind
+kinds = F.Time ∷ F.Date ∷ F.Latitude ∷ F.Longitude ∷ F.Sequence ∷ F.Choice 4 ∷ F.RouteType ∷ F.Choice 1 ∷ F.Choice 1 ∷ F.Choice 2 ∷ F.Choice 3 ∷ F.ExceptionType ∷ []
 
--- the number of the lines on which a must-be-present name needs a value
-needed : Name → ℕ
+-- the lines on which a must-be-present name needs a value
+needed : Name → Need
 needed n =
-    cond (stands n (named ("arrival_time" ∷ "departure_time" ∷ []))) never
-    (cond (same n (ascii "stop_name")) all_but_inner
-    (cond (stands n (named ("stop_lat" ∷ "stop_lon" ∷ []))) all_but_placeless always))
+    cond (stands n (named ("arrival_time" ∷ "departure_time" ∷ []))) Never
+    (cond (same n (ascii "stop_name")) AllButInner
+    (cond (stands n (named ("stop_lat" ∷ "stop_lon" ∷ []))) AllButPlaceless Always))
 
 -- a name of file f with what the table says of it
 said : ℕ → Name → Known
@@ -53,15 +56,15 @@ said f n = record {
   name = n;
   column = record {
     must = stands n (must_be_present f);
-    need = cond (stands n (must_be_present f)) (needed n) never;
+    need = cond (stands n (must_be_present f)) (needed n) Never;
     ident = is_id n;
-    form = numbered forms form_numbers n;
+    form = kind_of_name forms kinds n;
   };
 }
 
 -- the schema is that of the known names, computed
 schema_said : (f : ℕ) → schema f ≡ map (said f) (known_names f)
-unfolding schema schemas stops_columns routes_columns calendar_columns trips_columns stop_times_columns calendar_dates_columns known_names must_be_present may_be_absent middle_column right_column is_id ends_in_id forms stands any same said needed numbered form_numbers
+unfolding schema schemas stops_columns routes_columns calendar_columns trips_columns stop_times_columns calendar_dates_columns known_names must_be_present may_be_absent middle_column right_column is_id ends_in_id forms stands any same said needed kind_of_name kinds
 schema_said zero = refl
 schema_said (suc zero) = refl
 schema_said (suc (suc zero)) = refl
@@ -76,23 +79,23 @@ unfolding said
 said_names f [] = refl
 said_names f (n ∷ ns) = ap (λ (r : List Name). n ∷ r) (said_names f ns)
 
--- each number's form is the one that the list says
-Alike : List Form → List ℕ → Type 0
+-- each form's test is the one that the list says
+Alike : List Form → List Kind → Type 0
 Alike [] ms = Unit {0}
 Alike (k ∷ r) [] = ⊥
 Alike (k ∷ r) (m ∷ ms) = ((v : List ℕ) → shape m v ≡ k.is v) × Alike r ms
 
-forms_alike : Alike forms form_numbers
-unfolding Alike forms form_numbers shape shapes
+forms_alike : Alike forms kinds
+unfolding Alike forms kinds shape
 forms_alike = (λ v. refl, (λ v. refl, (λ v. refl, (λ v. refl, (λ v. refl, (λ v. refl, (λ v. refl, (λ v. refl, (λ v. refl, (λ v. refl, (λ v. refl, (λ v. refl, tt))))))))))))
 
-form_said : (ks : List Form) (ms : List ℕ) → Alike ks ms → (n : Name) (v : List ℕ) → shape (numbered ks ms n) v ≡ form_of ks n v
-unfolding Alike numbered form_of
-form_said [] ms a n v = unfold shape shapes in refl
+form_said : (ks : List Form) (ms : List Kind) → Alike ks ms → (n : Name) (v : List ℕ) → shape (kind_of_name ks ms n) v ≡ form_of ks n v
+unfolding Alike kind_of_name form_of
+form_said [] ms a n v = unfold shape in refl
 form_said (k ∷ r) [] a n v = absurd a
 form_said (k ∷ r) (m ∷ ms) a n v = go (stands n k.names) (form_said r ms a.1 n v)
   where
-    go : (t : Bool) → shape (numbered r ms n) v ≡ form_of r n v → shape (cond t m (numbered r ms n)) v ≡ cond t (k.is v) (form_of r n v)
+    go : (t : Bool) → shape (kind_of_name r ms n) v ≡ form_of r n v → shape (cond t m (kind_of_name r ms n)) v ≡ cond t (k.is v) (form_of r n v)
     go true e = a.0 v
     go false e = e
 
@@ -196,7 +199,7 @@ bounded f n v = (there (is_id n), back (is_id n))
 
 of_its_form : (f : ℕ) (n : Name) (v : List ℕ) → formless (said f n).column v ≡ false ↔ ((v ≡ [] → ⊥) → form_of forms n v ≡ true)
 unfolding formless said
-of_its_form f n v = rw (form_said forms form_numbers forms_alike n v) (there (empty v) refl (form_of forms n v), back (empty v) refl (form_of forms n v))
+of_its_form f n v = rw (form_said forms kinds forms_alike n v) (there (empty v) refl (form_of forms n v), back (empty v) refl (form_of forms n v))
   where
     there : (a : Bool) → empty v ≡ a → (b : Bool) → (not a && not b) ≡ false → (v ≡ [] → ⊥) → b ≡ true
     there true q b e h = absurd (h ((no_bytes v).0 q))
@@ -217,8 +220,8 @@ inner_text r = (there (choice_of 4 v) refl, back)
     v : List ℕ
     v = location_type r
 
-    there : (c : Choice) → choice_of 4 v ≡ c → ltb 2 (one_if c) ≡ true → (v ≡ ascii "3") ⊎ (v ≡ ascii "4")
-    there (Picked n) q e = by (ℕ_discrete n 3)
+    there : (c : Option ℕ) → choice_of 4 v ≡ c → ltb 2 (one_if c) ≡ true → (v ≡ ascii "3") ⊎ (v ≡ ascii "4")
+    there (Some n) q e = by (ℕ_discrete n 3)
       where
         h : ((0 ≤ n) × (n ≤ 4)) × (v ≡ (48 + n) ∷ [])
         h = unfold choice_of in (digit_picked 0 4 v n).0 q
@@ -226,28 +229,28 @@ inner_text r = (there (choice_of 4 v) refl, back)
         by : Dec (n ≡ 3) → (v ≡ ascii "3") ⊎ (v ≡ ascii "4")
         by (yes z) = inl (rw z at h.1)
         by (no z) = let four : n ≡ 4 = omega (arith, ltb-true 2 n e, h.0.1) in inr (rw four at h.1)
-    there NoChoice q e = both false e refl
+    there None q e = both false e refl
 
     back : (v ≡ ascii "3") ⊎ (v ≡ ascii "4") → ltb 2 (one_if (choice_of 4 v)) ≡ true
     back (inl e) = rw e (unfold choice_of formed no_mark digit_text in refl)
     back (inr e) = rw e (unfold choice_of formed no_mark digit_text in refl)
 
 -- how much a line may leave open, and what that says of it
-slack_most : (f : ℕ) (r : Row) → slack f r ≤ 2
+slack_most : (f : ℕ) (r : Row) → rank (slack f r) ≤ 2
 unfolding slack
 slack_most f r = go (eqb f 1 && inner r) (placed r)
   where
-    go : (a b : Bool) → cond a (cond b 1 2) 0 ≤ 2
+    go : (a b : Bool) → rank (cond a (cond b AllButInner AllButPlaceless) Never) ≤ 2
     go true true = omega arith
     go true false = omega arith
     go false b = omega arith
 
-slack_stop : (r : Row) → (1 ≤ slack 1 r ↔ inner r ≡ true) × (2 ≤ slack 1 r ↔ (inner r ≡ true) × ((stop_lat r ≡ []) × (stop_lon r ≡ [])))
+slack_stop : (r : Row) → (1 ≤ rank (slack 1 r) ↔ inner r ≡ true) × (2 ≤ rank (slack 1 r) ↔ (inner r ≡ true) × ((stop_lat r ≡ []) × (stop_lon r ≡ [])))
 unfolding slack placed
 slack_stop r = go (inner r) (empty (stop_lat r)) refl (empty (stop_lon r)) refl
   where
     go : (a x : Bool) → empty (stop_lat r) ≡ x → (y : Bool) → empty (stop_lon r) ≡ y
-        → (1 ≤ cond a (cond (not (x && y)) 1 2) 0 ↔ a ≡ true) × (2 ≤ cond a (cond (not (x && y)) 1 2) 0 ↔ (a ≡ true) × ((stop_lat r ≡ []) × (stop_lon r ≡ [])))
+        → (1 ≤ rank (cond a (cond (not (x && y)) AllButInner AllButPlaceless) Never) ↔ a ≡ true) × (2 ≤ rank (cond a (cond (not (x && y)) AllButInner AllButPlaceless) Never) ↔ (a ≡ true) × ((stop_lat r ≡ []) × (stop_lon r ≡ [])))
     go true true p true q = ((λ h. refl, λ h. omega arith), (λ h. (refl, ((no_bytes _).0 p, (no_bytes _).0 q)), λ h. omega arith))
     go true true p false q = ((λ h. refl, λ h. omega arith), (λ h. absurd (omega arith), λ h. both _ ((no_bytes _).1 h.1.1) q))
     go true false p y q = ((λ h. refl, λ h. omega arith), (λ h. absurd (omega arith), λ h. both _ ((no_bytes _).1 h.1.0) p))
@@ -268,34 +271,34 @@ module _ (header : List (List ℕ)) (l : List ℕ) where
   inner_under : inner stop ≡ true ↔ Inner header l
   inner_under = rw (← type_under) (inner_text stop)
 
-  one_stop_lem : 1 ≤ slack 1 stop ↔ Inner header l
+  one_stop_lem : 1 ≤ rank (slack 1 stop) ↔ Inner header l
   one_stop_lem = (λ h. inner_under.0 ((slack_stop stop).0.0 h), λ h. (slack_stop stop).0.1 (inner_under.1 h))
 
-  two_stop : 2 ≤ slack 1 stop ↔ Inner header l × NoPlace
+  two_stop : 2 ≤ rank (slack 1 stop) ↔ Inner header l × NoPlace
   unfolding row_of places schema schemas stops_columns under
   two_stop = (λ h. let g = (slack_stop stop).1.0 h in (inner_under.0 g.0, g.1), λ h. (slack_stop stop).1.1 (inner_under.1 h.0, h.1))
 
   -- the same of a line of any file
   module _ (f : ℕ) where
     abbrev slack_here : ℕ
-    slack_here = slack f (row_of (places f header) l)
+    slack_here = rank (slack f (row_of (places f header) l))
 
     one_slack_here : 1 ≤ slack_here ↔ (f ≡ 1) × Inner header l
     one_slack_here = go (ℕ_discrete f 1)
       where
         go : Dec (f ≡ 1) → 1 ≤ slack_here ↔ (f ≡ 1) × Inner header l
         go (yes e) = (λ h. (e, one_stop_lem.0 (rw e at h)), λ h. rw e (one_stop_lem.1 h.1))
-        go (no e) = (λ h. absurd (omega (arith, elsewhere f (row_of (places f header) l) e)), λ h. absurd (e h.0))
+        go (no e) = (λ h. absurd (omega (arith, ap rank (elsewhere f (row_of (places f header) l) e))), λ h. absurd (e h.0))
 
     two_slack_here : 2 ≤ slack_here ↔ (f ≡ 1) × (Inner header l × NoPlace)
     two_slack_here = go (ℕ_discrete f 1)
       where
         go : Dec (f ≡ 1) → 2 ≤ slack_here ↔ (f ≡ 1) × (Inner header l × NoPlace)
         go (yes e) = (λ h. (e, two_stop.0 (rw e at h)), λ h. rw e (two_stop.1 h.1))
-        go (no e) = (λ h. absurd (omega (arith, elsewhere f (row_of (places f header) l) e)), λ h. absurd (e h.0))
+        go (no e) = (λ h. absurd (omega (arith, ap rank (elsewhere f (row_of (places f header) l) e))), λ h. absurd (e h.0))
 
     -- a name's need is no more than that exactly where its value may be empty
-    free : (n : Name) → needed n ≤ slack_here ↔ Free f header l n
+    free : (n : Name) → rank (needed n) ≤ slack_here ↔ Free f header l n
     unfolding needed
     free n = go (stands n times) refl (same n (ascii "stop_name")) refl (stands n coordinates) refl
       where
@@ -306,7 +309,7 @@ module _ (header : List (List ℕ)) (l : List ℕ) where
         coordinates = named ("stop_lat" ∷ "stop_lon" ∷ [])
 
         go : (a : Bool) → stands n times ≡ a → (b : Bool) → same n (ascii "stop_name") ≡ b → (c : Bool) → stands n coordinates ≡ c
-            → cond a never (cond b all_but_inner (cond c all_but_placeless always)) ≤ slack_here ↔ Free f header l n
+            → rank (cond a Never (cond b AllButInner (cond c AllButPlaceless Always))) ≤ slack_here ↔ Free f header l n
         go true p b q c r = (λ h. a_time_lem ((stands_mem n times).0 p), λ h. omega arith)
         go false p true q c r = (λ h. let g = one_slack_here.0 h in its_name g.0 g.1 (same_equal n _ q), back)
           where
@@ -334,24 +337,24 @@ unfolding blank said
 blank_free f header l n v = go (stands n (must_be_present f)) refl (empty v) refl
   where
     here : ℕ
-    here = slack f (row_of (places f header) l)
+    here = rank (slack f (row_of (places f header) l))
 
     go : (t : Bool) → stands n (must_be_present f) ≡ t → (x : Bool) → empty v ≡ x
-        → (ltb here (cond t (needed n) never) && x) ≡ false ↔ (Memᴰ n (must_be_present f) → v ≡ [] → Free f header l n)
+        → (ltb here (rank (cond t (needed n) Never)) && x) ≡ false ↔ (Memᴰ n (must_be_present f) → v ≡ [] → Free f header l n)
     go true p true q = (
-      λ e m z. (free header l f n).0 (ltb-false here (needed n) (first (ltb here (needed n)) e)),
-      λ h. rw (le-ltb here (needed n) ((free header l f n).1 (h ((stands_mem n (must_be_present f)).0 p) ((no_bytes v).0 q)))),
+      λ e m z. (free header l f n).0 (ltb-false here (rank (needed n)) (first (ltb here (rank (needed n))) e)),
+      λ h. rw (le-ltb here (rank (needed n)) ((free header l f n).1 (h ((stands_mem n (must_be_present f)).0 p) ((no_bytes v).0 q)))),
     )
       where
         first : (b : Bool) → (b && true) ≡ false → b ≡ false
         first true e = e
         first false e = refl
-    go true p false q = (λ e m z. both _ ((no_bytes v).1 z) q, λ h. last (ltb here (needed n)))
+    go true p false q = (λ e m z. both _ ((no_bytes v).1 z) q, λ h. last (ltb here (rank (needed n))))
       where
         last : (b : Bool) → (b && false) ≡ false
         last true = refl
         last false = refl
-    go false p x q = (λ e m z. both _ ((stands_mem n (must_be_present f)).1 m) p, λ h. rw (le-ltb here never (omega arith)))
+    go false p x q = (λ e m z. both _ ((stands_mem n (must_be_present f)).1 m) p, λ h. rw (le-ltb here 0 (omega arith)))
 
 -- ---- the table
 

@@ -9,17 +9,19 @@ use mathlib.Core.List.{List, [], ◌∷◌}
 use lib.Dec.{T, ltb, eqb}
 use lib.ListN.{length, get_or, take, get_or-map}
 use lib.Seq.{take_all}
-use borrow.Author.Tests.{eq-eqb, ne_eqb, eqb-true, le-ltb, ltb-true, ltb-false}
+use borrow.Author.Tests.{eq-eqb, ne_eqb, le-ltb, ltb-true, ltb-false}
 use Rattle.meaning.specs.declared.Bounds.{Bounds}
+use Rattle.meaning.specs.declared.Need.{Need}
+use Rattle.meaning.specs.declared.Need.TheVariants.{Never, AllButInner, AllButPlaceless, Always}
 use Rattle.meaning.specs.declared.Column.{Column}
 use Rattle.meaning.specs.Lists.{same, empty, place, find, find_again, lesser, least}
 use Rattle.meaning.specs.Bytes.{bounds, part, fields, marked, content, undouble, value, values_of, values}
-use Rattle.meaning.specs.Columns.{Known, Row, always, unknown, stops_columns, routes_columns, calendar_columns, trips_columns, stop_times_columns, calendar_dates_columns, schemas, schema, known_at, name_of, column_of, count_of, places, field_at, cell, row_of}
+use Rattle.meaning.specs.Columns.{Known, Row, rank, unknown, stops_columns, routes_columns, calendar_columns, trips_columns, stop_times_columns, calendar_dates_columns, schemas, schema, known_at, name_of, column_of, count_of, places, field_at, cell, row_of}
 use Rattle.meaning.specs.Tables.{inner, placed}
 use Rattle.meaning.specs.Refusals.{slack, long, blank, formless, leftmost, rule8, rule9, rule11, rule12, rule13}
 use Rattle.meaning.specs.Promises.{First, absent, found}
 use Rattle.meaning.specs.WhichColumn.{standings, Keeps}
-use Rattle.meaning.proofs.Computed.{all, get_d_all, is_true}
+use Rattle.meaning.proofs.Computed.{all, get_d_all}
 use Rattle.meaning.proofs.ListLaws.{both}
 use Rattle.meaning.proofs.Laws.{get_d_map_in}
 use Rattle.meaning.proofs.Tests.{some_none}
@@ -266,18 +268,21 @@ module _ (f : ℕ) (header : List (List ℕ)) where
 -- ---- where rules 8, 11, 12 and 13 are kept
 
 -- a known column in which a value is needed must be present
-must_have : (f k : ℕ) → (column_of f k).must ≡ false → (column_of f k).need ≡ 0
+must_have : (f k : ℕ) → (column_of f k).must ≡ false → (column_of f k).need ≡ Never
 unfolding column_of known_at schema schemas stops_columns routes_columns calendar_columns trips_columns stop_times_columns calendar_dates_columns
 must_have f k e =
     go (column_of f k).must (column_of f k).need
     (get_d_all right unknown tt (get_or schemas f []) (get_d_all (λ (ks : List Known). all right ks) [] tt schemas tt f) k) e
   where
     right : Known → Bool
-    right x = x.column.must || eqb x.column.need 0
+    right x = x.column.must || eqb (rank x.column.need) 0
 
-    go : (m : Bool) (n : ℕ) → T (m || eqb n 0) → m ≡ false → n ≡ 0
+    go : (m : Bool) (n : Need) → T (m || eqb (rank n) 0) → m ≡ false → n ≡ Never
     go true n t e = both true refl e
-    go false n t e = eqb-true n 0 (is_true (eqb n 0) t)
+    go false Never t e = refl
+    go false AllButInner t e = absurd t
+    go false AllButPlaceless t e = absurd t
+    go false Always t e = absurd t
 
 -- an empty value keeps every rule but 12, and that where none is needed
 module _ (c : Column) where
@@ -289,16 +294,16 @@ module _ (c : Column) where
       go true = refl
       go false = refl
 
-  needless : (free : ℕ) → c.need ≡ 0 → blank free c [] ≡ false
+  needless : (free : Need) → c.need ≡ Never → blank free c [] ≡ false
   unfolding blank
-  needless free e = rw (e, le-ltb free 0 (omega arith))
+  needless free e = rw (e, le-ltb (rank free) 0 (omega arith))
 
   -- no line may leave open what is needed always
-  pub blank_always : (f : ℕ) (r : Row) (v : List ℕ) → c.need ≡ always → blank (slack f r) c v ≡ empty v
+  pub blank_always : (f : ℕ) (r : Row) (v : List ℕ) → c.need ≡ Always → blank (slack f r) c v ≡ empty v
   unfolding blank slack
   blank_always f r v e = rw e (go (eqb f 1 && inner r) (placed r))
     where
-      go : (a b : Bool) → (ltb (cond a (cond b 1 2) 0) always && empty v) ≡ empty v
+      go : (a b : Bool) → (ltb (rank (cond a (cond b AllButInner AllButPlaceless) Never)) 3 && empty v) ≡ empty v
       go true true = refl
       go true false = refl
       go false b = refl

@@ -1,4 +1,5 @@
 -- Laws of coordinates: which values they read, both ways.
+use Rattle.std.specs.Prelude.{Option, Some, None}
 use Prim.Native.Nat.{ℕ, suc, ◌+◌, ◌*◌, ◌/◌, ◌^◌, ◌≤◌, ◌<◌}
 use native.Mathlib.Numerals.{add-one}
 use native.Mathlib.Omega.{arith}
@@ -12,9 +13,6 @@ use lib.ListN.{length, get_or, take, drop, length-append, length-drop, drop_of_l
 use lib.Seq.{split_at, length-take-le, take_all, take_at, drop-append-add}
 use lib.Dec.{eqb, leb}
 use borrow.Author.Tests.{eqb-true, ne_eqb, leb-true, le-leb}
-use Rattle.meaning.specs.declared.Number.{Number}
-use Rattle.meaning.specs.declared.Number.TheVariants.{Value, NoNumber}
-use Rattle.meaning.specs.declared.Degrees.TheVariants.{TenMillionths, NoDegrees}
 use Rattle.meaning.specs.Forms.{no_mark, formed, digits, with_number, to_point, pointed, whole_digits, tail_digits, signed, scaled, size_text, degrees_text}
 use Rattle.meaning.specs.Promises.{Each}
 use Rattle.meaning.specs.Limits as S
@@ -124,7 +122,7 @@ parts v whole decimals (S.pointed e d t) =
 
 -- ---- a size, and its sign
 
-pub not_degrees : {A : Type 0} (z : ℤ) → NoDegrees ≡ TenMillionths z → A
+pub not_degrees : {A : Type 0} (z : ℤ) → None ≡ Some z → A
 not_degrees z e = let w : ◌≡◌ {A = ℕ} 0 1 = cc in absurd (omega arith)
 
 -- a size with its sign
@@ -133,15 +131,15 @@ record Sized (limit : ℕ) (below : Bool) (v : List ℕ) (z : ℤ) : Type 0 wher
   size : Size limit v number
   is : z ≡ signed below number
 
-size_read : (limit : ℕ) (below : Bool) (v : List ℕ) (z : ℤ) → size_text limit below v ≡ TenMillionths z → Sized limit below v z
+size_read : (limit : ℕ) (below : Bool) (v : List ℕ) (z : ℤ) → size_text limit below v ≡ Some z → Sized limit below v z
 unfolding size_text scaled
 size_read limit below v z e = go (pointed v) refl (digits 0 (whole_digits v ++ tail_digits v)) refl e
   where
     d : ℕ
     d = length (tail_digits v)
 
-    there : (m : ℕ) → pointed v ≡ true → digits 0 (whole_digits v ++ tail_digits v) ≡ Value m → (t : Bool) → leb m (limit * 10 ^ d) ≡ t
-        → cond t (TenMillionths (signed below (m * 10000000 / 10 ^ d))) NoDegrees ≡ TenMillionths z → Sized limit below v z
+    there : (m : ℕ) → pointed v ≡ true → digits 0 (whole_digits v ++ tail_digits v) ≡ Some m → (t : Bool) → leb m (limit * 10 ^ d) ≡ t
+        → cond t (Some (signed below (m * 10000000 / 10 ^ d))) None ≡ Some z → Sized limit below v z
     there m p q true h e =
         let w = (digits_write (whole_digits v ++ tail_digits v) 0 m).0 q in
         let same : numeral (whole_digits v ++ tail_digits v) ≡ m = omega (arith, w.1) in
@@ -158,33 +156,33 @@ size_read limit below v z e = go (pointed v) refl (digits 0 (whole_digits v ++ t
         }
     there m p q false h e = not_degrees z e
 
-    go : (a : Bool) → pointed v ≡ a → (s : Number) → digits 0 (whole_digits v ++ tail_digits v) ≡ s
-        → cond a (with_number NoDegrees s (λ n. cond (leb n (limit * 10 ^ d)) (TenMillionths (signed below (n * 10000000 / 10 ^ d))) NoDegrees)) NoDegrees ≡ TenMillionths z → Sized limit below v z
-    go true p (Value m) q e = there m p q (leb m (limit * 10 ^ d)) refl e
-    go true p NoNumber q e = not_degrees z e
+    go : (a : Bool) → pointed v ≡ a → (s : Option ℕ) → digits 0 (whole_digits v ++ tail_digits v) ≡ s
+        → cond a (with_number None s (λ n. cond (leb n (limit * 10 ^ d)) (Some (signed below (n * 10000000 / 10 ^ d))) None)) None ≡ Some z → Sized limit below v z
+    go true p (Some m) q e = there m p q (leb m (limit * 10 ^ d)) refl e
+    go true p None q e = not_degrees z e
     go false p s q e = not_degrees z e
 
-size_of : (limit : ℕ) (below : Bool) (v : List ℕ) (n : ℕ) → Size limit v n → size_text limit below v ≡ TenMillionths (signed below n)
+size_of : (limit : ℕ) (below : Bool) (v : List ℕ) (n : ℕ) → Size limit v n → size_text limit below v ≡ Some (signed below n)
 unfolding size_text scaled
 size_of limit below v n s =
     let p = parts v s.whole s.decimals s.text in
-    let w : digits 0 (s.whole ++ s.decimals) ≡ Value (numeral (s.whole ++ s.decimals)) = (digits_write _ 0 _).1 (p.digits_each, omega arith) in
-    rw (p.counted, p.whole_is, p.decimals_are, w, le-leb _ _ s.within) (ap (λ (m : ℕ). TenMillionths (signed below m)) (sym s.is))
+    let w : digits 0 (s.whole ++ s.decimals) ≡ Some (numeral (s.whole ++ s.decimals)) = (digits_write _ 0 _).1 (p.digits_each, omega arith) in
+    rw (p.counted, p.whole_is, p.decimals_are, w, le-leb _ _ s.within) (ap (λ (m : ℕ). Some (signed below m)) (sym s.is))
 
-pub degrees_exactly : (limit : ℕ) (v : List ℕ) (z : ℤ) → formed NoDegrees (degrees_text limit) v ≡ TenMillionths z ↔ Coordinate limit v z
+pub degrees_exactly : (limit : ℕ) (v : List ℕ) (z : ℤ) → formed None (degrees_text limit) v ≡ Some z ↔ Coordinate limit v z
 unfolding degrees_text signed
-degrees_exactly limit v z = (λ e. there v (eqb (get_or v 0 0) 45) refl (reads NoDegrees (degrees_text limit) v (TenMillionths z) (not_degrees z) e), back)
+degrees_exactly limit v z = (λ e. there v (eqb (get_or v 0 0) 45) refl (reads None (degrees_text limit) v (Some z) (not_degrees z) e), back)
   where
-    there : (v : List ℕ) (t : Bool) → eqb (get_or v 0 0) 45 ≡ t → cond t (size_text limit true (drop 1 v)) (size_text limit false v) ≡ TenMillionths z → Coordinate limit v z
+    there : (v : List ℕ) (t : Bool) → eqb (get_or v 0 0) 45 ≡ t → cond t (size_text limit true (drop 1 v)) (size_text limit false v) ≡ Some z → Coordinate limit v z
     there [] true q e = absurd (omega (arith, eqb-true 0 45 q))
     there (b ∷ l) true q e = let s = size_read limit true l z e in minus s.number l (ap (λ (x : ℕ). x ∷ l) (eqb-true b 45 q)) s.size s.is
     there l false q e = let s = size_read limit false l z e in plain s.number s.size s.is
 
-    back : Coordinate limit v z → formed NoDegrees (degrees_text limit) v ≡ TenMillionths z
+    back : Coordinate limit v z → formed None (degrees_text limit) v ≡ Some z
     back (plain n s e) =
         let p = parts v s.whole s.decimals s.text in
-        is_read NoDegrees (degrees_text limit) v (TenMillionths z) p.unmarked
+        is_read None (degrees_text limit) v (Some z) p.unmarked
         (rw (ne_eqb (get_or v 0 0) 45 (λ q. omega (arith, p.first.0)), e) (size_of limit false v n s))
     back (minus n l q s e) =
         let p = parts l s.whole s.decimals s.text in
-        rw (q, e) (is_read NoDegrees (degrees_text limit) (45 ∷ l) (TenMillionths (neg_ℤ (pos n))) (no_mark_cons 45 l (λ q. omega arith) p.unmarked) (size_of limit true l n s))
+        rw (q, e) (is_read None (degrees_text limit) (45 ∷ l) (Some (neg_ℤ (pos n))) (no_mark_cons 45 l (λ q. omega arith) p.unmarked) (size_of limit true l n s))

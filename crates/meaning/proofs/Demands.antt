@@ -7,7 +7,7 @@ use lib.IntN.{ℤ}
 use lib.ListN.{length}
 use Rattle.meaning.specs.declared.Place.{Place}
 use Rattle.meaning.specs.declared.Profile.{Profile}
-use Rattle.meaning.specs.declared.Verdict.TheVariants.{Readable}
+use Rattle.std.specs.Prelude.{Ok}
 use Rattle.meaning.specs.Tables.{feed_of}
 use Rattle.meaning.specs.Refusals.{verdict_of}
 use Rattle.meaning.specs.Outcome.{outcome}
@@ -23,7 +23,7 @@ use Rattle.meaning.proofs.Calls.{findings_join}
 
 module _ (files : List (List ℕ)) (tables : List (List ℤ)) (list : List ℤ) (p : Place) (asked : Profile) where
   -- the verdict says whether the files can be read
-  readable : Reads files tables → verdict_of files (map length tables) ≡ Readable
+  readable : Reads files tables → verdict_of files (map length tables) ≡ Ok tt
   readable = (readable_exactly files (map length tables)).1
 
   pub demand_1 : Demand1 files tables list (outcome files tables list p asked)

@@ -1,4 +1,5 @@
 -- Laws of forms: none has a mark in it; which values a sequence and a choice read.
+use Rattle.std.specs.Prelude.{Some, None}
 use Prim.Native.Nat.{ℕ, ◌+◌, ◌-◌, ◌≤◌}
 use native.Mathlib.Omega.{arith}
 use mathlib.Core.Path.{◌≡◌, refl, sym}
@@ -9,8 +10,6 @@ use mathlib.Core.List.{List, [], ◌∷◌, ◌++◌}
 use lib.Dec.{eqb, leb}
 use lib.ListN.{length, get_or}
 use borrow.Author.Tests.{eqb-true, ne_eqb, leb-true, le-leb}
-use Rattle.meaning.specs.declared.Number.TheVariants.{Value, NoNumber}
-use Rattle.meaning.specs.declared.Choice.TheVariants.{Picked, NoChoice}
 use Rattle.meaning.specs.Lists.{ascii, same}
 use Rattle.meaning.specs.Forms.{no_mark, formed, sequence_text, sequence_of, digit_text, route_type_text, route_type_of}
 use Rattle.meaning.specs.Promises.{Each}
@@ -52,11 +51,11 @@ module _ {A : Type 0} (none : A) (read : List ℕ → A) (v : List ℕ) (x : A) 
   is_read h e = rw h e
 
 -- one to nine digits
-pub sequence_exactly : (v : List ℕ) (n : ℕ) → sequence_of v ≡ Value n ↔ Digits 1 9 v × (n ≡ numeral v)
+pub sequence_exactly : (v : List ℕ) (n : ℕ) → sequence_of v ≡ Some n ↔ Digits 1 9 v × (n ≡ numeral v)
 unfolding sequence_of
 sequence_exactly v n = (
-  λ e. (sequence_text_lem v n).0 (reads NoNumber sequence_text v (Value n) (none_is_no n) e),
-  λ h. is_read NoNumber sequence_text v (Value n) (digits_unmarked v h.0.each) ((sequence_text_lem v n).1 h),
+  λ e. (sequence_text_lem v n).0 (reads None sequence_text v (Some n) (none_is_no n) e),
+  λ h. is_read None sequence_text v (Some n) (digits_unmarked v h.0.each) ((sequence_text_lem v n).1 h),
 )
 
 -- ---- choices
@@ -67,18 +66,18 @@ single [] e = absurd (omega arith)
 single (b ∷ []) e = refl
 single (b ∷ c ∷ r) e = absurd (omega arith)
 
-pub not_picked : {A : Type 0} (n : ℕ) → NoChoice ≡ Picked n → A
+pub not_picked : {A : Type 0} (n : ℕ) → None ≡ Some n → A
 not_picked n e = let z : ◌≡◌ {A = ℕ} 0 1 = cc in absurd (omega arith)
 
 -- one digit from a to m
-digit_text_lem : (a m : ℕ) (v : List ℕ) (n : ℕ) → digit_text a m v ≡ Picked n ↔ FromTo a m v n
+digit_text_lem : (a m : ℕ) (v : List ℕ) (n : ℕ) → digit_text a m v ≡ Some n ↔ FromTo a m v n
 unfolding digit_text
 digit_text_lem a m v n = (λ e. there (go (test v) (get_or v 0 0 - 48) e), back)
   where
     test : List ℕ → Bool
     test w = eqb (length w) 1 && (leb (48 + a) (get_or w 0 0) && leb (get_or w 0 0) (48 + m))
 
-    go : (d : Bool) (b : ℕ) → cond d (Picked b) NoChoice ≡ Picked n → (d ≡ true) × (b ≡ n)
+    go : (d : Bool) (b : ℕ) → cond d (Some b) None ≡ Some n → (d ≡ true) × (b ≡ n)
     go true b e = (refl, cc)
     go false b e = not_picked n e
 
@@ -92,7 +91,7 @@ digit_text_lem a m v n = (λ e. there (go (test v) (get_or v 0 0 - 48) e), back)
         let is : 48 + n ≡ get_or v 0 0 = omega arith in
         ((omega arith, omega arith), rw is (single v (eqb-true _ 1 h.0)))
 
-    back : FromTo a m v n → digit_text a m v ≡ Picked n
+    back : FromTo a m v n → digit_text a m v ≡ Some n
     back h =
         let low : a ≤ n = h.0.0 in
         let high : n ≤ m = h.0.1 in
@@ -104,10 +103,10 @@ digit_unmarked : (n : ℕ) → no_mark ((48 + n) ∷ []) ≡ true
 unfolding no_mark
 digit_unmarked n = rw (ne_eqb (48 + n) 34 (λ z. omega arith))
 
-pub digit_picked : (a m : ℕ) (v : List ℕ) (n : ℕ) → formed NoChoice (digit_text a m) v ≡ Picked n ↔ FromTo a m v n
+pub digit_picked : (a m : ℕ) (v : List ℕ) (n : ℕ) → formed None (digit_text a m) v ≡ Some n ↔ FromTo a m v n
 digit_picked a m v n = (
-  λ e. (digit_text_lem a m v n).0 (reads NoChoice (digit_text a m) v (Picked n) (not_picked n) e),
-  λ h. is_read NoChoice (digit_text a m) v (Picked n) (rw h.1 (digit_unmarked n)) ((digit_text_lem a m v n).1 h),
+  λ e. (digit_text_lem a m v n).0 (reads None (digit_text a m) v (Some n) (not_picked n) e),
+  λ h. is_read None (digit_text a m) v (Some n) (rw h.1 (digit_unmarked n)) ((digit_text_lem a m v n).1 h),
 )
 
 -- one byte is no longer text
@@ -125,17 +124,17 @@ one_byte b (c ∷ d ∷ w) h = go (eqb b c)
 abbrev RouteType : List ℕ → ℕ → Type 0
 RouteType v n = FromTo 0 7 v n ⊎ (((n ≡ 11) × (v ≡ ascii "11")) ⊎ ((n ≡ 12) × (v ≡ ascii "12")))
 
-pub route_exactly : (v : List ℕ) (n : ℕ) → route_type_of v ≡ Picked n ↔ RouteType v n
+pub route_exactly : (v : List ℕ) (n : ℕ) → route_type_of v ≡ Some n ↔ RouteType v n
 unfolding route_type_of route_type_text
-route_exactly v n = (λ e. there (same v (ascii "11")) refl (same v (ascii "12")) refl (reads NoChoice route_type_text v (Picked n) (not_picked n) e), back)
+route_exactly v n = (λ e. there (same v (ascii "11")) refl (same v (ascii "12")) refl (reads None route_type_text v (Some n) (not_picked n) e), back)
   where
-    there : (a : Bool) → same v (ascii "11") ≡ a → (b : Bool) → same v (ascii "12") ≡ b → cond a (Picked 11) (cond b (Picked 12) (digit_text 0 7 v)) ≡ Picked n → RouteType v n
+    there : (a : Bool) → same v (ascii "11") ≡ a → (b : Bool) → same v (ascii "12") ≡ b → cond a (Some 11) (cond b (Some 12) (digit_text 0 7 v)) ≡ Some n → RouteType v n
     there true p b q e = inr (inl ((let z : 11 ≡ n = cc in sym z), same_equal v (ascii "11") p))
     there false p true q e = inr (inr ((let z : 12 ≡ n = cc in sym z), same_equal v (ascii "12") q))
     there false p false q e = inl ((digit_text_lem 0 7 v n).0 e)
 
-    back : RouteType v n → route_type_of v ≡ Picked n
-    back (inl h) = is_read NoChoice route_type_text v (Picked n) (rw h.1 (digit_unmarked n)) (rw (longer (ascii "11") (omega arith), longer (ascii "12") (omega arith)) ((digit_text_lem 0 7 v n).1 h))
+    back : RouteType v n → route_type_of v ≡ Some n
+    back (inl h) = is_read None route_type_text v (Some n) (rw h.1 (digit_unmarked n)) (rw (longer (ascii "11") (omega arith), longer (ascii "12") (omega arith)) ((digit_text_lem 0 7 v n).1 h))
       where
         longer : (w : List ℕ) → 2 ≤ length w → same v w ≡ false
         longer w g = rw h.1 (one_byte (48 + n) w g)

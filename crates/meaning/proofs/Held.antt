@@ -9,8 +9,8 @@ use lib.ListN.{length, get_or, length-map}
 use lib.Dec.{eqb}
 use Rattle.meaning.specs.declared.Place.{Place}
 use Rattle.meaning.specs.declared.Profile.{Profile}
-use Rattle.meaning.specs.declared.Verdict.{Verdict}
-use Rattle.meaning.specs.declared.Verdict.TheVariants.{Readable, Unreadable}
+use Rattle.std.specs.Prelude.{Result, Ok, Err}
+use Rattle.meaning.specs.declared.Refusal.{Refusal}
 use Rattle.meaning.specs.Bytes.{lines_of}
 use Rattle.meaning.specs.Columns.{Row, places, header_of, rows_of}
 use Rattle.meaning.specs.Tables.{Feed, file_of, feed_of, refer, pack_from, packed_days, stop_numbers, route_numbers, service_numbers, trip_numbers, time_numbers, exception_numbers, widths, width_of, id_column, numbers_of, id_place, record_of, filled}
@@ -177,7 +177,7 @@ filled_long m w (s ∷ files) (t ∷ tables) each =
     (filled_long (m + 1) w files tables (λ k h l. let y : m + 1 + k ≡ m + suc k = omega arith in rw y (each (suc k) (omega arith) (omega arith))))
 
 module _ (files : List (List ℕ)) (tables : List (List ℤ)) (list : List ℤ) (p : Place) (asked : Profile) (six : length files ≡ 6) where
-  module _ (read : verdict_of files (map length tables) ≡ Readable) where
+  module _ (read : verdict_of files (map length tables) ≡ Ok tt) where
     kept : (k : ℕ) → k < length files → k < length tables → WholeKept files (1 + k) (get_or files k []) (length (get_or tables k []))
     unfolding file_of
     kept k h l =
@@ -210,15 +210,15 @@ module _ (files : List (List ℕ)) (tables : List (List ℤ)) (list : List ℤ) 
   unfolding outcome read_outcome
   tables_long = go (verdict_of files (map length tables)) refl
     where
-      go : (v : Verdict) → verdict_of files (map length tables) ≡ v → map length (refused_or v (read_outcome files tables list p asked) tables list).tables ≡ map length tables
-      go Readable e = read_long e
-      go (Unreadable r) e = refl
+      go : (v : Result Unit Refusal) → verdict_of files (map length tables) ≡ v → map length (refused_or v (read_outcome files tables list p asked) tables list).tables ≡ map length tables
+      go (Ok tt) e = read_long e
+      go (Err r) e = refl
 
 -- The list is as long as it was lent.
 pub list_long : (files : List (List ℕ)) (tables : List (List ℤ)) (list : List ℤ) (p : Place) (asked : Profile) → length (outcome files tables list p asked).list ≡ length list
 unfolding outcome read_outcome
 list_long files tables list p asked = go (verdict_of files (map length tables))
   where
-    go : (v : Verdict) → length (refused_or v (read_outcome files tables list p asked) tables list).list ≡ length list
-    go Readable = handed_long findings_kind (findings_of asked (feed_of files)) p list
-    go (Unreadable r) = refl
+    go : (v : Result Unit Refusal) → length (refused_or v (read_outcome files tables list p asked) tables list).list ≡ length list
+    go (Ok tt) = handed_long findings_kind (findings_of asked (feed_of files)) p list
+    go (Err r) = refl

@@ -1,4 +1,5 @@
 -- Nodes and boarding areas: each sentence of document 02's E10 holds of every outcome of six files and six tables.
+use Rattle.std.specs.Prelude.{Option, Some, None, is_some}
 use Prim.Native.Nat.{ℕ, zero, suc, ◌+◌, ◌*◌, ◌-◌, ◌≤◌, ◌<◌}
 use native.Mathlib.Omega.{arith}
 use native.Mathlib.Decide.{ℕ_discrete}
@@ -10,14 +11,14 @@ use lib.IntN.{ℤ, pos}
 use lib.ListN.{length, get_or}
 use lib.Dec.{eqb, ltb}
 use borrow.Author.Tests.{eqb-false, ne_eqb, ltb-true, ltb-false, lt-ltb, le-ltb, not-true, not-false}
-use Rattle.meaning.specs.declared.Choice.{Choice}
-use Rattle.meaning.specs.declared.Choice.TheVariants.{Picked, NoChoice}
+use Rattle.meaning.specs.declared.Need.{Need}
+use Rattle.meaning.specs.declared.Need.TheVariants.{Never, AllButInner, AllButPlaceless}
 use Rattle.meaning.specs.declared.Column.{Column}
 use Rattle.meaning.specs.declared.Place.{Place}
 use Rattle.meaning.specs.declared.Profile.{Profile}
 use Rattle.meaning.specs.Lists.{empty, place}
-use Rattle.meaning.specs.Columns.{Row, stops_columns, schemas, schema, known_at, column_of, count_of, places, row_of, rows_of}
-use Rattle.meaning.specs.Forms.{no_mark, formed, pointed, to_point, degrees_text, size_text, latitude_of, longitude_of, choice_of, is_choice, shapes, shape}
+use Rattle.meaning.specs.Columns.{Row, rank, stops_columns, schemas, schema, known_at, column_of, count_of, places, row_of, rows_of}
+use Rattle.meaning.specs.Forms.{no_mark, formed, pointed, to_point, degrees_text, size_text, latitude_of, longitude_of, choice_of, shape}
 use Rattle.meaning.specs.Tables.{Feed, file_of, feed_of, refer, stop_ids, stop_id, stop_name, stop_lat, stop_lon, location_type, parent_station, degrees, one_if, kind_of, inner, placed, widths, width_of}
 use Rattle.meaning.specs.Refusals.{rule3, rule9, rule12, slack, blank, leftmost}
 use Rattle.meaning.specs.Rules.{row, rule21·stops, other_kind, kind_of_parent, rule22}
@@ -38,19 +39,19 @@ use Rattle.meaning.proofs.Held.{tables_held}
 
 -- ---- the form of location_type
 
-shape_is : (v : List ℕ) → shape (column_of 1 4).form v ≡ is_choice (choice_of 4 v)
-unfolding shape shapes column_of known_at schema schemas stops_columns
+shape_is : (v : List ℕ) → shape (column_of 1 4).form v ≡ is_some (choice_of 4 v)
+unfolding shape column_of known_at schema schemas stops_columns
 shape_is v = refl
 
-one_digit : (v : List ℕ) → is_choice (choice_of 4 v) ≡ true → OneDigit 4 v
+one_digit : (v : List ℕ) → is_some (choice_of 4 v) ≡ true → OneDigit 4 v
 unfolding choice_of
 one_digit v e = go (choice_of 4 v) refl e
   where
-    go : (c : Choice) → choice_of 4 v ≡ c → is_choice c ≡ true → OneDigit 4 v
-    go (Picked n) q h = let k = (digit_picked 0 4 v n).0 q in record { digit = n; small = k.0.1; is = k.1 }
-    go NoChoice q h = both false h refl
+    go : (c : Option ℕ) → choice_of 4 v ≡ c → is_some c ≡ true → OneDigit 4 v
+    go (Some n) q h = let k = (digit_picked 0 4 v n).0 q in record { digit = n; small = k.0.1; is = k.1 }
+    go None q h = both false h refl
 
-digit_formed : (v : List ℕ) → OneDigit 4 v → is_choice (choice_of 4 v) ≡ true
+digit_formed : (v : List ℕ) → OneDigit 4 v → is_some (choice_of 4 v) ≡ true
 unfolding choice_of
 digit_formed v o = rw ((digit_picked 0 4 v o.digit).1 ((omega arith, o.small), o.is))
 
@@ -61,9 +62,9 @@ unread : (r : Row) → shape (column_of 1 4).form (location_type r) ≡ false �
 unfolding kind_of
 unread r e = go (choice_of 4 (location_type r)) (sym (shape_is (location_type r)) ∙ e)
   where
-    go : (c : Choice) → is_choice c ≡ false → one_if c ≡ 0
-    go (Picked n) e = both true refl e
-    go NoChoice e = refl
+    go : (c : Option ℕ) → is_some c ≡ false → one_if c ≡ 0
+    go (Some n) e = both true refl e
+    go None e = refl
 
 -- ---- rule 22
 
@@ -121,29 +122,29 @@ module _ (w : Feed) (i : ℕ) where
 -- ---- rule 12
 
 -- the slack of a row of stops.txt, by whether it is a node or a boarding area, and whether it has a place
-abbrev free : Bool → Bool → ℕ
-free a b = cond a (cond b 1 2) 0
+abbrev free : Bool → Bool → Need
+free a b = cond a (cond b AllButInner AllButPlaceless) Never
 
 -- when a row of stops.txt has a value blank, by its column's need
 module _ (r : Row) (c : Column) (v : List ℕ) where
-  blank_never : c.need ≡ 0 → blank (slack 1 r) c v ≡ false
+  blank_never : c.need ≡ Never → blank (slack 1 r) c v ≡ false
   unfolding blank
-  blank_never e = rw (e, le-ltb (slack 1 r) 0 (omega arith))
+  blank_never e = rw (e, le-ltb (rank (slack 1 r)) 0 (omega arith))
 
-  blank_name : c.need ≡ 1 → blank (slack 1 r) c v ≡ not (inner r) && empty v
+  blank_name : c.need ≡ AllButInner → blank (slack 1 r) c v ≡ not (inner r) && empty v
   unfolding blank slack
   blank_name e = rw e (go (inner r) (placed r))
     where
-      go : (a b : Bool) → (ltb (free a b) 1 && empty v) ≡ (not a && empty v)
+      go : (a b : Bool) → (ltb (rank (free a b)) 1 && empty v) ≡ (not a && empty v)
       go true true = refl
       go true false = refl
       go false b = refl
 
-  blank_place : c.need ≡ 2 → blank (slack 1 r) c v ≡ (not (inner r) || placed r) && empty v
+  blank_place : c.need ≡ AllButPlaceless → blank (slack 1 r) c v ≡ (not (inner r) || placed r) && empty v
   unfolding blank slack
   blank_place e = rw e (go (inner r) (placed r))
     where
-      go : (a b : Bool) → (ltb (free a b) 2 && empty v) ≡ ((not a || b) && empty v)
+      go : (a b : Bool) → (ltb (rank (free a b)) 2 && empty v) ≡ ((not a || b) && empty v)
       go true true = refl
       go true false = refl
       go false b = refl
@@ -261,7 +262,7 @@ longitude_alone_lem ps l a = only_blank ps l 3 (omega arith) (lon_blank r a.id a
     go j h e (yes z) = rw z (lat_blank r a.id a.within false true a.other a.none refl)
     go j h e (no z) = others_kept r a.id a.within false true a.other a.none j z e h
 
-pub elsewhere : (f : ℕ) (r : Row) → (f ≡ 1 → ⊥) → slack f r ≡ 0
+pub elsewhere : (f : ℕ) (r : Row) → (f ≡ 1 → ⊥) → slack f r ≡ Never
 unfolding slack
 elsewhere f r h = rw (ne_eqb f 1 h)
 

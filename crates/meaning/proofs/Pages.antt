@@ -12,8 +12,8 @@ use lib.Dec.{eqb}
 use borrow.Author.Tests.{ne_eqb}
 use Rattle.meaning.specs.declared.Place.{Place}
 use Rattle.meaning.specs.declared.Profile.{Profile}
-use Rattle.meaning.specs.declared.Verdict.{Verdict}
-use Rattle.meaning.specs.declared.Verdict.TheVariants.{Readable, Unreadable}
+use Rattle.std.specs.Prelude.{Result, Ok, Err}
+use Rattle.meaning.specs.declared.Refusal.{Refusal}
 use Rattle.meaning.specs.declared.Answer.TheVariants.{Accepted, Findings}
 use Rattle.meaning.specs.Lists.{keep}
 use Rattle.meaning.specs.Tables.{feed_of}
@@ -63,7 +63,7 @@ written_told p (d ∷ r) lent = rw (ne_eqb (length (d ∷ r)) 0 (λ e. omega ari
 
 -- A call on a readable feed hands out the earliest after its starting place, as many as fit, and tells their number and the total.
 pub page_told : (files : List (List ℕ)) (tables : List (List ℤ)) (lent : List ℤ) (p : Place) (asked : Profile)
-    → verdict_of files (map length tables) ≡ Readable
+    → verdict_of files (map length tables) ≡ Ok tt
     → PageTold (findings_of asked (feed_of files)) p lent (outcome files tables lent p asked)
 unfolding outcome read_outcome
 page_told files tables lent p asked e =
@@ -75,13 +75,13 @@ page_told files tables lent p asked e =
 
 -- a feed is accepted exactly when it is readable and has no finding
 pub accepted_exactly : (files : List (List ℕ)) (tables : List (List ℤ)) (lent : List ℤ) (p : Place) (asked : Profile)
-    → answer_numbers (outcome files tables lent p asked).answer ≡ says_accepted ↔ (verdict_of files (map length tables) ≡ Readable) × (findings_of asked (feed_of files) ≡ [])
+    → answer_numbers (outcome files tables lent p asked).answer ≡ says_accepted ↔ (verdict_of files (map length tables) ≡ Ok tt) × (findings_of asked (feed_of files) ≡ [])
 unfolding outcome read_outcome
 accepted_exactly files tables lent p asked = (there (verdict_of files (map length tables)), λ h. rw h.0 (told p ds lent ∙ rw h.1))
   where
     ds : List Finding
     ds = findings_of asked (feed_of files)
 
-    there : (v : Verdict) → answer_numbers (refused_or v (read_outcome files tables lent p asked) tables lent).answer ≡ says_accepted → (v ≡ Readable) × (ds ≡ [])
-    there Readable e = (refl, nothing ds (omega (arith, total_told p ds lent, ap total_in e)))
-    there (Unreadable r) e = let z : ◌≡◌ {A = ℕ} 2 0 = unfold answer_numbers in ap (λ (ns : List ℕ). get_or ns 0 0) e in absurd (omega arith)
+    there : (v : Result Unit Refusal) → answer_numbers (refused_or v (read_outcome files tables lent p asked) tables lent).answer ≡ says_accepted → (v ≡ Ok tt) × (ds ≡ [])
+    there (Ok tt) e = (refl, nothing ds (omega (arith, total_told p ds lent, ap total_in e)))
+    there (Err r) e = let z : ◌≡◌ {A = ℕ} 2 0 = unfold answer_numbers in ap (λ (ns : List ℕ). get_or ns 0 0) e in absurd (omega arith)

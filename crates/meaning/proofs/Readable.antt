@@ -9,11 +9,12 @@ use lib.ListN.{length, get_or, drop, length-map, length-drop}
 use lib.Seq.{get_or-drop}
 use lib.Dec.{eqb}
 use borrow.Author.Tests.{ne_eqb, eqb-true, not-false, ltb-false}
+use Rattle.meaning.specs.declared.Need.TheVariants.{Always}
 use Rattle.meaning.specs.declared.Column.{Column}
-use Rattle.meaning.specs.declared.Verdict.TheVariants.{Readable}
+use Rattle.std.specs.Prelude.{Ok}
 use Rattle.meaning.specs.Bytes.{lines_of, values}
 use Rattle.meaning.specs.Lists.{empty}
-use Rattle.meaning.specs.Columns.{Row, always, column_of, count_of, places, row_of, header_of, rows_of}
+use Rattle.meaning.specs.Columns.{Row, column_of, count_of, places, row_of, header_of, rows_of}
 use Rattle.meaning.specs.Tables.{file_of}
 use Rattle.meaning.specs.Refusals.{Test, test, test_at, claim_of, rule1, rule2, rule3, rule4, rule5, rule9, slack, rule11, rule12, rule13, text_tests, head_tests, value_tests, line_tests, in_file, verdict_of}
 use Rattle.meaning.specs.Promises.{file_tests, field_count, tests_on, no_line, NoneBroken, ValueKept}
@@ -25,7 +26,7 @@ use Rattle.meaning.proofs.Columns.{blank_always, kept_11, kept_12, kept_13}
 use Rattle.meaning.proofs.Sayable.{first_line}
 
 -- a value that is needed always is there
-pub always_there : (f : ℕ) (r : Row) (c : Column) (v : List ℕ) → c.need ≡ always → ValueKept (slack f r) c v → empty v ≡ false
+pub always_there : (f : ℕ) (r : Row) (c : Column) (v : List ℕ) → c.need ≡ Always → ValueKept (slack f r) c v → empty v ≡ false
 always_there f r c v e k = sym (blank_always c f r v e) ∙ k.there
 
 -- a file none of whose lines breaks a rule
@@ -85,7 +86,7 @@ module _ (f : ℕ) (s : List ℕ) (quiet : NoneBroken (in_file f (lines_of s))) 
           formed = (kept_13 f header lacks_nothing text).0 (none_on_row 13 (rule13 f (places f header) text) (Memᴰ.tail (Memᴰ.tail (Memᴰ.head refl)))) k g;
         })
 
-module _ (files : List (List ℕ)) (rooms : List ℕ) (read : verdict_of files rooms ≡ Readable) (f : ℕ) (from : 1 ≤ f) (to : f ≤ length files) where
+module _ (files : List (List ℕ)) (rooms : List ℕ) (read : verdict_of files rooms ≡ Ok tt) (f : ℕ) (from : 1 ≤ f) (to : f ≤ length files) where
   none_whole : (room : f ≤ length rooms) (t : Test) → Memᴰ t (file_tests files f (file_of files f) (get_or rooms (f - 1) 0)) → t.broken ≡ false
   none_whole room t m =
       (readable_exactly files rooms).0 read (claim_of f 0 t)

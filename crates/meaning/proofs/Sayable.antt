@@ -11,7 +11,7 @@ use lib.ListN.{length, get_or}
 use lib.Dec.{eqb}
 use borrow.Author.Tests.{eq-eqb, ne_eqb, eqb-true, le-ltb, ltb-false}
 use Rattle.meaning.specs.declared.Refusal.{Refusal}
-use Rattle.meaning.specs.declared.Verdict.TheVariants.{Unreadable}
+use Rattle.std.specs.Prelude.{Err}
 use Rattle.meaning.specs.Lists.{place}
 use Rattle.meaning.specs.Bytes.{Line, lines_of, fields, values}
 use Rattle.meaning.specs.Columns.{places, header_of}
@@ -201,5 +201,5 @@ module _ (files : List (List ℕ)) (rooms : List ℕ) (r : Refusal) (b : FirstBr
           record { lowest = omega arith; highest = omega arith; file = (t.from, t.to); line = (λ z. absurd (omega arith), λ z. absurd (omega arith)); last = t.last; column = small_column t }
 
 -- A refusal's number is 1 to 14, its file one of the files, its line one of that file's, or 0 exactly for rules 1 to 4, its column at most 32.
-pub refusal_numbers : (files : List (List ℕ)) (rooms : List ℕ) (r : Refusal) → verdict_of files rooms ≡ Unreadable r → Sayable files r
+pub refusal_numbers : (files : List (List ℕ)) (rooms : List ℕ) (r : Refusal) → verdict_of files rooms ≡ Err r → Sayable files r
 refusal_numbers files rooms r e = sayable files rooms r ((first_broken files rooms r).0 e)

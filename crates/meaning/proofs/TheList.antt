@@ -15,8 +15,7 @@ use Rattle.meaning.specs.declared.Refusal.{Refusal}
 use Rattle.meaning.specs.declared.Place.{Place}
 use Rattle.meaning.specs.declared.Profile.{Profile}
 use Rattle.meaning.specs.declared.Profile.TheVariants.{Plain, Boards}
-use Rattle.meaning.specs.declared.Verdict.{Verdict}
-use Rattle.meaning.specs.declared.Verdict.TheVariants.{Readable, Unreadable}
+use Rattle.std.specs.Prelude.{Result, Ok, Err}
 use Rattle.meaning.specs.declared.Answer.TheVariants.{Accepted, Findings}
 use Rattle.meaning.specs.Lists.{flat}
 use Rattle.meaning.specs.Tables.{Feed, feed_of, rows_in}
@@ -227,13 +226,13 @@ never_refused p ds list r e = go (eqb (length ds) 0) (ap (λ (ns : List ℕ). ge
 
 module _ (files : List (List ℕ)) (tables : List (List ℤ)) (list : List ℤ) (p : Place) (asked : Profile) where
   -- The answer refuses exactly what the verdict does.
-  pub refused_answer : (r : Refusal) → answer_numbers (outcome files tables list p asked).answer ≡ says_refused r ↔ verdict_of files (map length tables) ≡ Unreadable r
+  pub refused_answer : (r : Refusal) → answer_numbers (outcome files tables list p asked).answer ≡ says_refused r ↔ verdict_of files (map length tables) ≡ Err r
   unfolding outcome read_outcome answer_numbers
   refused_answer r = (λ e. there (verdict_of files (map length tables)) refl e, λ e. rw e)
     where
-      there : (v : Verdict) → verdict_of files (map length tables) ≡ v → answer_numbers (refused_or v (read_outcome files tables list p asked) tables list).answer ≡ says_refused r → verdict_of files (map length tables) ≡ Unreadable r
-      there Readable k e = absurd (never_refused p (findings_of asked (feed_of files)) list r e)
-      there (Unreadable s) k e = k ∙ ap Unreadable (one_refusal r s (ap (λ (ns : List ℕ). take 4 (drop 1 ns)) e))
+      there : (v : Result Unit Refusal) → verdict_of files (map length tables) ≡ v → answer_numbers (refused_or v (read_outcome files tables list p asked) tables list).answer ≡ says_refused r → verdict_of files (map length tables) ≡ Err r
+      there (Ok tt) k e = absurd (never_refused p (findings_of asked (feed_of files)) list r e)
+      there (Err s) k e = k ∙ ap Err (one_refusal r s (ap (λ (ns : List ℕ). take 4 (drop 1 ns)) e))
 
   -- A refused feed leaves every table and the list as lent.
   pub refused_untouched : (r : Refusal) → answer_numbers (outcome files tables list p asked).answer ≡ says_refused r → ((outcome files tables list p asked).tables ≡ tables) × ((outcome files tables list p asked).list ≡ list)
@@ -249,6 +248,6 @@ module _ (files : List (List ℕ)) (tables : List (List ℤ)) (list : List ℤ) 
       read true n m = accepted refl
       read false n m = findings n m refl
 
-      go : (v : Verdict) → verdict_of files (map length tables) ≡ v → Ends files (answer_numbers (refused_or v (read_outcome files tables list p asked) tables list).answer)
-      go Readable e = read (eqb (length (findings_of asked (feed_of files))) 0) _ _
-      go (Unreadable r) e = refused r refl (refusal_numbers files (map length tables) r e)
+      go : (v : Result Unit Refusal) → verdict_of files (map length tables) ≡ v → Ends files (answer_numbers (refused_or v (read_outcome files tables list p asked) tables list).answer)
+      go (Ok tt) e = read (eqb (length (findings_of asked (feed_of files))) 0) _ _
+      go (Err r) e = refused r refl (refusal_numbers files (map length tables) r e)

@@ -1,4 +1,5 @@
 -- Laws of times and dates: which values each reads, both ways.
+use Rattle.std.specs.Prelude.{Option, Some, None}
 use Prim.Native.Nat.{ℕ, ◌+◌, ◌*◌, ◌/◌, ◌%◌, ◌≤◌, ◌<◌}
 use native.Mathlib.Numerals.{add-one}
 use native.Mathlib.Omega.{arith}
@@ -12,10 +13,7 @@ use lib.ListN.{length, get_or, take, drop, length-drop}
 use lib.Seq.{split_at, get_or-drop, drop-drop, length-take-le, take_all}
 use lib.Dec.{eqb, leb, ltb}
 use borrow.Author.Tests.{eqb-true, eqb-false, eq-eqb, ne_eqb, ltb-true, lt-ltb, leb-true, le-leb, not-true}
-use Rattle.meaning.specs.declared.Number.{Number}
-use Rattle.meaning.specs.declared.Number.TheVariants.{Value, NoNumber}
 use Rattle.meaning.specs.declared.Time.TheVariants.{Seconds, Untimed, NoTime}
-use Rattle.meaning.specs.declared.Date.TheVariants.{Day, NoDate}
 use Rattle.meaning.specs.Forms.{no_mark, formed, sequence_text, with_number, clock_of, clock, time_text, time_of, leap, month_days, days_in, is_day, date_text, date_of}
 use Rattle.meaning.specs.Promises.{Each}
 use Rattle.meaning.specs.Limits.{Digits, numeral, Clock, TrueDate}
@@ -31,32 +29,32 @@ pub not_seconds : {A : Type 0} (n : ℕ) → NoTime ≡ Seconds n → A
 not_seconds n e = let z : ◌≡◌ {A = ℕ} 0 1 = cc in absurd (omega arith)
 
 -- what a clock between colons reads
-record Read (colons : Bool) (h m x : Number) (n : ℕ) : Type 0 where
+record Read (colons : Bool) (h m x : Option ℕ) (n : ℕ) : Type 0 where
   hour : ℕ
   minute : ℕ
   second : ℕ
   between : colons ≡ true
-  hour_is : h ≡ Value hour
-  minute_is : m ≡ Value minute
-  second_is : x ≡ Value second
+  hour_is : h ≡ Some hour
+  minute_is : m ≡ Some minute
+  second_is : x ≡ Some second
   minute_most : minute ≤ 59
   second_most : second ≤ 59
   sum : n ≡ hour * 3600 + minute * 60 + second
 
-clock_read : (colons : Bool) (h m x : Number) (n : ℕ) → clock_of colons h m x ≡ Seconds n → Read colons h m x n
+clock_read : (colons : Bool) (h m x : Option ℕ) (n : ℕ) → clock_of colons h m x ≡ Seconds n → Read colons h m x n
 unfolding clock_of
-clock_read true (Value a) (Value b) (Value c) n e = go (ltb b 60) refl (ltb c 60) refl e
+clock_read true (Some a) (Some b) (Some c) n e = go (ltb b 60) refl (ltb c 60) refl e
   where
-    go : (s : Bool) → ltb b 60 ≡ s → (t : Bool) → ltb c 60 ≡ t → cond s (cond t (Seconds (a * 3600 + b * 60 + c)) NoTime) NoTime ≡ Seconds n → Read true (Value a) (Value b) (Value c) n
+    go : (s : Bool) → ltb b 60 ≡ s → (t : Bool) → ltb c 60 ≡ t → cond s (cond t (Seconds (a * 3600 + b * 60 + c)) NoTime) NoTime ≡ Seconds n → Read true (Some a) (Some b) (Some c) n
     go true p true q e =
         let least : b < 60 = ltb-true b 60 p in
         let last : c < 60 = ltb-true c 60 q in
         record { hour = a; minute = b; second = c; between = refl; hour_is = refl; minute_is = refl; second_is = refl; minute_most = omega arith; second_most = omega arith; sum = cc }
     go true p false q e = not_seconds n e
     go false p t q e = not_seconds n e
-clock_read true (Value a) (Value b) NoNumber n e = not_seconds n e
-clock_read true (Value a) NoNumber x n e = not_seconds n e
-clock_read true NoNumber m x n e = not_seconds n e
+clock_read true (Some a) (Some b) None n e = not_seconds n e
+clock_read true (Some a) None x n e = not_seconds n e
+clock_read true None m x n e = not_seconds n e
 clock_read false h m x n e = not_seconds n e
 
 -- where colons stand behind k bytes and behind two more, the bytes between them
@@ -147,7 +145,7 @@ time_exactly v n = (λ e. there (reads NoTime time_text v (Seconds n) (not_secon
             (no_mark_join c.minutes _ (digits_unmarked _ c.MM.each)
             (no_mark_cons 58 _ (λ z. omega arith) (digits_unmarked _ c.SS.each))))
 
-        number : (l : List ℕ) → 1 ≤ length l → length l ≤ 9 → Each IsDigit l → sequence_text l ≡ Value (numeral l)
+        number : (l : List ℕ) → 1 ≤ length l → length l ≤ 9 → Each IsDigit l → sequence_text l ≡ Some (numeral l)
         number l low high each = (sequence_text_lem l (numeral l)).1 (record { least = low; most = high; each = each }, refl)
 
         sums : clock_of true (sequence_text c.hours) (sequence_text c.minutes) (sequence_text c.seconds) ≡ Seconds n
@@ -156,17 +154,17 @@ time_exactly v n = (λ e. there (reads NoTime time_text v (Seconds n) (not_secon
             (ap Seconds (sym c.is))
 
 -- a clock never reads as empty
-clock_not_untimed : (colons : Bool) (h m x : Number) → clock_of colons h m x ≡ Untimed → ⊥
+clock_not_untimed : (colons : Bool) (h m x : Option ℕ) → clock_of colons h m x ≡ Untimed → ⊥
 unfolding clock_of
-clock_not_untimed true (Value a) (Value b) (Value c) e = go (ltb b 60) (ltb c 60) e
+clock_not_untimed true (Some a) (Some b) (Some c) e = go (ltb b 60) (ltb c 60) e
   where
     go : (s t : Bool) → cond s (cond t (Seconds (a * 3600 + b * 60 + c)) NoTime) NoTime ≡ Untimed → ⊥
     go true true e = let z : ◌≡◌ {A = ℕ} 0 1 = cc in omega arith
     go true false e = let z : ◌≡◌ {A = ℕ} 0 1 = cc in omega arith
     go false t e = let z : ◌≡◌ {A = ℕ} 0 1 = cc in omega arith
-clock_not_untimed true (Value a) (Value b) NoNumber e = let z : ◌≡◌ {A = ℕ} 0 1 = cc in omega arith
-clock_not_untimed true (Value a) NoNumber x e = let z : ◌≡◌ {A = ℕ} 0 1 = cc in omega arith
-clock_not_untimed true NoNumber m x e = let z : ◌≡◌ {A = ℕ} 0 1 = cc in omega arith
+clock_not_untimed true (Some a) (Some b) None e = let z : ◌≡◌ {A = ℕ} 0 1 = cc in omega arith
+clock_not_untimed true (Some a) None x e = let z : ◌≡◌ {A = ℕ} 0 1 = cc in omega arith
+clock_not_untimed true None m x e = let z : ◌≡◌ {A = ℕ} 0 1 = cc in omega arith
 clock_not_untimed false h m x e = let z : ◌≡◌ {A = ℕ} 0 1 = cc in omega arith
 
 pub untimed_exactly : (v : List ℕ) → time_of v ≡ Untimed ↔ v ≡ []
@@ -187,7 +185,7 @@ most_seconds v n e =
 
 -- ---- dates
 
-pub not_day : {A : Type 0} (n : ℕ) → NoDate ≡ Day n → A
+pub not_day : {A : Type 0} (n : ℕ) → None ≡ Some n → A
 not_day n e = let z : ◌≡◌ {A = ℕ} 0 1 = cc in absurd (omega arith)
 
 -- year, month and day of a true date
@@ -208,11 +206,11 @@ day_is n = (there, λ d. rw (le-leb _ _ d.year, le-leb _ _ d.month.0, le-leb _ _
         let d = and_both (leb 1 (n % 100)) _ c.1 in
         record { year = leb-true _ _ a.0; month = (leb-true _ _ b.0, leb-true _ _ c.0); day = (leb-true _ _ d.0, leb-true _ _ d.1) }
 
-pub date_exactly : (v : List ℕ) (n : ℕ) → date_of v ≡ Day n ↔ TrueDate v n
+pub date_exactly : (v : List ℕ) (n : ℕ) → date_of v ≡ Some n ↔ TrueDate v n
 unfolding date_of date_text
-date_exactly v n = (λ e. go (eqb (length v) 8) refl (sequence_text v) refl (reads NoDate date_text v (Day n) (not_day n) e), back)
+date_exactly v n = (λ e. go (eqb (length v) 8) refl (sequence_text v) refl (reads None date_text v (Some n) (not_day n) e), back)
   where
-    there : (m : ℕ) → length v ≡ 8 → sequence_text v ≡ Value m → (t : Bool) → is_day m ≡ t → cond t (Day m) NoDate ≡ Day n → TrueDate v n
+    there : (m : ℕ) → length v ≡ 8 → sequence_text v ≡ Some m → (t : Bool) → is_day m ≡ t → cond t (Some m) None ≡ Some n → TrueDate v n
     there m long q true d e =
         let s = (sequence_text_lem v m).0 q in
         let day = (day_is m).0 d in
@@ -228,17 +226,17 @@ date_exactly v n = (λ e. go (eqb (length v) 8) refl (sequence_text v) refl (rea
         }
     there m long q false d e = not_day n e
 
-    go : (a : Bool) → eqb (length v) 8 ≡ a → (s : Number) → sequence_text v ≡ s → cond a (with_number NoDate s (λ m. cond (is_day m) (Day m) NoDate)) NoDate ≡ Day n → TrueDate v n
-    go true p (Value m) q e = there m (eqb-true (length v) 8 p) q (is_day m) refl e
-    go true p NoNumber q e = not_day n e
+    go : (a : Bool) → eqb (length v) 8 ≡ a → (s : Option ℕ) → sequence_text v ≡ s → cond a (with_number None s (λ m. cond (is_day m) (Some m) None)) None ≡ Some n → TrueDate v n
+    go true p (Some m) q e = there m (eqb-true (length v) 8 p) q (is_day m) refl e
+    go true p None q e = not_day n e
     go false p s q e = not_day n e
 
-    back : TrueDate v n → date_of v ≡ Day n
+    back : TrueDate v n → date_of v ≡ Some n
     back d =
-        let s : sequence_text v ≡ Value n = (sequence_text_lem v n).1 (record { least = omega (arith, d.eight.least); most = omega (arith, d.eight.most); each = d.eight.each }, d.is) in
+        let s : sequence_text v ≡ Some n = (sequence_text_lem v n).1 (record { least = omega (arith, d.eight.least); most = omega (arith, d.eight.most); each = d.eight.each }, d.is) in
         let long : length v ≡ 8 = omega (arith, d.eight.least, d.eight.most) in
         let day : is_day n ≡ true = (day_is n).1 (record { year = d.year.0; month = d.month; day = d.day }) in
-        is_read NoDate date_text v (Day n) (digits_unmarked v d.eight.each) (rw (eq-eqb (length v) 8 long, s, day))
+        is_read None date_text v (Some n) (digits_unmarked v d.eight.each) (rw (eq-eqb (length v) 8 long, s, day))
 
 pub leap_exactly : (y : ℕ) → leap y ≡ true ↔ (y % 4 ≡ 0) × ((y % 100 ≡ 0 → ⊥) ⊎ (y % 400 ≡ 0))
 unfolding leap

@@ -1,8 +1,7 @@
 -- A profile for boards, document 02's E13, sentence by sentence, of calls that are lent these files, tables and list and a starting place, and ask for it or don't.
-use Rattle.std.specs.Prelude.{ℕ, ◌+◌, ◌-◌, ◌≤◌, ◌<◌, ◌≡◌, ◌↔◌, ◌⊎◌, Bool, true, false, not, ◌&&◌, ℤ, length, ltb}
+use Rattle.std.specs.Prelude.{ℕ, ◌+◌, ◌-◌, ◌≤◌, ◌<◌, ◌≡◌, ◌↔◌, ◌⊎◌, Bool, true, false, not, ◌&&◌, ℤ, length, ltb, Some}
 use mathlib.Core.List.{List, [], ◌∷◌, Memᴰ}
 use Rattle.meaning.specs.declared.Time.TheVariants.{Seconds}
-use Rattle.meaning.specs.declared.Choice.TheVariants.{Picked}
 use Rattle.meaning.specs.declared.Refusal.{Refusal}
 use Rattle.meaning.specs.declared.Place.{Place}
 use Rattle.meaning.specs.declared.Profile.TheVariants.{Plain, Boards}
@@ -24,7 +23,7 @@ pub record OnLine (w : Feed) (n : ℕ) (P : Row → Type 0) : Type 0 where
 
 -- a choice is 2 or 3
 abbrev pub TwoOrThree : List ℕ → Type 0
-TwoOrThree v = (choice_of 3 v ≡ Picked 2) ⊎ (choice_of 3 v ≡ Picked 3)
+TwoOrThree v = (choice_of 3 v ≡ Some 2) ⊎ (choice_of 3 v ≡ Some 3)
 
 -- a time of 172,800 seconds or more
 pub record Late (v : List ℕ) : Type 0 where

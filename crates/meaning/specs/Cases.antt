@@ -1,14 +1,8 @@
 -- Cases that are computed: document 01's starred ones, the errors of a hurried hand, and worked examples from both documents.
-use Rattle.std.specs.Prelude.{◌≡◌, List, [], ◌∷◌, map, true, false, not, ℕ, ℤ, pos, negsuc, replicate}
+use Rattle.std.specs.Prelude.{◌≡◌, List, [], ◌∷◌, map, true, false, not, ℕ, ℤ, pos, negsuc, replicate, Result, Ok, Err, Option, Some, None}
 use Prim.Native.String.{String}
 use Rattle.meaning.specs.declared.Time.{Time}
 use Rattle.meaning.specs.declared.Time.TheVariants.{Seconds, NoTime}
-use Rattle.meaning.specs.declared.Date.{Date}
-use Rattle.meaning.specs.declared.Date.TheVariants.{Day, NoDate}
-use Rattle.meaning.specs.declared.Degrees.{Degrees}
-use Rattle.meaning.specs.declared.Degrees.TheVariants.{TenMillionths, NoDegrees}
-use Rattle.meaning.specs.declared.Verdict.{Verdict}
-use Rattle.meaning.specs.declared.Verdict.TheVariants.{Readable, Unreadable}
 use Rattle.meaning.specs.declared.Refusal.{Refusal}
 use Rattle.meaning.specs.declared.Place.{Place}
 use Rattle.meaning.specs.declared.Profile.{Profile}
@@ -32,15 +26,15 @@ sevens n = replicate n (pos 7)
 -- a text, and what the documents say of it
 pub data Case : Type 0 where
   time : String → Time → Case
-  date : String → Date → Case
-  latitude : String → Degrees → Case
-  longitude : String → Degrees → Case
+  date : String → Option ℕ → Case
+  latitude : String → Option ℤ → Case
+  longitude : String → Option ℤ → Case
   line : String → List String → Case
   refused_line : String → Case
   formed : List (List ℕ) → Case
   ill_formed : List (List ℕ) → Case
   found_by : Profile → List String → List Finding → Case
-  read : List String → Verdict → Case
+  read : List String → Result Unit Refusal → Case
   records : ℕ → List String → List (List ℤ) → Case
   call : List String → List (List ℤ) → List ℤ → Place → Outcome → Case
   handed : Profile → List String → List ℤ → Place → Answer → List ℤ → Case
@@ -91,10 +85,10 @@ starred =
     ∷ time "25:55:00" (Seconds 93300)
     ∷ time "99:59:59" (Seconds 359999)
     ∷ time "10:5:00" NoTime
-    ∷ date "20240229" (Day 20240229)
-    ∷ date "20230229" NoDate
-    ∷ latitude "-33.86749999" (TenMillionths (negsuc 338674998))
-    ∷ latitude "90.00000001" NoDegrees
+    ∷ date "20240229" (Some 20240229)
+    ∷ date "20230229" None
+    ∷ latitude "-33.86749999" (Some (negsuc 338674998))
+    ∷ latitude "90.00000001" None
     ∷ line "\"a\"\"b\",c" ("a\"b" ∷ "c" ∷ [])
     ∷ refused_line "a\"b"
     ∷ refused_line "\"a\"b"
@@ -144,7 +138,7 @@ hurried_feed =
 abbrev pub hurried : List Case
 hurried =
     time "24:00:00" (Seconds 86400)
-    ∷ latitude "90.00000001" NoDegrees
+    ∷ latitude "90.00000001" None
     ∷ found hurried_feed (finding 1 2 22 ∷ finding 1 3 20 ∷ finding 5 4 29 ∷ [])
     ∷ []
 
@@ -310,30 +304,30 @@ trip_twice =
 -- 9: a must-be-present name is missing. The two times may be empty, and their columns must be there.
 abbrev pub time_missing : Case
 time_missing =
-    read (around one_stop one_trip "trip_id,departure_time,stop_id,stop_sequence\nT,8:00:00,A,1\n") (Unreadable (refused_as 9 5 1))
+    read (around one_stop one_trip "trip_id,departure_time,stop_id,stop_sequence\nT,8:00:00,A,1\n") (Err (refused_as 9 5 1))
 
 -- 5: tab, also inside quotes
 abbrev pub tab_quoted : Case
 tab_quoted =
-    read (around "stop_id,stop_name,stop_lat,stop_lon\nA,\"Al\tder\",1.5,2\n" one_trip two_times) (Unreadable (refused_as 5 1 2))
+    read (around "stop_id,stop_name,stop_lat,stop_lon\nA,\"Al\tder\",1.5,2\n" one_trip two_times) (Err (refused_as 5 1 2))
 
 -- 7: more than 32 fields. A line of 33 breaks it, a line of 32 only rule 10.
 abbrev pub fields33 : Case
 fields33 =
-    read (around "stop_id,stop_name,stop_lat,stop_lon\nA,Alder,1.5,2,,,,,,,,,,,,,,,,,,,,,,,,,,,,,\n" one_trip two_times) (Unreadable (refused_as 7 1 2))
+    read (around "stop_id,stop_name,stop_lat,stop_lon\nA,Alder,1.5,2,,,,,,,,,,,,,,,,,,,,,,,,,,,,,\n" one_trip two_times) (Err (refused_as 7 1 2))
 
 abbrev pub fields32 : Case
 fields32 =
-    read (around "stop_id,stop_name,stop_lat,stop_lon\nA,Alder,1.5,2,,,,,,,,,,,,,,,,,,,,,,,,,,,,\n" one_trip two_times) (Unreadable (refused_as 10 1 2))
+    read (around "stop_id,stop_name,stop_lat,stop_lon\nA,Alder,1.5,2,,,,,,,,,,,,,,,,,,,,,,,,,,,,\n" one_trip two_times) (Err (refused_as 10 1 2))
 
 -- 11: an id longer than 64 bytes
 abbrev pub id64 : Case
 id64 =
-    read (around "stop_id,stop_name,stop_lat,stop_lon\n1234567890123456789012345678901234567890123456789012345678901234,Alder,1.5,2\n" one_trip two_times) Readable
+    read (around "stop_id,stop_name,stop_lat,stop_lon\n1234567890123456789012345678901234567890123456789012345678901234,Alder,1.5,2\n" one_trip two_times) (Ok tt)
 
 abbrev pub id65 : Case
 id65 =
-    read (around "stop_id,stop_name,stop_lat,stop_lon\n12345678901234567890123456789012345678901234567890123456789012345,Alder,1.5,2\n" one_trip two_times) (Unreadable (refused_in 11 1 2 1))
+    read (around "stop_id,stop_name,stop_lat,stop_lon\n12345678901234567890123456789012345678901234567890123456789012345,Alder,1.5,2\n" one_trip two_times) (Err (refused_in 11 1 2 1))
 
 -- ---- services by date, from document 02's words
 
@@ -385,16 +379,16 @@ in_both =
 
 -- If both are empty, it is file 3 that breaks rule 4.
 abbrev pub both_empty : Case
-both_empty = read (serviced "" "") (Unreadable (refused_as 4 3 0))
+both_empty = read (serviced "" "") (Err (refused_as 4 3 0))
 
 -- .. in its turn among the files
 abbrev pub in_its_turn : Case
 in_its_turn =
-    read (one_stop ∷ "" ∷ "" ∷ one_trip ∷ two_times ∷ "" ∷ []) (Unreadable (refused_as 4 2 0))
+    read (one_stop ∷ "" ∷ "" ∷ one_trip ∷ two_times ∷ "" ∷ []) (Err (refused_as 4 2 0))
 
 -- A file with bytes is supplied: file 6 without its last ending breaks rule 4, and calendar.txt may be empty beside it.
 abbrev pub dates_unended : Case
-dates_unended = read (serviced "" "service_id,date,exception_type") (Unreadable (refused_as 4 6 0))
+dates_unended = read (serviced "" "service_id,date,exception_type") (Err (refused_as 4 6 0))
 
 -- .. and so is a header alone: the feed reads, and 21 says that the service stands in neither file
 abbrev pub dates_header_only : Case
@@ -403,13 +397,13 @@ dates_header_only = found (serviced "" "service_id,date,exception_type\n") (find
 -- 13: exception_type is 1 or 2
 abbrev pub exception_zero : Case
 exception_zero =
-    read (serviced one_service "service_id,date,exception_type\nW,20240101,0\n") (Unreadable (refused_in 13 6 2 3))
+    read (serviced one_service "service_id,date,exception_type\nW,20240101,0\n") (Err (refused_in 13 6 2 3))
 
 -- files are read in order: file 5 speaks before file 6
 abbrev pub times_before_dates : Case
 times_before_dates =
     let times : String = "trip_id,arrival_time,departure_time,stop_id,stop_sequence\nT,9:60:00,9:60:00,A,2\n" in
-    read (one_stop ∷ "route_id,route_short_name,route_type\nR,7,3\n" ∷ one_service ∷ one_trip ∷ times ∷ "service_id\n" ∷ []) (Unreadable (refused_in 13 5 2 2))
+    read (one_stop ∷ "route_id,route_short_name,route_type\nR,7,3\n" ∷ one_service ∷ one_trip ∷ times ∷ "service_id\n" ∷ []) (Err (refused_in 13 5 2 2))
 
 -- 20: the same service and date, whatever the type; the service alone may stand again, and so may the date.
 abbrev pub dates_twice : Case
@@ -451,53 +445,53 @@ no_row_allows =
 -- half a character, in a quoted name: 14, on its line
 abbrev pub half_character : Case
 half_character =
-    read (around "stop_id,stop_name,stop_lat,stop_lon\nA,\"CafÃ\",1.5,2\n" one_trip two_times) (Unreadable (refused_as 14 1 2))
+    read (around "stop_id,stop_name,stop_lat,stop_lon\nA,\"CafÃ\",1.5,2\n" one_trip two_times) (Err (refused_as 14 1 2))
 
 -- header too, under a name that no file knows
 abbrev pub bad_header : Case
 bad_header =
-    read (around "stop_id,stop_name,stop_lat,stop_lon,é\nA,Alder,1.5,2,\n" one_trip two_times) (Unreadable (refused_as 14 1 1))
+    read (around "stop_id,stop_name,stop_lat,stop_lon,é\nA,Alder,1.5,2,\n" one_trip two_times) (Err (refused_as 14 1 1))
 
 -- after 5 and before 6: a tab speaks first, a mark in a bare field doesn't
 abbrev pub tab_and_bad : Case
 tab_and_bad =
-    read (around "stop_id,stop_name,stop_lat,stop_lon\nA,é\t,1.5,2\n" one_trip two_times) (Unreadable (refused_as 5 1 2))
+    read (around "stop_id,stop_name,stop_lat,stop_lon\nA,é\t,1.5,2\n" one_trip two_times) (Err (refused_as 5 1 2))
 
 abbrev pub bad_and_mark : Case
 bad_and_mark =
-    read (around "stop_id,stop_name,stop_lat,stop_lon\nA,\"\"aé,1.5,2\n" one_trip two_times) (Unreadable (refused_as 14 1 2))
+    read (around "stop_id,stop_name,stop_lat,stop_lon\nA,\"\"aé,1.5,2\n" one_trip two_times) (Err (refused_as 14 1 2))
 
 -- lines keep their order: 13 on line 2 speaks before 14 on line 3
 abbrev pub bad_later : Case
 bad_later =
-    read (around "stop_id,stop_name,stop_lat,stop_lon\nA,Alder,x,2\nB,é,1.5,2\n" one_trip two_times) (Unreadable (refused_in 13 1 2 3))
+    read (around "stop_id,stop_name,stop_lat,stop_lon\nA,Alder,x,2\nB,é,1.5,2\n" one_trip two_times) (Err (refused_in 13 1 2 3))
 
 -- The mark at the start is dropped once; a second one is a character, and part of the first name.
 abbrev pub mark_twice : Case
 mark_twice =
-    read (around "ï»¿ï»¿stop_id,stop_name,stop_lat,stop_lon\nA,Alder,1.5,2\n" one_trip two_times) (Unreadable (refused_as 9 1 1))
+    read (around "ï»¿ï»¿stop_id,stop_name,stop_lat,stop_lon\nA,Alder,1.5,2\n" one_trip two_times) (Err (refused_as 9 1 1))
 
 -- ---- which column, from document 02's words
 
 -- of two names that stand twice, the second standing further left: neither a first standing nor the first name's
 abbrev pub stands_again : Case
 stands_again =
-    read (around "stop_id,stop_name,stop_name,stop_id,stop_lat,stop_lon\n" one_trip two_times) (Unreadable (refused_in 8 1 1 3))
+    read (around "stop_id,stop_name,stop_name,stop_id,stop_lat,stop_lon\n" one_trip two_times) (Err (refused_in 8 1 1 3))
 
 -- a third standing is never it; a name that nobody reads may stand twice, and its columns count
 abbrev pub third_standing : Case
 third_standing =
-    read (around "stop_lat,stop_id,note,note,\"stop_id\",stop_id,stop_name,stop_lon\n" one_trip two_times) (Unreadable (refused_in 8 1 1 5))
+    read (around "stop_lat,stop_id,note,note,\"stop_id\",stop_id,stop_name,stop_lon\n" one_trip two_times) (Err (refused_in 8 1 1 5))
 
 -- the leftmost in the line, whatever the order of the known columns, unread columns counted
 abbrev pub headers_order : Case
 headers_order =
-    read (around "note,stop_lon,stop_lat,stop_name,stop_id\n,2,1.5,Alder,A\n,x,y,Birch,B\n" one_trip two_times) (Unreadable (refused_in 13 1 3 2))
+    read (around "note,stop_lon,stop_lat,stop_name,stop_id\n,2,1.5,Alder,A\n,x,y,Birch,B\n" one_trip two_times) (Err (refused_in 13 1 3 2))
 
 -- of the named rule: 12 speaks before 13, though a value to the left breaks 13
 abbrev pub named_rule : Case
 named_rule =
-    read (around "stop_lat,stop_id,stop_name,stop_lon\nx,A,,\n" one_trip two_times) (Unreadable (refused_in 12 1 2 3))
+    read (around "stop_lat,stop_id,stop_name,stop_lon\nx,A,,\n" one_trip two_times) (Err (refused_in 12 1 2 3))
 
 -- ---- nodes and boarding areas, from document 02's words
 
@@ -532,34 +526,34 @@ of_type stops = around stops one_trip two_times
 -- For types 3 and 4 the name may be empty, and the coordinates together.
 abbrev pub open_lines : Case
 open_lines =
-    read (of_type "stop_id,stop_name,stop_lat,stop_lon,location_type\nA,Alder,1.5,2,\nN,,,,3\nB,,1.5,2,4\nC,,,,\"4\"\n") Readable
+    read (of_type "stop_id,stop_name,stop_lat,stop_lon,location_type\nA,Alder,1.5,2,\nN,,,,3\nB,,1.5,2,4\nC,,,,\"4\"\n") (Ok tt)
 
 -- .. one alone is refusal 12, in the column of the empty one, also where the other isn't of its form
 abbrev pub latitude_alone : Case
 latitude_alone =
-    read (of_type "stop_id,stop_name,stop_lat,stop_lon,location_type\nN,,1.5,,3\n") (Unreadable (refused_in 12 1 2 4))
+    read (of_type "stop_id,stop_name,stop_lat,stop_lon,location_type\nN,,1.5,,3\n") (Err (refused_in 12 1 2 4))
 
 abbrev pub longitude_alone : Case
 longitude_alone =
-    read (of_type "stop_id,stop_name,stop_lat,stop_lon,location_type\nN,,,x,4\n") (Unreadable (refused_in 12 1 2 3))
+    read (of_type "stop_id,stop_name,stop_lat,stop_lon,location_type\nN,,,x,4\n") (Err (refused_in 12 1 2 3))
 
 -- an id is needed on every line, a name on lines of type 2
 abbrev pub id_needed : Case
 id_needed =
-    read (of_type "location_type,stop_name,stop_lat,stop_lon,stop_id\n3,,,,\n") (Unreadable (refused_in 12 1 2 5))
+    read (of_type "location_type,stop_name,stop_lat,stop_lon,stop_id\n3,,,,\n") (Err (refused_in 12 1 2 5))
 
 abbrev pub name_needed : Case
 name_needed =
-    read (of_type "stop_id,stop_name,stop_lat,stop_lon,location_type\nE,,1.5,2,2\n") (Unreadable (refused_in 12 1 2 2))
+    read (of_type "stop_id,stop_name,stop_lat,stop_lon,location_type\nE,,1.5,2,2\n") (Err (refused_in 12 1 2 2))
 
 -- A location_type not of its form counts as 0 for rule 12, which then speaks before 13.
 abbrev pub type_unread : Case
 type_unread =
-    read (of_type "stop_id,stop_name,stop_lat,stop_lon,location_type\nN,Nut,,,5\n") (Unreadable (refused_in 12 1 2 3))
+    read (of_type "stop_id,stop_name,stop_lat,stop_lon,location_type\nN,Nut,,,5\n") (Err (refused_in 12 1 2 3))
 
 abbrev pub type_only : Case
 type_only =
-    read (of_type "stop_id,stop_name,stop_lat,stop_lon,location_type\nN,Nut,1.5,2,5\n") (Unreadable (refused_in 13 1 2 5))
+    read (of_type "stop_id,stop_name,stop_lat,stop_lon,location_type\nN,Nut,1.5,2,5\n") (Err (refused_in 13 1 2 5))
 
 -- ---- a profile for boards, from document 02's words
 
@@ -648,7 +642,7 @@ worked =
     ∷ name_needed
     ∷ type_unread
     ∷ type_only
-    ∷ longitude "180" (TenMillionths (pos 1800000000))
+    ∷ longitude "180" (Some (pos 1800000000))
     ∷ time "9:60:00" NoTime
     ∷ as_boards_ask
     ∷ as_all_ask

@@ -1,11 +1,11 @@
 -- Document 01's table of columns said a second time, by name: which names must be present, which values must be there, which are ids, and which form each has.
--- The schema of `Columns` says it by flags and numbers; here is none of them.
-use Rattle.std.specs.Prelude.{ℕ, ◌-◌, ◌≤◌, ◌≡◌, ◌↔◌, ◌⊎◌, Bool, true, false, cond, ◌||◌, length, get_or, drop}
+-- The schema of `Columns` says it by flags, needs and forms; here is none of them.
+use Rattle.std.specs.Prelude.{ℕ, ◌-◌, ◌≤◌, ◌≡◌, ◌↔◌, ◌⊎◌, Bool, true, false, cond, ◌||◌, length, get_or, drop, is_some}
 use Prim.Native.String.{String}
 use mathlib.Core.List.{List, [], ◌∷◌, ◌++◌, map, Memᴰ}
 use Rattle.meaning.specs.Lists.{ascii, same, find, stands}
 use Rattle.meaning.specs.Columns.{Known, schema, places, cell, row_of}
-use Rattle.meaning.specs.Forms.{time_of, date_of, latitude_of, longitude_of, sequence_of, choice_of, route_type_of, exception_of, is_time, is_date, is_degrees, is_number, is_choice}
+use Rattle.meaning.specs.Forms.{time_of, date_of, latitude_of, longitude_of, sequence_of, choice_of, route_type_of, exception_of, is_time}
 use Rattle.meaning.specs.Tables.{stop_id, stop_name, stop_lat, stop_lon, location_type, parent_station, route_id, route_type, route_short_name, route_long_name, service_id, day_mark, start_date, end_date, trip_route, trip_service, trip_id, direction_id, wheelchair_accessible, bikes_allowed, time_trip, arrival_time, departure_time, time_stop, stop_sequence, pickup_type, drop_off_type, timepoint, exception_service, exception_date, exception_type}
 use Rattle.meaning.specs.Refusals.{rule8, rule9, rule11, rule12, rule13}
 use Rattle.meaning.specs.Promises.{Each}
@@ -87,17 +87,17 @@ of ss P = record { names = named ss; is = P }
 unfoldable pub forms : List Form
 forms =
     of ("arrival_time" ∷ "departure_time" ∷ []) (λ v. is_time (time_of v))
-    ∷ of ("start_date" ∷ "end_date" ∷ "date" ∷ []) (λ v. is_date (date_of v))
-    ∷ of ("stop_lat" ∷ []) (λ v. is_degrees (latitude_of v))
-    ∷ of ("stop_lon" ∷ []) (λ v. is_degrees (longitude_of v))
-    ∷ of ("stop_sequence" ∷ []) (λ v. is_number (sequence_of v))
-    ∷ of ("location_type" ∷ []) (λ v. is_choice (choice_of 4 v))
-    ∷ of ("route_type" ∷ []) (λ v. is_choice (route_type_of v))
-    ∷ of ("monday" ∷ "tuesday" ∷ "wednesday" ∷ "thursday" ∷ "friday" ∷ "saturday" ∷ "sunday" ∷ []) (λ v. is_choice (choice_of 1 v))
-    ∷ of ("direction_id" ∷ "timepoint" ∷ []) (λ v. is_choice (choice_of 1 v))
-    ∷ of ("wheelchair_accessible" ∷ "bikes_allowed" ∷ []) (λ v. is_choice (choice_of 2 v))
-    ∷ of ("pickup_type" ∷ "drop_off_type" ∷ []) (λ v. is_choice (choice_of 3 v))
-    ∷ of ("exception_type" ∷ []) (λ v. is_choice (exception_of v))
+    ∷ of ("start_date" ∷ "end_date" ∷ "date" ∷ []) (λ v. is_some (date_of v))
+    ∷ of ("stop_lat" ∷ []) (λ v. is_some (latitude_of v))
+    ∷ of ("stop_lon" ∷ []) (λ v. is_some (longitude_of v))
+    ∷ of ("stop_sequence" ∷ []) (λ v. is_some (sequence_of v))
+    ∷ of ("location_type" ∷ []) (λ v. is_some (choice_of 4 v))
+    ∷ of ("route_type" ∷ []) (λ v. is_some (route_type_of v))
+    ∷ of ("monday" ∷ "tuesday" ∷ "wednesday" ∷ "thursday" ∷ "friday" ∷ "saturday" ∷ "sunday" ∷ []) (λ v. is_some (choice_of 1 v))
+    ∷ of ("direction_id" ∷ "timepoint" ∷ []) (λ v. is_some (choice_of 1 v))
+    ∷ of ("wheelchair_accessible" ∷ "bikes_allowed" ∷ []) (λ v. is_some (choice_of 2 v))
+    ∷ of ("pickup_type" ∷ "drop_off_type" ∷ []) (λ v. is_some (choice_of 3 v))
+    ∷ of ("exception_type" ∷ []) (λ v. is_some (exception_of v))
     ∷ []
 
 -- is a value of the form that a name has; a name that no form has is of any text

@@ -2,6 +2,10 @@
 use Rattle.std.specs.Prelude.{ℕ, ◌-◌, List, [], ◌∷◌, map, true, false, cond, length, get_or, drop, eqb}
 use Prim.Native.String.{String}
 use Rattle.meaning.specs.declared.Bounds.{Bounds}
+use Rattle.meaning.specs.declared.Need.{Need}
+use Rattle.meaning.specs.declared.Need.TheVariants.{Never, AllButInner, AllButPlaceless, Always}
+use Rattle.meaning.specs.declared.Form.{Form}
+use Rattle.meaning.specs.declared.Form.TheVariants.{Text, Time, Date, Latitude, Longitude, Sequence, Choice, RouteType, ExceptionType}
 use Rattle.meaning.specs.declared.Column.{Column}
 use Rattle.meaning.specs.Lists.{ascii, find}
 use Rattle.meaning.specs.Bytes.{bounds, part, Line, lines_of, fields, value, values}
@@ -11,112 +15,69 @@ pub record Known : Type 0 where
   pub name : List ℕ
   pub column : Column
 
--- the forms of values, by number
-abbrev pub any_text : ℕ
-any_text = 0
-
-abbrev pub a_time : ℕ
-a_time = 1
-
-abbrev pub a_date : ℕ
-a_date = 2
-
-abbrev pub a_latitude : ℕ
-a_latitude = 3
-
-abbrev pub a_longitude : ℕ
-a_longitude = 4
-
-abbrev pub a_sequence : ℕ
-a_sequence = 5
-
-abbrev pub up_to1 : ℕ
-up_to1 = 6
-
-abbrev pub up_to2 : ℕ
-up_to2 = 7
-
-abbrev pub up_to3 : ℕ
-up_to3 = 8
-
-abbrev pub a_route_type : ℕ
-a_route_type = 9
-
-abbrev pub an_exception : ℕ
-an_exception = 10
-
-abbrev pub up_to4 : ℕ
-up_to4 = 11
-
--- the lines on which a column needs a value, by number: on none; on all but those of type 3 or 4; on all but those of them without a coordinate; on all
-abbrev pub never : ℕ
-never = 0
-
-abbrev pub all_but_inner : ℕ
-all_but_inner = 1
-
-abbrev pub all_but_placeless : ℕ
-all_but_placeless = 2
-
-abbrev pub always : ℕ
-always = 3
+-- needs in order: the later, the more lines
+abbrev pub rank : Need → ℕ
+rank Never = 0
+rank AllButInner = 1
+rank AllButPlaceless = 2
+rank Always = 3
 
 -- must be present, with a non-empty value on these lines
-abbrev pub needed_on : ℕ → String → ℕ → Known
+abbrev pub needed_on : Need → String → Form → Known
 needed_on n s k = record { name = ascii s; column = record { must = true; need = n; ident = false; form = k } }
 
 -- must be present, with a non-empty value
-abbrev pub needed : String → ℕ → Known
-needed s k = needed_on always s k
+abbrev pub needed : String → Form → Known
+needed s k = needed_on Always s k
 
 -- must be present, and its value may be empty
-abbrev pub present : String → ℕ → Known
-present s k = needed_on never s k
+abbrev pub present : String → Form → Known
+present s k = needed_on Never s k
 
 -- known, may be absent
-abbrev pub optional : String → ℕ → Known
-optional s k = record { name = ascii s; column = record { must = false; need = never; ident = false; form = k } }
+abbrev pub optional : String → Form → Known
+optional s k = record { name = ascii s; column = record { must = false; need = Never; ident = false; form = k } }
 
 -- the same for columns named `..._id`, and parent_station, whose length rule 11 bounds
 abbrev pub needed_id : String → Known
-needed_id s = record { name = ascii s; column = record { must = true; need = always; ident = true; form = any_text } }
+needed_id s = record { name = ascii s; column = record { must = true; need = Always; ident = true; form = Text } }
 
-abbrev pub optional_id : String → ℕ → Known
-optional_id s k = record { name = ascii s; column = record { must = false; need = never; ident = true; form = k } }
+abbrev pub optional_id : String → Form → Known
+optional_id s k = record { name = ascii s; column = record { must = false; need = Never; ident = true; form = k } }
 
 abbrev pub unknown : Known
-unknown = record { name = []; column = record { must = false; need = never; ident = false; form = any_text } }
+unknown = record { name = []; column = record { must = false; need = Never; ident = false; form = Text } }
 
 unfoldable pub stops_columns : List Known
 stops_columns =
     needed_id "stop_id"
-    ∷ needed_on all_but_inner "stop_name" any_text
-    ∷ needed_on all_but_placeless "stop_lat" a_latitude
-    ∷ needed_on all_but_placeless "stop_lon" a_longitude
-    ∷ optional "location_type" up_to4
-    ∷ optional_id "parent_station" any_text
+    ∷ needed_on AllButInner "stop_name" Text
+    ∷ needed_on AllButPlaceless "stop_lat" Latitude
+    ∷ needed_on AllButPlaceless "stop_lon" Longitude
+    ∷ optional "location_type" (Choice 4)
+    ∷ optional_id "parent_station" Text
     ∷ []
 
 unfoldable pub routes_columns : List Known
 routes_columns =
     needed_id "route_id"
-    ∷ needed "route_type" a_route_type
-    ∷ optional "route_short_name" any_text
-    ∷ optional "route_long_name" any_text
+    ∷ needed "route_type" RouteType
+    ∷ optional "route_short_name" Text
+    ∷ optional "route_long_name" Text
     ∷ []
 
 unfoldable pub calendar_columns : List Known
 calendar_columns =
     needed_id "service_id"
-    ∷ needed "monday" up_to1
-    ∷ needed "tuesday" up_to1
-    ∷ needed "wednesday" up_to1
-    ∷ needed "thursday" up_to1
-    ∷ needed "friday" up_to1
-    ∷ needed "saturday" up_to1
-    ∷ needed "sunday" up_to1
-    ∷ needed "start_date" a_date
-    ∷ needed "end_date" a_date
+    ∷ needed "monday" (Choice 1)
+    ∷ needed "tuesday" (Choice 1)
+    ∷ needed "wednesday" (Choice 1)
+    ∷ needed "thursday" (Choice 1)
+    ∷ needed "friday" (Choice 1)
+    ∷ needed "saturday" (Choice 1)
+    ∷ needed "sunday" (Choice 1)
+    ∷ needed "start_date" Date
+    ∷ needed "end_date" Date
     ∷ []
 
 unfoldable pub trips_columns : List Known
@@ -124,28 +85,28 @@ trips_columns =
     needed_id "route_id"
     ∷ needed_id "service_id"
     ∷ needed_id "trip_id"
-    ∷ optional_id "direction_id" up_to1
-    ∷ optional "wheelchair_accessible" up_to2
-    ∷ optional "bikes_allowed" up_to2
+    ∷ optional_id "direction_id" (Choice 1)
+    ∷ optional "wheelchair_accessible" (Choice 2)
+    ∷ optional "bikes_allowed" (Choice 2)
     ∷ []
 
 unfoldable pub stop_times_columns : List Known
 stop_times_columns =
     needed_id "trip_id"
-    ∷ present "arrival_time" a_time
-    ∷ present "departure_time" a_time
+    ∷ present "arrival_time" Time
+    ∷ present "departure_time" Time
     ∷ needed_id "stop_id"
-    ∷ needed "stop_sequence" a_sequence
-    ∷ optional "pickup_type" up_to3
-    ∷ optional "drop_off_type" up_to3
-    ∷ optional "timepoint" up_to1
+    ∷ needed "stop_sequence" Sequence
+    ∷ optional "pickup_type" (Choice 3)
+    ∷ optional "drop_off_type" (Choice 3)
+    ∷ optional "timepoint" (Choice 1)
     ∷ []
 
 unfoldable pub calendar_dates_columns : List Known
 calendar_dates_columns =
     needed_id "service_id"
-    ∷ needed "date" a_date
-    ∷ needed "exception_type" an_exception
+    ∷ needed "date" Date
+    ∷ needed "exception_type" ExceptionType
     ∷ []
 
 -- the known columns of each file, by its number

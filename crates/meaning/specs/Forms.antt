@@ -1,15 +1,9 @@
 -- Value forms.
-use Rattle.std.specs.Prelude.{ℕ, ◌+◌, ◌*◌, ◌-◌, ◌/◌, ◌%◌, ◌^◌, List, [], ◌∷◌, ◌++◌, Bool, true, false, cond, not, ◌&&◌, ◌||◌, ℤ, pos, neg_ℤ, length, get_or, take, drop, leb, ltb, eqb}
-use Rattle.meaning.specs.declared.Number.{Number}
-use Rattle.meaning.specs.declared.Number.TheVariants.{Value, NoNumber}
+use Rattle.std.specs.Prelude.{ℕ, ◌+◌, ◌*◌, ◌-◌, ◌/◌, ◌%◌, ◌^◌, List, [], ◌∷◌, ◌++◌, Bool, true, false, cond, not, ◌&&◌, ◌||◌, ℤ, pos, neg_ℤ, length, get_or, take, drop, leb, ltb, eqb, Option, Some, None, is_some}
 use Rattle.meaning.specs.declared.Time.{Time}
 use Rattle.meaning.specs.declared.Time.TheVariants.{Seconds, Untimed, NoTime}
-use Rattle.meaning.specs.declared.Date.{Date}
-use Rattle.meaning.specs.declared.Date.TheVariants.{Day, NoDate}
-use Rattle.meaning.specs.declared.Degrees.{Degrees}
-use Rattle.meaning.specs.declared.Degrees.TheVariants.{TenMillionths, NoDegrees}
-use Rattle.meaning.specs.declared.Choice.{Choice}
-use Rattle.meaning.specs.declared.Choice.TheVariants.{Picked, NoChoice}
+use Rattle.meaning.specs.declared.Form.{Form}
+use Rattle.meaning.specs.declared.Form.TheVariants as F
 use Rattle.meaning.specs.Lists.{ascii, same}
 
 -- a value has no quotation mark in it
@@ -26,23 +20,23 @@ unfoldable pub is_digit : ℕ → Bool
 is_digit b = leb 48 b && leb b 57
 
 -- the number that digits write, after digits that wrote n
-unfoldable pub digits : ℕ → List ℕ → Number
-digits n [] = Value n
-digits n (b ∷ r) = let k = digits (n * 10 + (b - 48)) r in cond (is_digit b) k NoNumber
+unfoldable pub digits : ℕ → List ℕ → Option ℕ
+digits n [] = Some n
+digits n (b ∷ r) = let k = digits (n * 10 + (b - 48)) r in cond (is_digit b) k None
 
 -- stop_sequence: one to nine digits; leading zeros are allowed
-unfoldable pub sequence_text : List ℕ → Number
-sequence_text v = cond (ltb (length v) 1) NoNumber (cond (ltb 9 (length v)) NoNumber (digits 0 v))
+unfoldable pub sequence_text : List ℕ → Option ℕ
+sequence_text v = cond (ltb (length v) 1) None (cond (ltb 9 (length v)) None (digits 0 v))
 
-unfoldable pub sequence_of : List ℕ → Number
-sequence_of v = formed NoNumber sequence_text v
+unfoldable pub sequence_of : List ℕ → Option ℕ
+sequence_of v = formed None sequence_text v
 
-abbrev pub with_number : {A : Type 0} → A → Number → (ℕ → A) → A
-with_number none (Value n) f = f n
-with_number none NoNumber f = none
+abbrev pub with_number : {A : Type 0} → A → Option ℕ → (ℕ → A) → A
+with_number none (Some n) f = f n
+with_number none None f = none
 
 -- hours, minutes and seconds between colons; both of the latter 00 to 59
-unfoldable pub clock_of : Bool → Number → Number → Number → Time
+unfoldable pub clock_of : Bool → Option ℕ → Option ℕ → Option ℕ → Time
 clock_of colons h m x =
     cond colons
     (with_number NoTime h
@@ -88,14 +82,14 @@ is_day n =
     && leb (n % 100) (days_in (n / 10000) (n / 100 % 100)))))
 
 -- Date: eight digits, a true Gregorian date
-unfoldable pub date_text : List ℕ → Date
+unfoldable pub date_text : List ℕ → Option ℕ
 date_text v =
     cond (eqb (length v) 8)
-    (with_number NoDate (sequence_text v) (λ n. cond (is_day n) (Day n) NoDate))
-    NoDate
+    (with_number None (sequence_text v) (λ n. cond (is_day n) (Some n) None))
+    None
 
-unfoldable pub date_of : List ℕ → Date
-date_of v = formed NoDate date_text v
+unfoldable pub date_of : List ℕ → Option ℕ
+date_of v = formed None date_text v
 
 -- how many bytes stand before the first point
 unfoldable pub to_point : List ℕ → ℕ
@@ -121,87 +115,62 @@ unfoldable pub signed : Bool → ℕ → ℤ
 signed below n = cond below (neg_ℤ (pos n)) (pos n)
 
 -- The exact value, n / 10 ^ d, must lie within the limit; further digits than seven are dropped toward zero.
-unfoldable pub scaled : ℕ → Bool → ℕ → ℕ → Degrees
+unfoldable pub scaled : ℕ → Bool → ℕ → ℕ → Option ℤ
 scaled limit below n d =
-    cond (leb n (limit * 10 ^ d)) (TenMillionths (signed below (n * 10000000 / 10 ^ d))) NoDegrees
+    cond (leb n (limit * 10 ^ d)) (Some (signed below (n * 10000000 / 10 ^ d))) None
 
-unfoldable pub size_text : ℕ → Bool → List ℕ → Degrees
+unfoldable pub size_text : ℕ → Bool → List ℕ → Option ℤ
 size_text limit below v =
     cond (pointed v)
-    (with_number NoDegrees (digits 0 (whole_digits v ++ tail_digits v)) (λ n. scaled limit below n (length (tail_digits v))))
-    NoDegrees
+    (with_number None (digits 0 (whole_digits v ++ tail_digits v)) (λ n. scaled limit below n (length (tail_digits v))))
+    None
 
 -- Coordinate: optional `-`, then its size
-unfoldable pub degrees_text : ℕ → List ℕ → Degrees
+unfoldable pub degrees_text : ℕ → List ℕ → Option ℤ
 degrees_text limit v =
     cond (eqb (get_or v 0 0) 45) (size_text limit true (drop 1 v)) (size_text limit false v)
 
-unfoldable pub latitude_of : List ℕ → Degrees
-latitude_of v = formed NoDegrees (degrees_text 90) v
+unfoldable pub latitude_of : List ℕ → Option ℤ
+latitude_of v = formed None (degrees_text 90) v
 
-unfoldable pub longitude_of : List ℕ → Degrees
-longitude_of v = formed NoDegrees (degrees_text 180) v
+unfoldable pub longitude_of : List ℕ → Option ℤ
+longitude_of v = formed None (degrees_text 180) v
 
 -- Choices, written exactly: one digit from a to m
-unfoldable pub digit_text : ℕ → ℕ → List ℕ → Choice
+unfoldable pub digit_text : ℕ → ℕ → List ℕ → Option ℕ
 digit_text a m v =
     cond (eqb (length v) 1 && (leb (48 + a) (get_or v 0 0) && leb (get_or v 0 0) (48 + m)))
-    (Picked (get_or v 0 0 - 48))
-    NoChoice
+    (Some (get_or v 0 0 - 48))
+    None
 
-unfoldable pub choice_of : ℕ → List ℕ → Choice
-choice_of m v = formed NoChoice (digit_text 0 m) v
+unfoldable pub choice_of : ℕ → List ℕ → Option ℕ
+choice_of m v = formed None (digit_text 0 m) v
 
 -- route_type 0 to 7, 11, 12
-unfoldable pub route_type_text : List ℕ → Choice
-route_type_text v = cond (same v (ascii "11")) (Picked 11) (cond (same v (ascii "12")) (Picked 12) (digit_text 0 7 v))
+unfoldable pub route_type_text : List ℕ → Option ℕ
+route_type_text v = cond (same v (ascii "11")) (Some 11) (cond (same v (ascii "12")) (Some 12) (digit_text 0 7 v))
 
-unfoldable pub route_type_of : List ℕ → Choice
-route_type_of v = formed NoChoice route_type_text v
+unfoldable pub route_type_of : List ℕ → Option ℕ
+route_type_of v = formed None route_type_text v
 
 -- exception_type 1, 2
-unfoldable pub exception_of : List ℕ → Choice
-exception_of v = formed NoChoice (digit_text 1 2) v
+unfoldable pub exception_of : List ℕ → Option ℕ
+exception_of v = formed None (digit_text 1 2) v
 
--- is there a time, a date, ..
+-- is there a time; of the others std says it by `is_some`
 abbrev pub is_time : Time → Bool
 is_time (Seconds n) = true
 is_time Untimed = true
 is_time NoTime = false
 
-abbrev pub is_date : Date → Bool
-is_date (Day n) = true
-is_date NoDate = false
-
-abbrev pub is_degrees : Degrees → Bool
-is_degrees (TenMillionths z) = true
-is_degrees NoDegrees = false
-
-abbrev pub is_number : Number → Bool
-is_number (Value n) = true
-is_number NoNumber = false
-
-abbrev pub is_choice : Choice → Bool
-is_choice (Picked n) = true
-is_choice NoChoice = false
-
--- the test of each form, in the order of their numbers
-unfoldable pub shapes : List (List ℕ → Bool)
-shapes =
-    (λ v. true)
-    ∷ (λ v. is_time (time_of v))
-    ∷ (λ v. is_date (date_of v))
-    ∷ (λ v. is_degrees (latitude_of v))
-    ∷ (λ v. is_degrees (longitude_of v))
-    ∷ (λ v. is_number (sequence_of v))
-    ∷ (λ v. is_choice (choice_of 1 v))
-    ∷ (λ v. is_choice (choice_of 2 v))
-    ∷ (λ v. is_choice (choice_of 3 v))
-    ∷ (λ v. is_choice (route_type_of v))
-    ∷ (λ v. is_choice (exception_of v))
-    ∷ (λ v. is_choice (choice_of 4 v))
-    ∷ []
-
--- is a value of the form with this number
-unfoldable pub shape : ℕ → List ℕ → Bool
-shape form v = get_or shapes form (λ w. false) v
+-- is a value of a form
+unfoldable pub shape : Form → List ℕ → Bool
+shape F.Text v = true
+shape F.Time v = is_time (time_of v)
+shape F.Date v = is_some (date_of v)
+shape F.Latitude v = is_some (latitude_of v)
+shape F.Longitude v = is_some (longitude_of v)
+shape F.Sequence v = is_some (sequence_of v)
+shape (F.Choice m) v = is_some (choice_of m v)
+shape F.RouteType v = is_some (route_type_of v)
+shape F.ExceptionType v = is_some (exception_of v)

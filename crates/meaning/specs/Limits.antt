@@ -1,11 +1,7 @@
 -- Each limit by its number, said once and with no name for it: of rules 1, 2 and 7, and of the forms of values, each of which says both ways what is read.
 -- Rule 11's stands in ColumnTable (`short`).
-use Rattle.std.specs.Prelude.{ℕ, ◌+◌, ◌*◌, ◌-◌, ◌/◌, ◌%◌, ◌^◌, ◌≤◌, ◌<◌, ◌≡◌, ◌↔◌, ◌⊎◌, true, cond, List, [], ◌∷◌, ◌++◌, map, ℤ, pos, neg_ℤ, length}
-use Rattle.meaning.specs.declared.Number.TheVariants.{Value}
+use Rattle.std.specs.Prelude.{ℕ, ◌+◌, ◌*◌, ◌-◌, ◌/◌, ◌%◌, ◌^◌, ◌≤◌, ◌<◌, ◌≡◌, ◌↔◌, ◌⊎◌, true, cond, List, [], ◌∷◌, ◌++◌, map, ℤ, pos, neg_ℤ, length, Some}
 use Rattle.meaning.specs.declared.Time.TheVariants.{Seconds, Untimed}
-use Rattle.meaning.specs.declared.Date.TheVariants.{Day}
-use Rattle.meaning.specs.declared.Degrees.TheVariants.{TenMillionths}
-use Rattle.meaning.specs.declared.Choice.TheVariants.{Picked}
 use Rattle.meaning.specs.Lists.{ascii}
 use Rattle.meaning.specs.Bytes.{count_lf, fields}
 use Rattle.meaning.specs.Forms.{time_of, leap, days_in, date_of, latitude_of, longitude_of, sequence_of, choice_of, route_type_of, exception_of}
@@ -78,23 +74,23 @@ pub record Limits : Type 0 where
   -- hours 0 to 99: stored in seconds, 0 to 359,999
   pub seconds : (v : List ℕ) (n : ℕ) → time_of v ≡ Seconds n → n ≤ 359999
   -- Date
-  pub date : (v : List ℕ) (n : ℕ) → date_of v ≡ Day n ↔ TrueDate v n
+  pub date : (v : List ℕ) (n : ℕ) → date_of v ≡ Some n ↔ TrueDate v n
   pub leap_years : (y : ℕ) → leap y ≡ true ↔ (y % 4 ≡ 0) × ((y % 100 ≡ 0 → ⊥) ⊎ (y % 400 ≡ 0))
   pub months :
       (y : ℕ)
       → map (days_in y) (1 ∷ 2 ∷ 3 ∷ 4 ∷ 5 ∷ 6 ∷ 7 ∷ 8 ∷ 9 ∷ 10 ∷ 11 ∷ 12 ∷ [])
       ≡ 31 ∷ cond (leap y) 29 28 ∷ 31 ∷ 30 ∷ 31 ∷ 30 ∷ 31 ∷ 31 ∷ 30 ∷ 31 ∷ 30 ∷ 31 ∷ []
   -- Coordinate, within 90 (latitude) or 180 (longitude) either way
-  pub latitude : (v : List ℕ) (z : ℤ) → latitude_of v ≡ TenMillionths z ↔ Coordinate 90 v z
-  pub longitude : (v : List ℕ) (z : ℤ) → longitude_of v ≡ TenMillionths z ↔ Coordinate 180 v z
+  pub latitude : (v : List ℕ) (z : ℤ) → latitude_of v ≡ Some z ↔ Coordinate 90 v z
+  pub longitude : (v : List ℕ) (z : ℤ) → longitude_of v ≡ Some z ↔ Coordinate 180 v z
   -- stop_sequence: one to nine digits; leading zeros are allowed
-  pub sequence : (v : List ℕ) (n : ℕ) → sequence_of v ≡ Value n ↔ Digits 1 9 v × (n ≡ numeral v)
+  pub sequence : (v : List ℕ) (n : ℕ) → sequence_of v ≡ Some n ↔ Digits 1 9 v × (n ≡ numeral v)
   -- Choices, from 0 to what ColumnTable says under each name
-  pub choice : (m : ℕ) (v : List ℕ) (n : ℕ) → choice_of m v ≡ Picked n ↔ FromTo 0 m v n
+  pub choice : (m : ℕ) (v : List ℕ) (n : ℕ) → choice_of m v ≡ Some n ↔ FromTo 0 m v n
   -- route_type 0 to 7, 11, 12
   pub route_type_lem :
       (v : List ℕ) (n : ℕ)
-      → route_type_of v ≡ Picked n
+      → route_type_of v ≡ Some n
       ↔ FromTo 0 7 v n ⊎ (((n ≡ 11) × (v ≡ ascii "11")) ⊎ ((n ≡ 12) × (v ≡ ascii "12")))
   -- exception_type 1, 2
-  pub exception_type_lem : (v : List ℕ) (n : ℕ) → exception_of v ≡ Picked n ↔ FromTo 1 2 v n
+  pub exception_type_lem : (v : List ℕ) (n : ℕ) → exception_of v ≡ Some n ↔ FromTo 1 2 v n

@@ -1,5 +1,6 @@
 -- Nodes and boarding areas, document 02's E10, sentence by sentence, of a call that was lent these files and tables and ended with this outcome.
 use Rattle.std.specs.Prelude.{ℕ, ◌+◌, ◌*◌, ◌≤◌, ◌<◌, ◌≡◌, ◌↔◌, Bool, true, false, not, ◌&&◌, ◌||◌, List, [], ◌∷◌, ℤ, pos, get_or, ltb, eqb}
+use Rattle.meaning.specs.declared.Need.TheVariants.{Never}
 use Rattle.meaning.specs.Lists.{empty}
 use Rattle.meaning.specs.Bytes.{count_lf}
 use Rattle.meaning.specs.Columns.{Row, column_of, places, row_of}
@@ -73,7 +74,7 @@ pub record Nodes (files : List (List ℕ)) (tables : List (List ℤ)) (o : Outco
   pub latitude_alone_lem : (ps l : List ℕ) → Alone stop_lat stop_lon (row_of ps l) → rule12 1 ps l ≡ get_or ps 2 0
   pub longitude_alone_lem : (ps l : List ℕ) → Alone stop_lon stop_lat (row_of ps l) → rule12 1 ps l ≡ get_or ps 3 0
   -- no line of another file may leave anything open that it needed before
-  pub elsewhere : (f : ℕ) (r : Row) → (f ≡ 1 → ⊥) → slack f r ≡ 0
+  pub elsewhere : (f : ℕ) (r : Row) → (f ≡ 1 → ⊥) → slack f r ≡ Never
   -- a location_type not of its form counts as 0 for rule 12
   pub unread : (r : Row) → shape (column_of 1 4).form (location_type r) ≡ false → kind_of r ≡ 0
   -- which then speaks before 13

@@ -1,7 +1,6 @@
 -- The whole check: from six files, six tables and the list as lent, a starting place and what is asked for, to the answer and the seven lists at the end.
-use Rattle.std.specs.Prelude.{ℕ, ◌+◌, List, [], ◌∷◌, map, ℤ, length}
-use Rattle.meaning.specs.declared.Verdict.{Verdict}
-use Rattle.meaning.specs.declared.Verdict.TheVariants.{Readable, Unreadable}
+use Rattle.std.specs.Prelude.{ℕ, ◌+◌, List, [], ◌∷◌, map, ℤ, length, Result, Ok, Err}
+use Rattle.meaning.specs.declared.Refusal.{Refusal}
 use Rattle.meaning.specs.declared.Place.{Place}
 use Rattle.meaning.specs.declared.Profile.{Profile}
 use Rattle.meaning.specs.declared.Answer.{Answer}
@@ -30,9 +29,9 @@ read_outcome files tables list p asked =
     record { answer = answer_of p ds list; tables = filled_from 1 w files tables; list = handed p ds list }
 
 -- Refused: the answer is number, file, line; every table and the list stay as lent.
-abbrev pub refused_or : Verdict → Outcome → List (List ℤ) → List ℤ → Outcome
-refused_or Readable o tables list = o
-refused_or (Unreadable r) o tables list = record { answer = Refused r; tables = tables; list = list }
+abbrev pub refused_or : Result Unit Refusal → Outcome → List (List ℤ) → List ℤ → Outcome
+refused_or (Ok tt) o tables list = o
+refused_or (Err r) o tables list = record { answer = Refused r; tables = tables; list = list }
 
 unfoldable pub outcome : List (List ℕ) → List (List ℤ) → List ℤ → Place → Profile → Outcome
 outcome files tables list p asked =

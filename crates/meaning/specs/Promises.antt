@@ -1,6 +1,7 @@
 -- What the three demands promise, as statements about the definitions. The theorems stand in proofs/, the demands themselves in Demands.
 use Rattle.std.specs.Prelude.{ℕ, ◌+◌, ◌*◌, ◌-◌, ◌≤◌, ◌<◌, ◌≡◌, ◌↔◌, ◌⊎◌, Bool, true, false, cond, ◌&&◌, ◌||◌, ℤ, pos, length, get_or, ltb, eqb}
 use mathlib.Core.List.{List, [], ◌∷◌, ◌++◌, Memᴰ}
+use Rattle.meaning.specs.declared.Need.{Need}
 use Rattle.meaning.specs.declared.Column.{Column}
 use Rattle.meaning.specs.declared.Refusal.{Refusal}
 use Rattle.meaning.specs.declared.Place.{Place}
@@ -176,7 +177,7 @@ pub record WholeKept (files : List (List ℕ)) (f : ℕ) (s : List ℕ) (room : 
   pub ended : rule4 files f s room ≡ false
 
 -- rules 11 to 13 are kept by a value under a known column, on a line with this slack
-pub record ValueKept (free : ℕ) (c : Column) (v : List ℕ) : Type 0 where
+pub record ValueKept (free : Need) (c : Column) (v : List ℕ) : Type 0 where
   pub short : long c v ≡ false
   pub there : blank free c v ≡ false
   pub formed : formless c v ≡ false

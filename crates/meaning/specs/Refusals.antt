@@ -1,13 +1,13 @@
 -- Refusals.
-use Rattle.std.specs.Prelude.{ℕ, ◌+◌, ◌*◌, ◌-◌, List, [], ◌∷◌, ◌++◌, Bool, true, false, cond, not, ◌&&◌, ◌||◌, length, get_or, ltb, eqb}
+use Rattle.std.specs.Prelude.{ℕ, ◌+◌, ◌*◌, ◌-◌, List, [], ◌∷◌, ◌++◌, Bool, true, false, cond, not, ◌&&◌, ◌||◌, length, get_or, ltb, eqb, Result, Ok, Err}
+use Rattle.meaning.specs.declared.Need.{Need}
+use Rattle.meaning.specs.declared.Need.TheVariants.{Never, AllButInner, AllButPlaceless}
 use Rattle.meaning.specs.declared.Column.{Column}
 use Rattle.meaning.specs.declared.Refusal.{Refusal}
-use Rattle.meaning.specs.declared.Verdict.{Verdict}
-use Rattle.meaning.specs.declared.Verdict.TheVariants.{Readable, Unreadable}
 use Rattle.meaning.specs.Lists.{empty, some, find_again, least}
 use Rattle.meaning.specs.Bytes.{Line, lines_of, count_lf, good, fields, values}
 use Rattle.meaning.specs.Characters.{well_formed}
-use Rattle.meaning.specs.Columns.{Row, never, all_but_inner, all_but_placeless, name_of, column_of, count_of, places, cell, row_of}
+use Rattle.meaning.specs.Columns.{Row, rank, name_of, column_of, count_of, places, cell, row_of}
 use Rattle.meaning.specs.Forms.{shape}
 use Rattle.meaning.specs.Tables.{file_of, width_of, inner, placed}
 
@@ -111,12 +111,12 @@ unfoldable pub long : Column → List ℕ → Bool
 long c v = c.ident && ltb 64 (length v)
 
 -- up to which need a line may leave values empty: a node or a boarding area its name, one without a coordinate its place too, any other line none
-unfoldable pub slack : ℕ → Row → ℕ
-slack f r = cond (eqb f 1 && inner r) (cond (placed r) all_but_inner all_but_placeless) never
+unfoldable pub slack : ℕ → Row → Need
+slack f r = cond (eqb f 1 && inner r) (cond (placed r) AllButInner AllButPlaceless) Never
 
 -- an empty value where a line with this slack needs one
-unfoldable pub blank : ℕ → Column → List ℕ → Bool
-blank free c v = ltb free c.need && empty v
+unfoldable pub blank : Need → Column → List ℕ → Bool
+blank free c v = ltb (rank free) (rank c.need) && empty v
 
 -- a value not of its form
 unfoldable pub formless : Column → List ℕ → Bool
@@ -194,15 +194,15 @@ abbrev pub refusal : Claim → Refusal
 refusal p = record { number = p.number; file = p.file; line = p.line; column = p.column }
 
 -- the first that is broken speaks
-unfoldable pub speaks : List Claim → Verdict
-speaks [] = Readable
-speaks (p ∷ r) = let k = speaks r in cond p.broken (Unreadable (refusal p)) k
+unfoldable pub speaks : List Claim → Result Unit Refusal
+speaks [] = Ok tt
+speaks (p ∷ r) = let k = speaks r in cond p.broken (Err (refusal p)) k
 
 -- can six files be read, with tables of these lengths
-unfoldable pub verdict_of : List (List ℕ) → List ℕ → Verdict
+unfoldable pub verdict_of : List (List ℕ) → List ℕ → Result Unit Refusal
 verdict_of files rooms = speaks (claims files rooms)
 
 -- what document 01 calls each case of the verdict: a refusal's number, file, line and column, and nothing where all six files read
-unfoldable pub verdict_numbers : Verdict → List ℕ
-verdict_numbers Readable = []
-verdict_numbers (Unreadable r) = r.number ∷ r.file ∷ r.line ∷ r.column ∷ []
+unfoldable pub verdict_numbers : Result Unit Refusal → List ℕ
+verdict_numbers (Ok tt) = []
+verdict_numbers (Err r) = r.number ∷ r.file ∷ r.line ∷ r.column ∷ []

@@ -1,13 +1,7 @@
 -- Binding rules, tested only when all six files read. A rule looks at the line with index i of a file's rows, which is line i + 2.
-use Rattle.std.specs.Prelude.{ℕ, zero, suc, ◌+◌, ◌-◌, List, [], ◌∷◌, ◌++◌, map, Bool, true, false, cond, not, ◌&&◌, ◌||◌, length, get_or, take, ltb, leb, eqb}
-use Rattle.meaning.specs.declared.Number.{Number}
-use Rattle.meaning.specs.declared.Number.TheVariants.{Value, NoNumber}
+use Rattle.std.specs.Prelude.{ℕ, zero, suc, ◌+◌, ◌-◌, List, [], ◌∷◌, ◌++◌, map, Bool, true, false, cond, not, ◌&&◌, ◌||◌, length, get_or, take, ltb, leb, eqb, Option, Some, None}
 use Rattle.meaning.specs.declared.Time.{Time}
 use Rattle.meaning.specs.declared.Time.TheVariants.{Seconds, Untimed, NoTime}
-use Rattle.meaning.specs.declared.Date.{Date}
-use Rattle.meaning.specs.declared.Date.TheVariants.{Day, NoDate}
-use Rattle.meaning.specs.declared.Choice.{Choice}
-use Rattle.meaning.specs.declared.Choice.TheVariants.{Picked, NoChoice}
 use Rattle.meaning.specs.declared.Profile.{Profile}
 use Rattle.meaning.specs.declared.Profile.TheVariants.{Plain, Boards}
 use Rattle.meaning.specs.Lists.{same, empty, some, keep, flat, stands}
@@ -24,9 +18,9 @@ row rs i = get_or rs i []
 unfoldable pub rule20 : List (List ℕ) → ℕ → Bool
 rule20 ids i = stands (get_or ids i []) (take i ids)
 
-abbrev pub day_of : Date → ℕ
-day_of (Day n) = n
-day_of NoDate = 0
+abbrev pub day_of : Option ℕ → ℕ
+day_of (Some n) = n
+day_of None = 0
 
 -- the day of a calendar_dates row
 unfoldable pub exception_day : Row → ℕ
@@ -121,9 +115,9 @@ timed r = given (time_of (arrival_time r)) && given (time_of (departure_time r))
 unfoldable pub untimed : Row → Bool
 untimed r = not (timed r)
 
-abbrev pub is_one : Choice → Bool
-is_one (Picked n) = eqb n 1
-is_one NoChoice = false
+abbrev pub is_one : Option ℕ → Bool
+is_one (Some n) = eqb n 1
+is_one None = false
 
 -- 26 (5): just one time given, or timepoint 1 without both
 unfoldable pub rule26 : Feed → ℕ → Bool
@@ -138,9 +132,9 @@ rule27 w i =
     let r = row w.stop_times i in
     timed r && ltb (departs r) (arrives r)
 
-abbrev pub value_of : Number → ℕ
-value_of (Value n) = n
-value_of NoNumber = 0
+abbrev pub value_of : Option ℕ → ℕ
+value_of (Some n) = n
+value_of None = 0
 
 unfoldable pub sequence : Row → ℕ
 sequence r = value_of (sequence_of (stop_sequence r))
@@ -224,9 +218,9 @@ unfoldable pub rule60 : Feed → ℕ → Bool
 rule60 w i = untimed (time_row w i)
 
 -- a choice is 2 or 3
-abbrev pub is_two_or_three : Choice → Bool
-is_two_or_three (Picked n) = eqb n 2 || eqb n 3
-is_two_or_three NoChoice = false
+abbrev pub is_two_or_three : Option ℕ → Bool
+is_two_or_three (Some n) = eqb n 2 || eqb n 3
+is_two_or_three None = false
 
 -- 61 (5): pickup or drop-off is 2 or 3
 unfoldable pub rule61 : Feed → ℕ → Bool

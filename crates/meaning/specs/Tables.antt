@@ -1,15 +1,7 @@
 -- Tables.
-use Rattle.std.specs.Prelude.{ℕ, zero, suc, ◌+◌, ◌*◌, ◌-◌, List, [], ◌∷◌, ◌++◌, map, Bool, cond, not, ◌&&◌, ℤ, pos, negsuc, get_or, drop, replicate, ltb, eqb}
-use Rattle.meaning.specs.declared.Number.{Number}
-use Rattle.meaning.specs.declared.Number.TheVariants.{Value, NoNumber}
+use Rattle.std.specs.Prelude.{ℕ, zero, suc, ◌+◌, ◌*◌, ◌-◌, List, [], ◌∷◌, ◌++◌, map, Bool, cond, not, ◌&&◌, ℤ, pos, negsuc, get_or, drop, replicate, ltb, eqb, Option, Some, None}
 use Rattle.meaning.specs.declared.Time.{Time}
 use Rattle.meaning.specs.declared.Time.TheVariants.{Seconds, Untimed, NoTime}
-use Rattle.meaning.specs.declared.Date.{Date}
-use Rattle.meaning.specs.declared.Date.TheVariants.{Day, NoDate}
-use Rattle.meaning.specs.declared.Degrees.{Degrees}
-use Rattle.meaning.specs.declared.Degrees.TheVariants.{TenMillionths, NoDegrees}
-use Rattle.meaning.specs.declared.Choice.{Choice}
-use Rattle.meaning.specs.declared.Choice.TheVariants.{Picked, NoChoice}
 use Rattle.meaning.specs.Lists.{empty, find, flat, laid}
 use Rattle.meaning.specs.Bytes.{Line, lines_of}
 use Rattle.meaning.specs.Columns.{Row, places, field_at, row_of, header_of, rows_of}
@@ -175,21 +167,21 @@ seconds (Seconds n) = pos n
 seconds Untimed = negsuc 0
 seconds NoTime = negsuc 0
 
-abbrev pub day : Date → ℤ
-day (Day n) = pos n
-day NoDate = pos 0
+abbrev pub day : Option ℕ → ℤ
+day (Some n) = pos n
+day None = pos 0
 
-abbrev pub degrees : Degrees → ℤ
-degrees (TenMillionths z) = z
-degrees NoDegrees = pos 0
+abbrev pub degrees : Option ℤ → ℤ
+degrees (Some z) = z
+degrees None = pos 0
 
-abbrev pub number : Number → ℤ
-number (Value n) = pos n
-number NoNumber = pos 0
+abbrev pub number : Option ℕ → ℤ
+number (Some n) = pos n
+number None = pos 0
 
-abbrev pub picked : Choice → ℤ
-picked (Picked n) = pos n
-picked NoChoice = pos 0
+abbrev pub picked : Option ℕ → ℤ
+picked (Some n) = pos n
+picked None = pos 0
 
 -- Empty means 0, but -1 for direction_id and timepoint.
 unfoldable pub choice_or : ℤ → ℕ → List ℕ → ℤ
@@ -202,9 +194,9 @@ unfoldable pub or_minus : ℕ → List ℕ → ℤ
 or_minus m v = choice_or (negsuc 0) m v
 
 -- the seven day marks packed in one number with Monday lowest
-abbrev pub one_if : Choice → ℕ
-one_if (Picked n) = n
-one_if NoChoice = 0
+abbrev pub one_if : Option ℕ → ℕ
+one_if (Some n) = n
+one_if None = 0
 
 unfoldable pub pack_from : ℕ → ℕ → Row → ℕ
 pack_from d zero r = 0

@@ -1,5 +1,6 @@
 -- Say which column, document 02's E7, sentence by sentence, of calls that are lent these files and tables.
 use Rattle.std.specs.Prelude.{ℕ, ◌+◌, ◌-◌, ◌≤◌, ◌<◌, ◌≡◌, ◌↔◌, Bool, true, false, cond, List, [], ◌∷◌, map, ℤ, length, get_or, take}
+use Rattle.meaning.specs.declared.Need.{Need}
 use Rattle.meaning.specs.declared.Column.{Column}
 use Rattle.meaning.specs.declared.Refusal.{Refusal}
 use Rattle.meaning.specs.Lists.{same}
@@ -51,7 +52,7 @@ abbrev pub names_at : List (List ℕ) → Refusal → List (List ℕ)
 names_at files r = header_of (lines_of (file_of files r.file))
 
 -- what a refusal's line may leave open
-abbrev pub slack_at : List (List ℕ) → Refusal → ℕ
+abbrev pub slack_at : List (List ℕ) → Refusal → Need
 slack_at files r = slack r.file (row_of (places r.file (names_at files r)) (text_of files r.file r.line))
 
 -- the column of one refusal

@@ -17,20 +17,36 @@ pub struct Bounds {
     pub end: usize,
 }
 
-// What document 01 asks of a known column: `need` says by number on which lines a value is needed, `form` which form it has.
+// On which lines a column needs a value: on none; on all but those of type 3 or 4; on all but those of them without a coordinate; on all.
+#[derive(Clone, Copy, PartialEq, Eq, PartialOrd, Ord)]
+pub enum Need {
+    Never,
+    AllButInner,
+    AllButPlaceless,
+    Always,
+}
+
+// The form of a column's values; a choice goes from 0 to its highest number.
+#[derive(Clone, Copy, PartialEq, Eq)]
+pub enum Form {
+    Text,
+    Time,
+    Date,
+    Latitude,
+    Longitude,
+    Sequence,
+    Choice(u8),
+    RouteType,
+    ExceptionType,
+}
+
+// What document 01 asks of a known column: must it be present, on which lines it needs a value, is it an id, and which form it has.
 #[derive(Clone, Copy)]
 pub struct Column {
     pub must: bool,
-    pub need: u8,
+    pub need: Need,
     pub ident: bool,
-    pub form: u8,
-}
-
-// What a run of digits writes.
-#[derive(Clone, Copy)]
-pub enum Number {
-    Value(u32),
-    NoNumber,
+    pub form: Form,
 }
 
 // What the value of a time says: seconds, nothing, or that it is no time.
@@ -39,27 +55,6 @@ pub enum Time {
     Seconds(u32),
     Untimed,
     NoTime,
-}
-
-// What the value of a date says: the number YYYYMMDD, or that it is no date.
-#[derive(Clone, Copy)]
-pub enum Date {
-    Day(u32),
-    NoDate,
-}
-
-// What the value of a coordinate says: ten-millionths of a degree, or that it is no coordinate.
-#[derive(Clone, Copy)]
-pub enum Degrees {
-    TenMillionths(i32),
-    NoDegrees,
-}
-
-// What the value of a choice says: its number, or that it is none of those offered.
-#[derive(Clone, Copy)]
-pub enum Choice {
-    Picked(u32),
-    NoChoice,
 }
 
 // A refusal: the number of the broken rule, its file, its line (0 for a whole file) and its column (0: none is told).
@@ -71,13 +66,6 @@ pub struct Refusal {
     pub column: usize,
 }
 
-// Whether six files can be read.
-#[derive(Clone, Copy)]
-pub enum Verdict {
-    Readable,
-    Unreadable(Refusal),
-}
-
 // Which rules bind: those of every feed, or those that boards add too.
 #[derive(Clone, Copy)]
 pub enum Profile {
@@ -85,8 +73,8 @@ pub enum Profile {
     Boards,
 }
 
-// The starting place of a call: any three numbers.
-#[derive(Clone, Copy)]
+// The starting place of a call: any three numbers, compared in that order.
+#[derive(Clone, Copy, PartialEq, Eq, PartialOrd, Ord)]
 pub struct Place {
     pub file: i32,
     pub line: i32,

@@ -22,19 +22,11 @@ pub fn blank() -> [u32; SIZE]
     [0u32; SIZE]
 }
 
-fn wide(b: u8) -> usize
-    ensures { result < 256 }
-{
-    b as usize
-}
-
 // Where a raw field's record is remembered: any place would do.
 fn slot(raw: &[u8]) -> usize {
     let mut h: usize = 0;
-    let mut i = 0;
-    while i < raw.len() {
-        h = (h + wide(raw[i])) * 16777619 % RANGE;
-        i += 1;
+    for &b in raw {
+        h = (h + usize::from(b)) * 16777619 % RANGE;
     }
     h / SHARE
 }
@@ -43,10 +35,7 @@ fn slot(raw: &[u8]) -> usize {
 fn recall(memo: &[u32], h: usize) -> usize
     ensures { (result ≡ get_or memo.now h 0) × (result < 2 ^ 32) }
 {
-    if h < memo.len() {
-        return memo[h] as usize;
-    }
-    0
+    memo.get(h).map_or(0, |r| *r as usize)
 }
 
 // A record is remembered.
@@ -54,6 +43,7 @@ fn remember(memo: &mut [u32], h: usize, r: usize)
     requires { r < 2 ^ 32 }
     ensures { memo.new ≡ set memo.old h r }
 {
+    // by index: over get_mut the check was left with no fact of what the memo holds after the write
     if h < memo.len() {
         memo[h] = r as u32;
     }

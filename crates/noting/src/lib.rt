@@ -1,6 +1,6 @@
 #![tactic(auto)]
 // The rules of one line, noted in order.
-ghost use Rattle.std.specs.Prelude.{◌≡◌, ◌+◌, ◌^◌, ◌<◌, ◌≤◌, get_or};
+ghost use Rattle.std.specs.Prelude.{◌≡◌, ◌+◌, ◌^◌, ◌<◌, ◌≤◌};
 ghost use Rattle.meaning.specs.Refusals.{on_line};
 ghost use Rattle.listing.specs.Handing.{state, noting};
 ghost use Rattle.judging.specs.Judging.{tests_from};
@@ -8,14 +8,6 @@ ghost use Rattle.judging.specs.Judging.{tests_from};
 use judging::MOST_RULES;
 use listing::Sink;
 use meaning::Place;
-
-// The number of rule i of a line.
-fn number_at(numbers: [u8; MOST_RULES], i: usize) -> u8
-    requires { i < 9 }
-    ensures { result ≡ get_or numbers i 0 }
-{
-    numbers[i]
-}
 
 // The first `count` rules of a line, by their numbers, with what was judged of them.
 pub fn note_line(
@@ -34,18 +26,9 @@ pub fn note_line(
     ensures total_bound { result.total ≤ k.total + count }
 {
     let mut sink = k;
-    let mut i = 0;
-    while i < count {
-        sink = listing::note(
-            out,
-            sink,
-            p,
-            broken[i],
-            file,
-            line,
-            number_at(numbers, i) as usize,
-        );
-        i += 1;
+    for i in 0..count {
+        let number = usize::from(numbers[i]);
+        sink = listing::note(out, sink, p, broken[i], file, line, number);
     }
     sink
 }

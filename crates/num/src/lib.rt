@@ -25,17 +25,14 @@ pub fn nat(x: i32) -> usize
     ensures value { result ≡ nat_of x }
     ensures upper_bound { result < 2 ^ 32 }
 {
-    if x >= 0 { x as usize } else { 4294967295 }
+    usize::try_from(x).unwrap_or(4294967295)
 }
 
 // How far a number is from 0.
 pub fn size(x: i32) -> usize
     ensures { result ≡ nat_abs x }
 {
-    if x >= 0 {
-        return x as usize;
-    }
-    (-1 - x) as usize + 1
+    x.unsigned_abs() as usize
 }
 
 // Whether one signed number is below another.

@@ -1,55 +1,47 @@
 -- The lines of a file and the files of a feed: the first broken claim.
 use mathlib.Core.Path.{◌≡◌, refl, sym, ap, ◌∙◌}
 use mathlib.Core.Bool.{Bool, true, false}
-use mathlib.Core.List.{List, [], ◌∷◌, ◌++◌}
+use mathlib.Core.List.{List, [], ◌∷◌}
 use Prim.Native.Nat.{ℕ, zero, suc, ◌+◌, ◌*◌, ◌/◌, ◌≤◌, ◌<◌}
 use native.Mathlib.Omega.{arith}
 use native.Mathlib.Nat.{div-lt_iff_lt-mul, mul_comm}
-use lib.Dec.{T, ltb, leb→le}
+use lib.Dec.{ltb, leb→le}
 use lib.ListN.{length, get_or, drop, drop_of_length-le}
 use borrow.Author.Tests.{lt-ltb, le-ltb, ltb-true, ltb-false}
-use Rattle.meaning.specs.declared.Verdict.{Verdict}
-use Rattle.meaning.specs.declared.Verdict.TheVariants.{Readable}
-use Rattle.meaning.specs.Bytes.{Line, bounds, part, lines_from, lines_of, start_of, fields, values}
+use Rattle.std.specs.Prelude.{Some, None, Result, Ok, Err}
+use Rattle.meaning.specs.declared.Refusal.{Refusal}
+use Rattle.meaning.specs.Bytes.{Line, bounds, part, lines_from, lines_of, start_of, values}
 use Rattle.meaning.specs.Columns.{places}
 use Rattle.meaning.specs.Tables.{widths, width_of}
-use Rattle.meaning.specs.Refusals.{text_tests, head_tests, value_tests, line_tests, on_lines, in_file, in_files, speaks, verdict_of}
+use Rattle.meaning.specs.Refusals.{Claim, line_tests, on_lines, in_file, in_files, speaks, verdict_of}
 use Rattle.text.specs.Lines.{LineStands}
-use Rattle.meaning.proofs.Computed.{all, below_all}
+use Rattle.meaning.proofs.Computed.{below_all}
 use Rattle.meaning.proofs.Arrays.{drop_next}
-use Rattle.columns.specs.Columns.{places_of}
+use Rattle.columns.specs.declared.Columns.{Columns}
 use Rattle.columns.proofs.Laws.{places_at}
 use Rattle.reading.specs.declared.Fault.{Fault}
 use Rattle.reading.specs.Tests.{first}
-use Rattle.reading.specs.Wholes.{wholes_of, whole_claims, or_else}
-use Rattle.reading.proofs.First.{positive}
+use Rattle.reading.specs.Heads.{columns_under}
+use Rattle.reading.specs.Wholes.{wholes_of, whole_claims}
 use Rattle.reading.proofs.Values.{line_same}
-use Rattle.reading.proofs.Speaks.{refused, speaks_then, then_stop, then_on, or_assoc, or_none, line_stop, line_on}
+use Rattle.reading.proofs.Speaks.{told, then_stop, then_on, line_stop, line_on}
+use Rattle.reading.proofs.Heads.{bad_under, good_under}
 use Rattle.reading.proofs.Wholes.{all_claims}
 
--- no test has number 0
-pub head_positive : (f : ℕ) (h : List ℕ) → T (all positive (head_tests f h))
-unfolding head_tests text_tests
-head_positive f h = tt
-
-line_positive : (f : ℕ) (ps : List ℕ) (count : ℕ) (l : List ℕ) → T (all positive (line_tests f ps count l))
-unfolding line_tests text_tests value_tests
-line_positive f ps count l = tt
-
 -- a turn along the lines after the header
-module _ (f : ℕ) (ps : List ℕ) (count : ℕ) (s : List ℕ) (at n : ℕ) (r : Verdict) (inv : speaks (on_lines f ps count n (lines_from s at)) ≡ r) where
-  pub lines_over : lines_from s at ≡ [] → Readable ≡ r
+module _ (f : ℕ) (ps : List ℕ) (count : ℕ) (s : List ℕ) (at n : ℕ) (r : Result Unit Refusal) (inv : speaks (on_lines f ps count n (lines_from s at)) ≡ r) where
+  pub lines_over : lines_from s at ≡ [] → Ok tt ≡ r
   unfolding on_lines speaks
   lines_over e = rw e at inv
 
-  module _ (a e m : ℕ) (stands : LineStands s at a e m) (t : Fault) (test : t ≡ first (line_tests f ps count (part s (bounds a e)))) where
-    pub lines_stop : (v : Verdict) → v ≡ refused t f n → (t.rule ≡ 0 → ⊥) → v ≡ r
+  module _ (a e m : ℕ) (stands : LineStands s at a e m) where
+    pub lines_stop : (t : Fault) → Some t ≡ first (line_tests f ps count (part s (bounds a e))) → Err (told t f n) ≡ r
     unfolding on_lines
-    lines_stop v p z = p ∙ (sym (then_stop _ _ _ (line_stop f n _ t test z)) ∙ rw stands.lines at inv)
+    lines_stop t z = sym (then_stop _ _ _ (line_stop f n _ t z)) ∙ rw stands.lines at inv
 
-    pub lines_next : t.rule ≡ 0 → speaks (on_lines f ps count (n + 1) (lines_from s m)) ≡ r
+    pub lines_next : None ≡ first (line_tests f ps count (part s (bounds a e))) → speaks (on_lines f ps count (n + 1) (lines_from s m)) ≡ r
     unfolding on_lines
-    lines_next z = sym (then_on _ _ (line_on f n _ (line_positive f ps count _) t test z)) ∙ rw stands.lines at inv
+    lines_next z = sym (then_on _ _ (line_on f n _ z)) ∙ rw stands.lines at inv
 
 -- tables that read alike give the same claims
 lines_same : (f : ℕ) (ps qs : List ℕ) → ((k : ℕ) → get_or ps k 0 ≡ get_or qs k 0) → (count n : ℕ) (ls : List Line) → on_lines f ps count n ls ≡ on_lines f qs count n ls
@@ -59,41 +51,50 @@ lines_same f ps qs h count n (l ∷ r) = rw (line_same ps qs h f count l.text, l
 
 -- the header, and what follows
 module _ (f : ℕ) (s : List ℕ) (at : ℕ) (start : at ≡ start_of s) where
-  pub file_none : lines_from s at ≡ [] → Readable ≡ speaks (in_file f (lines_of s))
+  pub file_none : lines_from s at ≡ [] → Ok tt ≡ speaks (in_file f (lines_of s))
   unfolding lines_of in_file speaks
   file_none e = rw (← start, e)
 
-  module _ (a e m : ℕ) (stands : LineStands s at a e m) (t : Fault) (test : t ≡ first (head_tests f (part s (bounds a e)))) where
-    pub file_stop : (v : Verdict) → v ≡ refused t f 1 → (t.rule ≡ 0 → ⊥) → v ≡ speaks (in_file f (lines_of s))
+  module _ (a e m : ℕ) (stands : LineStands s at a e m) where
+    pub file_stop : (t : Fault) → Err t ≡ columns_under f (part s (bounds a e)) → Err (told t f 1) ≡ speaks (in_file f (lines_of s))
     unfolding lines_of in_file
-    file_stop v p z = p ∙ rw (← start, stands.lines) (sym (then_stop _ _ _ (line_stop f 1 _ t test z)))
+    file_stop t z = rw (← start, stands.lines) (sym (then_stop _ _ _ (line_stop f 1 _ t (bad_under f _ t z))))
 
-    pub file_next : t.rule ≡ 0 → (ps : List ℕ) → ps ≡ places_of f (values (part s (bounds a e))) → (count : ℕ) → count ≡ length (fields (part s (bounds a e)))
-        → (v : Verdict) → v ≡ speaks (on_lines f ps count 2 (lines_from s m)) → v ≡ speaks (in_file f (lines_of s))
+    pub file_next : (c : Columns) → Ok c ≡ columns_under f (part s (bounds a e))
+        → (v : Result Unit Refusal) → v ≡ speaks (on_lines f c.at c.count 2 (lines_from s m)) → v ≡ speaks (in_file f (lines_of s))
     unfolding lines_of in_file
-    file_next z ps p count q v h =
-        let y = rw (p, q, lines_same f _ (places f (values (part s (bounds a e)))) (places_at f _) _ 2 (lines_from s m)) at h in
-        y ∙ rw (← start, stands.lines) (sym (then_on _ _ (line_on f 1 _ (head_positive f _) t test z)))
+    file_next c z v h =
+        let o = good_under f _ c z in
+        let y = rw (o.1, lines_same f _ (places f (values (part s (bounds a e)))) (places_at f _) _ 2 (lines_from s m)) at h in
+        y ∙ rw (← start, stands.lines) (sym (then_on _ _ (line_on f 1 _ o.0)))
 
--- the files from file i + 1 on, after what was said before them: the first of them, and where none is left
-module _ (files : List (List ℕ)) (i : ℕ) (v r : Verdict) (inv : or_else v (speaks (in_files (i + 1) (drop i files))) ≡ r) where
-  pub files_next : i < length files → (u : Verdict) → u ≡ or_else v (speaks (in_file (i + 1) (lines_of (get_or files i [])))) → or_else u (speaks (in_files (i + 1 + 1) (drop (i + 1) files))) ≡ r
-  unfolding in_files
-  files_next h u e =
-      let here = in_file (i + 1) (lines_of (get_or files i [])) in
-      let on = in_files (i + 1 + 1) (drop (i + 1) files) in
-      let z : or_else v (speaks (here ++ on)) ≡ r = rw (drop_next [] files i h) at inv in
-      ap (λ (w : Verdict). or_else w (speaks on)) e ∙ or_assoc v (speaks here) (speaks on) ∙ ap (or_else v) (sym (speaks_then here on)) ∙ z
+-- the files from file i + 1 on: the first of them, and where none is left
+module _ (files : List (List ℕ)) (i : ℕ) (r : Result Unit Refusal) (inv : speaks (in_files (i + 1) (drop i files)) ≡ r) where
+  module _ (inside : i < length files) where
+    abbrev here : List Claim
+    here = in_file (i + 1) (lines_of (get_or files i []))
 
-  pub files_over : length files ≤ i → v ≡ r
+    pub files_stop : (t : Refusal) → Err t ≡ speaks here → Err t ≡ r
+    unfolding in_files
+    files_stop t e = sym (then_stop _ here t (sym e)) ∙ rw (drop_next [] files i inside) at inv
+
+    pub files_next : Ok tt ≡ speaks here → speaks (in_files (i + 1 + 1) (drop (i + 1) files)) ≡ r
+    unfolding in_files
+    files_next e = sym (then_on _ here (sym e)) ∙ rw (drop_next [] files i inside) at inv
+
+  pub files_over : length files ≤ i → Ok tt ≡ r
   unfolding in_files speaks
-  files_over h = sym (or_none v) ∙ rw (drop_of_length-le files {i = i} h) at inv
+  files_over h = rw (drop_of_length-le files {i = i} h) at inv
 
-pub feed_read : (files : List (List ℕ)) (rooms : List ℕ) (v : Verdict) → v ≡ speaks (whole_claims (wholes_of files rooms)) → or_else v (speaks (in_files 1 files)) ≡ verdict_of files rooms
-unfolding verdict_of
-feed_read files rooms v e =
-    ap (λ (u : Verdict). or_else u (speaks (in_files 1 files))) e
-    ∙ (sym (speaks_then (whole_claims (wholes_of files rooms)) (in_files 1 files)) ∙ ap speaks (all_claims files rooms))
+-- rules 1 to 4, and then the files
+module _ (files : List (List ℕ)) (rooms : List ℕ) where
+  pub feed_stop : (t : Refusal) → Err t ≡ speaks (whole_claims (wholes_of files rooms)) → Err t ≡ verdict_of files rooms
+  unfolding verdict_of
+  feed_stop t e = sym (then_stop (in_files 1 files) (whole_claims (wholes_of files rooms)) t (sym e)) ∙ ap speaks (all_claims files rooms)
+
+  pub feed_read : Ok tt ≡ speaks (whole_claims (wholes_of files rooms)) → speaks (in_files 1 files) ≡ verdict_of files rooms
+  unfolding verdict_of
+  feed_read e = sym (then_on (in_files 1 files) (whole_claims (wholes_of files rooms)) (sym e)) ∙ ap speaks (all_claims files rooms)
 
 -- rule 3 by division, which can't overflow
 pub wide : (f : ℕ) → 0 < f → f < 7 → 0 < width_of f

@@ -1,10 +1,11 @@
 -- A header: its first broken rule, from what is told of its text and its names; and under what the lines after it are read.
 use Prim.Native.Nat.{ℕ}
-use mathlib.Core.Path.{◌≡◌, sym, ap, ◌∙◌}
+use mathlib.Core.Path.{◌≡◌, refl, sym, ap, ◌∙◌}
 use mathlib.Core.Bool.{Bool, true, false}
 use mathlib.Core.List.{List}
 use lib.ListN.{length}
-use borrow.Author.Tests.{eq-eqb, ne_eqb}
+use native.Mathlib.Omega.{arith}
+use Rattle.std.specs.Prelude.{Option, Some, None, Ok, Err}
 use Rattle.meaning.specs.Bytes.{fields, values}
 use Rattle.meaning.specs.Refusals.{rule8, text_tests, head_tests}
 use Rattle.columns.specs.declared.Columns.{Columns}
@@ -12,52 +13,62 @@ use Rattle.columns.specs.Columns.{places_of, lacking}
 use Rattle.columns.proofs.Laws.{lacking_is}
 use Rattle.reading.specs.declared.Fault.{Fault}
 use Rattle.reading.specs.Tests.{fault, first}
-use Rattle.reading.specs.Heads.{no_columns, columns_under}
+use Rattle.reading.specs.Heads.{columns_in, unless, columns_under}
 use Rattle.reading.proofs.First.{first_yes, first_no, first_none, column_yes, column_no, first_stop, first_then}
 
-module _ (f : ℕ) (h : List ℕ) (rule : ℕ) (text : fault rule 0 ≡ first (text_tests h)) where
-  -- its text breaks a rule
-  pub head_text : (rule ≡ 0 → ⊥) → fault rule 0 ≡ first (head_tests f h)
-  unfolding head_tests
-  head_text z = first_stop (text_tests h) _ _ text z
+module _ (f : ℕ) (h : List ℕ) where
+  -- it breaks a rule
+  pub under_bad : (t : Fault) → Some t ≡ first (head_tests f h) → Err t ≡ columns_under f h
+  unfolding columns_under
+  under_bad t e = rw (← e)
 
-  module _ (kept : rule ≡ 0) (again : ℕ) (second : again ≡ rule8 f (values h)) where
+  -- it breaks none
+  pub under_good : None ≡ first (head_tests f h) → (c : Columns) → c ≡ columns_in f h → Ok c ≡ columns_under f h
+  unfolding columns_under
+  under_good e c k = rw (← e, k)
+
+  pub same_columns : (at : List ℕ) (count : ℕ) → at ≡ places_of f (values h) → count ≡ length (fields h) → ◌≡◌ {A = Columns} (record { at = at; count = count }) (columns_in f h)
+  same_columns at count p q = rw (p, q)
+
+  -- and what it is by what is told
+  pub bad_under : (t : Fault) → Err t ≡ columns_under f h → Some t ≡ first (head_tests f h)
+  unfolding columns_under
+  bad_under t e = go (first (head_tests f h)) e
+    where
+      go : (k : Option Fault) → Err t ≡ unless k (columns_in f h) → Some t ≡ k
+      go None e = let z : ◌≡◌ {A = ℕ} 0 1 = cc in absurd (omega arith)
+      go (Some u) e = cc
+
+  pub good_under : (c : Columns) → Ok c ≡ columns_under f h → (None ≡ first (head_tests f h)) × (c ≡ columns_in f h)
+  unfolding columns_under
+  good_under c e = go (first (head_tests f h)) e
+    where
+      go : (k : Option Fault) → Ok c ≡ unless k (columns_in f h) → (None ≡ k) × (c ≡ columns_in f h)
+      go None e = (refl, cc)
+      go (Some u) e = let z : ◌≡◌ {A = ℕ} 0 1 = cc in absurd (omega arith)
+
+  module _ (text : None ≡ first (text_tests h)) (again : ℕ) (second : again ≡ rule8 f (values h)) where
     -- a name stands twice
-    pub head_again : (again ≡ 0 → ⊥) → fault 8 again ≡ first (head_tests f h)
-    unfolding head_tests text_tests
-    head_again z = first_then (text_tests h) _ tt _ _ text kept (rw (← second) (column_yes 8 again _ z))
+    pub head_again : (again ≡ 0 → ⊥) → Some (fault 8 again) ≡ first (head_tests f h)
+    unfolding head_tests
+    head_again z = first_then (text_tests h) _ _ text (rw (← second) (column_yes 8 again _ z))
 
     module _ (once : again ≡ 0) (at : List ℕ) (places : at ≡ places_of f (values h)) (lacks : Bool) (told : lacks ≡ lacking f at) where
       -- one is missing
-      pub head_lacks : lacks ≡ true → fault 9 0 ≡ first (head_tests f h)
-      unfolding head_tests text_tests
+      pub head_lacks : lacks ≡ true → Some (fault 9 0) ≡ first (head_tests f h)
+      unfolding head_tests
       head_lacks e =
-          first_then (text_tests h) _ tt _ _ text kept
+          first_then (text_tests h) _ _ text
           (column_no 8 _ _ (sym second ∙ once) _ (first_yes 9 _ _ (sym (told ∙ ap (lacking f) places ∙ lacking_is f (values h)) ∙ e)))
 
       -- nothing is wrong
-      pub head_good : lacks ≡ false → fault 0 0 ≡ first (head_tests f h)
-      unfolding head_tests text_tests
+      pub head_good : lacks ≡ false → None ≡ first (head_tests f h)
+      unfolding head_tests
       head_good e =
-          first_then (text_tests h) _ tt _ _ text kept
+          first_then (text_tests h) _ _ text
           (column_no 8 _ _ (sym second ∙ once) _ (first_no 9 _ _ (sym (told ∙ ap (lacking f) places ∙ lacking_is f (values h)) ∙ e) _ first_none))
 
-module _ (f : ℕ) (h : List ℕ) (t : Fault) (test : t ≡ first (head_tests f h)) where
-  rule_is : (first (head_tests f h)).rule ≡ t.rule
-  rule_is = ap (λ (x : Fault). x.rule) (sym test)
-
-  -- one that breaks a rule
-  pub under_bad : (t.rule ≡ 0 → ⊥) → (c : Columns) → c ≡ no_columns → c ≡ columns_under f h
-  unfolding columns_under
-  under_bad z c e = rw (rule_is, ne_eqb t.rule 0 z) e
-
-  -- and one that breaks none
-  pub under_good : t.rule ≡ 0 → (at : List ℕ) (count : ℕ) → at ≡ places_of f (values h) → count ≡ length (fields h) → ◌≡◌ {A = Columns} (record { at = at; count = count }) (columns_under f h)
-  unfolding columns_under
-  under_good z at count p q = rw (rule_is, eq-eqb t.rule 0 z, p, q)
-
-  pub good_under : t.rule ≡ 0 → (c : Columns) → c ≡ columns_under f h → (c.at ≡ places_of f (values h)) × (c.count ≡ length (fields h))
-  unfolding columns_under
-  good_under z c e =
-      let y : c ≡ record { at = places_of f (values h); count = length (fields h) } = rw (rule_is, eq-eqb t.rule 0 z) at e in
-      (ap (λ (x : Columns). x.at) y, ap (λ (x : Columns). x.count) y)
+  -- its text breaks a rule
+  pub head_text : (t : Fault) → Some t ≡ first (text_tests h) → Some t ≡ first (head_tests f h)
+  unfolding head_tests
+  head_text t e = first_stop (text_tests h) _ t e

@@ -6,3 +6,4 @@ pub mod Wholes
 pub mod Heads
 pub mod Files
 pub mod Dated
+pub mod One

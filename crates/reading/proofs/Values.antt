@@ -5,18 +5,41 @@ use mathlib.Core.List.{List, []}
 use Prim.Native.Nat.{ℕ, zero, suc, ◌+◌, ◌≤◌, ◌<◌}
 use native.Mathlib.Omega.{arith}
 use lib.Dec.{ltb, eqb}
-use lib.ListN.{length, get_or, get_or-eq_default}
+use lib.ListN.{length, get_or}
 use borrow.Author.Tests.{eq-eqb, ne_eqb, lt-ltb, le-ltb}
+use Rattle.meaning.specs.declared.Need.{Need}
+use Rattle.meaning.specs.declared.Need.TheVariants.{Never, AllButInner, AllButPlaceless, Always}
+use Rattle.meaning.specs.contracts.NeedPartialOrd.TheImpl.{partial_cmp-value}
+use Rattle.std.specs.Ordering.{partial_lt}
 use Rattle.meaning.specs.declared.Column.{Column}
 use Rattle.meaning.specs.Lists.{empty, least}
 use Rattle.text.specs.Fields.{up_to33}
 use Rattle.text.proofs.Spans.{up_exact, up_over}
 use Rattle.meaning.specs.Bytes.{good, fields}
-use Rattle.meaning.specs.Columns.{Row, column_of, count_of, cell, row_of}
-use Rattle.meaning.specs.Forms.{shapes, shape}
+use Rattle.meaning.specs.Columns.{Row, rank, column_of, count_of, cell, row_of}
+use Rattle.meaning.specs.Forms.{shape}
 use Rattle.meaning.specs.Tables.{kind_of, inner, placed}
 use Rattle.meaning.specs.Refusals.{rule6, rule7, rule10, rule11, rule12, rule13, slack, long, blank, formless, leftmost, value_tests, line_tests}
 use Rattle.meaning.proofs.Columns.{row_at}
+
+-- the order of needs in code is that of their ranks
+pub need_less : (a b : Need) → partial_lt partial_cmp-value.it a b ≡ ltb (rank a) (rank b)
+need_less Never Never = refl
+need_less Never AllButInner = refl
+need_less Never AllButPlaceless = refl
+need_less Never Always = refl
+need_less AllButInner Never = refl
+need_less AllButInner AllButInner = refl
+need_less AllButInner AllButPlaceless = refl
+need_less AllButInner Always = refl
+need_less AllButPlaceless Never = refl
+need_less AllButPlaceless AllButInner = refl
+need_less AllButPlaceless AllButPlaceless = refl
+need_less AllButPlaceless Always = refl
+need_less Always Never = refl
+need_less Always AllButInner = refl
+need_less Always AllButPlaceless = refl
+need_less Always Always = refl
 
 -- a value of n bytes under a column
 module _ (c : Column) (v : List ℕ) (n : ℕ) (e : n ≡ length v) where
@@ -24,7 +47,7 @@ module _ (c : Column) (v : List ℕ) (n : ℕ) (e : n ≡ length v) where
   unfolding long
   long_is t u p q = rw (← e, ← p) q
 
-  pub blank_empty : (free : ℕ) → n ≡ 0 → (u : Bool) → ltb free c.need ≡ u → blank free c v ≡ u
+  pub blank_empty : (free : Need) → n ≡ 0 → (u : Bool) → ltb (rank free) (rank c.need) ≡ u → blank free c v ≡ u
   unfolding blank empty
   blank_empty free z true p = rw (← e, z, p)
   blank_empty free z false p = rw p
@@ -33,9 +56,9 @@ module _ (c : Column) (v : List ℕ) (n : ℕ) (e : n ≡ length v) where
   unfolding formless empty
   formless_empty z = rw (← e, z)
 
-  pub blank_full : (free : ℕ) → (n ≡ 0 → ⊥) → blank free c v ≡ false
+  pub blank_full : (free : Need) → (n ≡ 0 → ⊥) → blank free c v ≡ false
   unfolding blank empty
-  blank_full free z = rw (← e, ne_eqb n 0 z) (go (ltb free c.need))
+  blank_full free z = rw (← e, ne_eqb n 0 z) (go (ltb (rank free) (rank c.need)))
     where
       go : (b : Bool) → (b && false) ≡ false
       go true = refl
@@ -47,25 +70,25 @@ module _ (c : Column) (v : List ℕ) (n : ℕ) (e : n ≡ length v) where
 
 -- what a line may leave open: nothing in another file, nothing on a line of another type, and else by whether it has a place
 module _ (f : ℕ) (r : Row) where
-  pub other_file_lem : (f ≡ 1 → ⊥) → 0 ≡ slack f r
+  pub other_file_lem : (f ≡ 1 → ⊥) → Never ≡ slack f r
   unfolding slack
   other_file_lem h = rw (ne_eqb f 1 h)
 
-  pub other_type : (n : ℕ) → n ≡ kind_of r → n ≤ 2 → 0 ≡ slack f r
+  pub other_type : (n : ℕ) → n ≡ kind_of r → n ≤ 2 → Never ≡ slack f r
   unfolding slack inner
   other_type n e h = rw (← e, le-ltb 2 n h) (go (eqb f 1))
     where
-      go : (b : Bool) → ◌≡◌ {A = ℕ} 0 (cond (b && false) (cond (placed r) 1 2) 0)
+      go : (b : Bool) → ◌≡◌ {A = Need} Never (cond (b && false) (cond (placed r) AllButInner AllButPlaceless) Never)
       go true = refl
       go false = refl
 
-  pub by_place : (n : ℕ) → f ≡ 1 → n ≡ kind_of r → 2 < n → (b : Bool) → b ≡ placed r → cond b 1 2 ≡ slack f r
+  pub by_place : (n : ℕ) → f ≡ 1 → n ≡ kind_of r → 2 < n → (b : Bool) → b ≡ placed r → cond b AllButInner AllButPlaceless ≡ slack f r
   unfolding slack inner
   by_place n z e h b q = rw (← e, ← q, eq-eqb f 1 z, lt-ltb 2 n h)
 
 -- rules 6, 7 and 10 by what a walk along the line told
 module _ (l : List ℕ) where
-  pub bad_is : (g u : Bool) → g ≡ good l → g ≡ u → rule6 l ≡ not u
+  pub bad_is : (g u : Bool) → g ≡ good l → not g ≡ u → rule6 l ≡ u
   unfolding rule6
   bad_is g u p q = rw (← p, q)
 
@@ -112,8 +135,3 @@ module _ (ps qs : List ℕ) (alike : (k : ℕ) → get_or ps k 0 ≡ get_or qs k
 -- a number that is none of the first k
 pub past : (n k : ℕ) → k ≤ n → (n ≡ k → ⊥) → k + 1 ≤ n
 past n k h e = omega arith
-
--- no form has a number from 12 on
-pub no_form : (n : ℕ) (v : List ℕ) → 12 ≤ n → false ≡ shape n v
-unfolding shape shapes
-no_form n v h = sym (ap (λ (f : List ℕ → Bool). f v) (get_or-eq_default shapes (λ w. false) {n = n} h))

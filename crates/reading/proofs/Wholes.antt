@@ -5,17 +5,16 @@ use mathlib.Core.List.{List, [], ◌∷◌, ◌++◌, append_assoc}
 use Prim.Native.Nat.{ℕ, suc, ◌+◌, ◌-◌, ◌≤◌, ◌<◌}
 use native.Mathlib.Omega.{arith}
 use lib.ListN.{length, get_or, set, take, drop, drop_of_length-le}
-use Rattle.meaning.specs.declared.Verdict.{Verdict}
-use Rattle.meaning.specs.declared.Verdict.TheVariants.{Readable}
+use Rattle.std.specs.Prelude.{Option, Some, None, Result, Ok, Err}
+use Rattle.meaning.specs.declared.Refusal.{Refusal}
 use Rattle.meaning.specs.Refusals.{in_files, over_files, claims, speaks, rule1, rule2, rule3, rule4}
 use Rattle.meaning.proofs.Arrays.{drop_next, fill_next, fill_all}
-use Rattle.reading.specs.Tests.{fault}
 use Rattle.reading.specs.Wholes.{whole_of, wholes_from, wholes_of, rule_marks, first_true, marked, rules_from, whole_claims}
-use Rattle.reading.proofs.Speaks.{refused, whole_stop, whole_on}
+use Rattle.reading.proofs.Speaks.{whole_stop, whole_on}
 
 -- a turn along the files, on the first that breaks rule k + 1
-module _ (k : ℕ) (ws : List (List Bool)) (f x : ℕ) (inv : first_true (f + 1) (rule_marks k (drop f ws)) ≡ x) where
-  pub mark_here : f < length ws → get_or (get_or ws f []) k false ≡ true → f + 1 ≡ x
+module _ (k : ℕ) (ws : List (List Bool)) (f : ℕ) (x : Option ℕ) (inv : first_true (f + 1) (rule_marks k (drop f ws)) ≡ x) where
+  pub mark_here : f < length ws → get_or (get_or ws f []) k false ≡ true → Some (f + 1) ≡ x
   unfolding first_true rule_marks
   mark_here h e = rw (drop_next [] ws f h, e) at inv
 
@@ -23,25 +22,25 @@ module _ (k : ℕ) (ws : List (List Bool)) (f x : ℕ) (inv : first_true (f + 1)
   unfolding first_true rule_marks
   mark_next h e = rw (drop_next [] ws f h, e) at inv
 
-  pub mark_none : length ws ≤ f → 0 ≡ x
+  pub mark_none : length ws ≤ f → None ≡ x
   unfolding first_true rule_marks
   mark_none h = rw (drop_of_length-le ws {i = f} h) at inv
 
 -- a turn along the rules
-module _ (ws : List (List Bool)) (k : ℕ) (v : Verdict) (inv : speaks (rules_from k (4 - k) ws) ≡ v) where
-  module _ (more : k < 4) (f : ℕ) (first : f ≡ first_true 1 (rule_marks k ws)) where
+module _ (ws : List (List Bool)) (k : ℕ) (v : Result Unit Refusal) (inv : speaks (rules_from k (4 - k) ws) ≡ v) where
+  module _ (more : k < 4) where
     left : 4 - k ≡ suc (4 - (k + 1))
     left = omega arith
 
-    pub rule_stop : (f ≡ 0 → ⊥) → (u : Verdict) → u ≡ refused (fault (k + 1) 0) f 0 → u ≡ v
+    pub rule_stop : (f : ℕ) → Some f ≡ first_true 1 (rule_marks k ws) → Err (record { number = k + 1; file = f; line = 0; column = 0 }) ≡ v
     unfolding rules_from
-    rule_stop z u h = whole_stop (k + 1) (rule_marks k ws) f first _ u z h ∙ rw left at inv
+    rule_stop f e = whole_stop (k + 1) (rule_marks k ws) _ f e ∙ rw left at inv
 
-    pub rule_next : f ≡ 0 → speaks (rules_from (k + 1) (4 - (k + 1)) ws) ≡ v
+    pub rule_next : None ≡ first_true 1 (rule_marks k ws) → speaks (rules_from (k + 1) (4 - (k + 1)) ws) ≡ v
     unfolding rules_from
-    rule_next z = whole_on (k + 1) (rule_marks k ws) f first _ _ z refl ∙ rw left at inv
+    rule_next e = whole_on (k + 1) (rule_marks k ws) _ e ∙ rw left at inv
 
-  pub rules_over : 4 ≤ k → Readable ≡ v
+  pub rules_over : 4 ≤ k → Ok tt ≡ v
   unfolding rules_from speaks
   rules_over h = let z : 4 - k ≡ 0 = omega arith in rw z at inv
 

@@ -1,7 +1,6 @@
 -- Rules 1 to 4 of whole files, by marks; and what is read after them.
-use Rattle.std.specs.Prelude.{ℕ, zero, suc, ◌+◌, List, [], ◌∷◌, ◌++◌, map, Bool, false, cond, get_or}
-use Rattle.meaning.specs.declared.Verdict.{Verdict}
-use Rattle.meaning.specs.declared.Verdict.TheVariants.{Readable, Unreadable}
+use Rattle.std.specs.Prelude.{ℕ, zero, suc, ◌+◌, List, [], ◌∷◌, ◌++◌, map, Bool, false, cond, get_or, Option, Some, None, Result, Ok, Err}
+use Rattle.meaning.specs.declared.Refusal.{Refusal}
 use Rattle.meaning.specs.Refusals.{Claim, claim, rule1, rule2, rule3, rule4}
 
 -- which of rules 1 to 4 a file breaks
@@ -21,10 +20,10 @@ wholes_of files rooms = wholes_from files 1 files rooms
 unfoldable pub rule_marks : ℕ → List (List Bool) → List Bool
 rule_marks k wholes = map (λ w. get_or w k false) wholes
 
--- the number of the first mark that is true, counted from n; 0 where none is
-unfoldable pub first_true : ℕ → List Bool → ℕ
-first_true n [] = 0
-first_true n (b ∷ r) = let k = first_true (n + 1) r in cond b n k
+-- the number of the first mark that is true, counted from n
+unfoldable pub first_true : ℕ → List Bool → Option ℕ
+first_true n [] = None
+first_true n (b ∷ r) = let k = first_true (n + 1) r in cond b (Some n) k
 
 -- one rule over files, from file f, by its mark for each
 unfoldable pub marked : ℕ → ℕ → List Bool → List Claim
@@ -41,6 +40,6 @@ unfoldable pub whole_claims : List (List Bool) → List Claim
 whole_claims wholes = rules_from 0 4 wholes
 
 -- the first of two verdicts that refuses
-unfoldable pub or_else : Verdict → Verdict → Verdict
-or_else Readable u = u
-or_else (Unreadable r) u = Unreadable r
+unfoldable pub or_else : Result Unit Refusal → Result Unit Refusal → Result Unit Refusal
+or_else (Ok tt) u = u
+or_else (Err r) u = Err r

@@ -3,7 +3,6 @@ use mathlib.Core.Path.{◌≡◌, ap, ◌∙◌}
 use mathlib.Core.Bool.{true}
 use mathlib.Core.List.{List}
 use Prim.Native.Nat.{ℕ, ◌+◌, ◌*◌, ◌≤◌}
-use native.Mathlib.Omega.{arith}
 use lib.IntN.{ℤ, pos}
 use lib.ListN.{get_or}
 use Rattle.meaning.specs.Bytes.{value, Line}
@@ -49,14 +48,3 @@ pub file_named :
     → (waits f ≡ true → get_or t (last_of f r) (pos 0) ≡ pos (named_of f w row))
     → get_or t (last_of k r) (pos 0) ≡ pos (named_of k w row)
 file_named f k r w row t e h p = rw e at p h
-
-pub fifth : (f : ℕ) → 1 ≤ f → f ≤ 6 → (f ≡ 1 → ⊥) → (f ≡ 2 → ⊥) → (f ≡ 3 → ⊥) → (f ≡ 6 → ⊥) → (f ≡ 4 → ⊥) → f ≡ 5
-fifth f h k a b c e d =
-    let p : 2 ≤ f = past a h in
-    let q : 3 ≤ f = past b p in
-    let r : 4 ≤ f = past c q in
-    let s : 5 ≤ f = past d r in
-    omega (arith, e)
-  where
-    past : {m n : ℕ} → (n ≡ m → ⊥) → m ≤ n → m + 1 ≤ n
-    past a h = omega (arith, a)

@@ -14,8 +14,8 @@ ghost use Rattle.records.specs.Waiting.{waits, last_of, named_of, waiting_of, wr
 use columns::Cells;
 use meaning::Bounds;
 use rows::{
-    Calendar, DateRow, Dates, RouteRow, Routes, ServiceRow, StopRow, StopTimes, Stops, TimeRow,
-    TripRow, Trips,
+    Calendar, DateRow, Dates, RouteRow, Routes, ServiceRow, StopRow, StopTimes, Stops, Table,
+    TimeRow, TripRow, Trips,
 };
 
 // The place in the file of the field under known column k.
@@ -98,8 +98,8 @@ fn put_trip(
         → t.new ≡ put_at t.old (row.0 * 8) (record_of 4 w ps (line at l.now)) }
     ensures ready_2 { Ready a.now a_table.now 3 a_count a_memo.new × Ready b.now b_table.now 5 b_count b_memo.new }
 {
-    let route = resolve::find_route(a, a_table, a_count, values::raw(l, q, 0), a_memo);
-    let service = resolve::find_service(b, b_table, b_count, values::raw(l, q, 1), b_memo);
+    let route = resolve::find::<Routes>(a, a_table, a_count, values::raw(l, q, 0), a_memo);
+    let service = resolve::find::<Calendar>(b, b_table, b_count, values::raw(l, q, 1), b_memo);
     let id = field_place(l, at, q, 2);
     let direction = values::choice_or_minus(l, q, 3, 1);
     let wheelchair = values::choice_or_zero(l, q, 4, 2);
@@ -131,8 +131,8 @@ fn put_time(
         → t.new ≡ put_at t.old (row.0 * 8) (waiting_of w ps (line at l.now)) }
     ensures ready_2 { Ready a.now a_table.now 8 a_count a_memo.new × Ready b.now b_table.now 7 b_count b_memo.new }
 {
-    let trip = resolve::find_trip(a, a_table, a_count, values::raw(l, q, 0), a_memo);
-    let stop = resolve::find_stop(b, b_table, b_count, values::raw(l, q, 3), b_memo);
+    let trip = resolve::find::<Trips>(a, a_table, a_count, values::raw(l, q, 0), a_memo);
+    let stop = resolve::find::<Stops>(b, b_table, b_count, values::raw(l, q, 3), b_memo);
     let sequence = values::sequence(l, q, 4);
     let arrival = values::clock(l, q, 1);
     let departure = values::clock(l, q, 2);
@@ -185,29 +185,17 @@ pub fn put_record(
     ensures sought_2 { Sought f a.now a_table.now a_count a_memo.new b.now b_table.now b_count b_memo.new }
 {
     let q = columns::locate(l, places);
-    if f == Stops::FILE {
-        put_stop(l, at, q, t, StopRow(r));
-        return;
-    }
-    if f == Routes::FILE {
-        put_route(l, at, q, t, RouteRow(r));
-        return;
-    }
-    if f == Calendar::FILE {
-        put_service(l, at, q, t, ServiceRow(r));
-        return;
-    }
-    if f == Dates::FILE {
-        put_date(l, at, q, t, DateRow(r));
-        return;
-    }
-    if f == Trips::FILE {
-        put_trip(
+    match f {
+        Stops::FILE => put_stop(l, at, q, t, StopRow::new(r)),
+        Routes::FILE => put_route(l, at, q, t, RouteRow::new(r)),
+        Calendar::FILE => put_service(l, at, q, t, ServiceRow::new(r)),
+        Dates::FILE => put_date(l, at, q, t, DateRow::new(r)),
+        Trips::FILE => put_trip(
             l,
             at,
             q,
             t,
-            TripRow(r),
+            TripRow::new(r),
             a,
             a_table,
             a_count,
@@ -216,22 +204,21 @@ pub fn put_record(
             b_table,
             b_count,
             b_memo,
-        );
-        return;
+        ),
+        _ => put_time(
+            l,
+            at,
+            q,
+            t,
+            TimeRow::new(r),
+            a,
+            a_table,
+            a_count,
+            a_memo,
+            b,
+            b_table,
+            b_count,
+            b_memo,
+        ),
     }
-    put_time(
-        l,
-        at,
-        q,
-        t,
-        TimeRow(r),
-        a,
-        a_table,
-        a_count,
-        a_memo,
-        b,
-        b_table,
-        b_count,
-        b_memo,
-    );
 }

@@ -31,11 +31,9 @@ pub fn mark_repeats(
     requires { ArrangedBy by s.now o w n t.now × (f < 16) }
     ensures { Marking by s.now t.now w n f m.old m.new }
 {
-    let mut k = 2;
-    while k <= n {
+    for k in 2..=n {
         if is_repeat(by, s, t, w, o, k) {
             marks::mark(m, f, ordering::get(t, w, o, k));
         }
-        k += 1;
     }
 }

@@ -1,16 +1,16 @@
 -- Records in a table: written, laid one after the other, and read back.
-use mathlib.Core.Path.{◌≡◌, refl, sym, ap, ◌∙◌, subst}
+use mathlib.Core.Path.{◌≡◌, refl, sym, ◌∙◌, subst}
 use mathlib.Core.Bool.{true, false}
-use mathlib.Core.List.{List, [], ◌∷◌, ◌++◌}
-use Prim.Native.Nat.{ℕ, zero, suc, ◌+◌, ◌*◌, ◌/◌, ◌≤◌, ◌<◌, zero-le}
+use mathlib.Core.List.{List, ◌++◌, append_assoc}
+use Prim.Native.Nat.{ℕ, zero, suc, ◌+◌, ◌-◌, ◌*◌, ◌/◌, ◌≤◌, ◌<◌, zero-le}
 use native.Mathlib.Nat.{le-div_iff_mul-le, div-lt_iff_lt-mul}
-use native.Mathlib.Numerals.{add-one}
 use native.Mathlib.Omega.{arith}
 use borrow.Author.Tests.{le-ltb}
+use borrow.Rule.Slice.PartMut.{put_mid}
 use lib.Dec.{T}
 use lib.IntN.{ℤ, pos, negsuc}
-use lib.ListN.{length, drop, take, set, get_or, replicate, length-append, length-take, length-drop, length-replicate, get_or-eq_default}
-use lib.Seq.{paste, paste-suc, take-length, length-take-le}
+use lib.ListN.{length, drop, take, get_or, replicate, length-append, length-take, length-drop, length-replicate, get_or-eq_default}
+use lib.Seq.{length-take-le, drop-drop}
 use lib.Signed.{lt_z}
 use Rattle.num.specs.Signs.{nat_of}
 use Rattle.meaning.specs.declared.Time.TheVariants.{Seconds, Untimed}
@@ -27,35 +27,14 @@ pub put_length :
 unfolding put_at
 put_length xs at vs h = simp (length-append, length-take, length-drop) (omega arith)
 
--- a copy that has come to its end
-pub paste_all : (xs : List ℤ) (at : ℕ) (vs : List ℤ) → paste xs at vs (length vs) ≡ put_at xs at vs
+-- a record copied over a part of a table
+pub copied : (t r : List ℤ) (at : ℕ) → put_mid at (at + length r - at) t r ≡ put_at t at r
 unfolding put_at
-paste_all xs at vs = rw take-length
+copied t r at =
+    let e : at + length r - at ≡ length r = omega arith in
+    rw (e, drop-drop) (sym (append_assoc (take at t) r (drop (at + length r) t)))
 
--- a turn of the copy
-pub store_turn :
-    (t t₀ r : List ℤ) (at j : ℕ)
-    → at + length r ≤ length t₀
-    → j < length r
-    → t ≡ paste t₀ at r j
-    → set t (at + j) (get_or r j (pos 0)) ≡ paste t₀ at r (j + 1)
-store_turn t t₀ r at j h k e = rw (e, add-one) (paste-suc t₀ at r j (pos 0) (omega arith) k)
-
--- a turn of writing one number everywhere
-pub fill_turn :
-    (n : ℕ) (v : ℤ) (d : List ℤ)
-    → n < length d
-    → set (replicate n v ++ drop n d) n v ≡ replicate (n + 1) v ++ drop (n + 1) d
-fill_turn n v d l = rw add-one (go n d l)
-  where
-    go :
-        (n : ℕ) (d : List ℤ)
-        → n < length d
-        → set (replicate n v ++ drop n d) n v ≡ replicate (suc n) v ++ drop (suc n) d
-    go n [] l = absurd (omega arith)
-    go zero (x ∷ d) l = refl
-    go (suc n) (x ∷ d) l = ap (λ (t : List ℤ). v ∷ t) (go n d (omega arith))
-
+-- numbers written over the first of a table
 pub laid_fill : (n : ℕ) (v : ℤ) (d : List ℤ) → replicate n v ++ drop n d ≡ laid (replicate n v) d
 unfolding laid
 laid_fill n v d = rw length-replicate

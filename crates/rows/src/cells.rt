@@ -10,11 +10,7 @@ pub fn store(t: &mut [i32], at: usize, r: &[i32])
     requires { at + length r.now ≤ length t.old }
     ensures { t.new ≡ put_at t.old at r.now }
 {
-    let mut j = 0;
-    while j < r.len() {
-        t[at + j] = r[j];
-        j += 1;
-    }
+    t[at..at + r.len()].copy_from_slice(r);
 }
 
 // The place of a record's id, a number to order it by and, where the record is wide enough, the place of one more field; zeros beside them.
@@ -42,11 +38,7 @@ pub fn zero_record(t: &mut [i32], width: usize)
     requires { width ≤ length t.old }
     ensures { t.new ≡ laid (replicate width (pos 0)) t.old }
 {
-    let mut j = 0;
-    while j < width {
-        t[j] = 0;
-        j += 1;
-    }
+    t[..width].fill(0);
 }
 
 // Number k of a record; 0 where it lies outside the table.

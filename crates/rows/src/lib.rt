@@ -1,56 +1,118 @@
 #![tactic(auto)]
 // A type per file that knows its width and number, a row type per file, and the records that they place.
-ghost use Rattle.std.specs.Prelude.{◌≡◌, ◌∷◌, [], ℕ, ◌+◌, ◌*◌, ◌^◌, ◌<◌, ◌≤◌, pos, length, get_or, set};
+ghost use Rattle.std.specs.Prelude.{◌≡◌, ◌∷◌, [], ℕ, ◌+◌, ◌*◌, ◌-◌, ◌^◌, ◌<◌, ◌≤◌, pos, length, get_or, set, ltb, IsTrue, refl};
 ghost use Rattle.meaning.specs.Tables.{width_of, id_column};
 ghost use Rattle.rows.specs.Cells.{put_at, nat_at, bounds_at, time_at};
 ghost use Rattle.rows.specs.Waiting.{unmark, packed, settled_at};
 
 use meaning::{Bounds, Time};
+use std::marker::PhantomData;
 
 pub mod cells; // cells.rt: whole records written and single numbers read, for any width
 pub mod times; // times.rt: what stored times say
 
-// The record number of a stop.
-#[derive(Clone, Copy)]
-pub struct StopRow(pub usize);
+// A file's table.
+pub trait Table: Copy {
+    // How many numbers a record has.
+    const WIDTH: usize;
 
-// The record number of a route.
-#[derive(Clone, Copy)]
-pub struct RouteRow(pub usize);
+    ghost WIDTH: { ℕ };
 
-// The record number of a service.
-#[derive(Clone, Copy)]
-pub struct ServiceRow(pub usize);
+    // The file's number.
+    const FILE: usize;
 
-// The record number of a trip.
-#[derive(Clone, Copy)]
-pub struct TripRow(pub usize);
+    ghost has_cells: { IsTrue (ltb 0 WIDTH) };
+}
 
-// The record number of a stop time.
-#[derive(Clone, Copy)]
-pub struct TimeRow(pub usize);
+// A table in which a field of each record waits till the record that it names is known, one of another table's.
+pub trait Pending: Table {
+    type Named: Table;
+}
 
-// The record number of an exception, a service on a date.
+// The number of a record in a table.
 #[derive(Clone, Copy)]
-pub struct DateRow(pub usize);
+pub struct Row<T>(pub usize, PhantomData<T>);
+
+pub type StopRow = Row<Stops>;
+
+pub type RouteRow = Row<Routes>;
+
+pub type ServiceRow = Row<Calendar>;
+
+pub type TripRow = Row<Trips>;
+
+pub type TimeRow = Row<StopTimes>;
+
+// An exception: a service on a date.
+pub type DateRow = Row<Dates>;
+
+impl<T: Table> Row<T> {
+    pub fn new(number: usize) -> Row<T>
+        ensures { result.0 ≡ number }
+    {
+        Row(number, PhantomData)
+    }
+
+    // Where the record starts.
+    pub fn place(self) -> usize
+        requires { self.0 * T.WIDTH < 2 ^ 64 }
+        ensures { result ≡ self.0 * T.WIDTH }
+    {
+        self.0 * T::WIDTH
+    }
+
+    // Where the record's id stands in the file.
+    pub fn id_at(self, t: &[i32]) -> Bounds
+        ensures { result ≡ bounds_at t.now (self.0 * T.WIDTH) }
+    {
+        cells::bounds_of(t, self.0, T::WIDTH)
+    }
+
+    // Number k of the record, as an unsigned one.
+    fn nat_at(self, t: &[i32], k: usize) -> usize
+        requires { k < 8 }
+        ensures { result ≡ nat_at t.now (self.0 * T.WIDTH + k) }
+    {
+        cells::nat_of(t, self.0, T::WIDTH, k)
+    }
+}
+
+impl<T: Pending> Row<T> {
+    // Where the field lies that waits in the record: numbers 3 and 4.
+    pub fn waiting_at(self, t: &[i32]) -> Bounds
+        ensures { result ≡ bounds_at t.now (self.0 * T.WIDTH + 3) }
+    {
+        cells::waiting_of(t, self.0, T::WIDTH)
+    }
+
+    // The record that the field names, in the last number.
+    pub fn settle(self, t: &mut [i32], named: Row<T::Named>)
+        requires { (self.0 * T.WIDTH + T.WIDTH ≤ length t.old) × (named.0 < 2 ^ 31) }
+        ensures { t.new ≡ set t.old (self.0 * T.WIDTH + (T.WIDTH - 1)) (pos named.0) }
+    {
+        cells::settle(t, self.0, T::WIDTH, named.0);
+    }
+}
 
 // stops.txt
 #[derive(Clone, Copy)]
 pub struct Stops;
 
+impl Table for Stops {
+    const WIDTH: usize = 7;
+
+    ghost WIDTH = { 7 };
+
+    const FILE: usize = 1;
+
+    ghost has_cells = { refl };
+}
+
+impl Pending for Stops {
+    type Named = Stops;
+}
+
 impl Stops {
-    pub const WIDTH: usize = 7;
-
-    pub const FILE: usize = 1;
-
-    // Where a record starts.
-    pub fn place(row: StopRow) -> usize
-        requires { row.0 * 7 < 2 ^ 64 }
-        ensures { result ≡ row.0 * 7 }
-    {
-        row.0 * Stops::WIDTH
-    }
-
     // The record of a line, whose parent is settled in number 6; 1 takes its place there where the line has a place, else 0.
     pub fn put(
         t: &mut [i32],
@@ -75,41 +137,19 @@ impl Stops {
             cells::number_of(t, row.0, Stops::WIDTH, 6),
             placed as i32,
         ];
-        cells::store(t, Stops::place(row), &r);
-    }
-
-    // Where the field of a parent lies that waits in a stop's record: numbers 3 and 4.
-    pub fn waiting_at(t: &[i32], row: StopRow) -> Bounds
-        ensures { result ≡ bounds_at t.now (row.0 * 7 + 3) }
-    {
-        cells::waiting_of(t, row.0, Stops::WIDTH)
-    }
-
-    // The parent's record, in number 6 till the record is put.
-    pub fn settle(t: &mut [i32], row: StopRow, parent: StopRow)
-        requires { (row.0 * 7 + 7 ≤ length t.old) × (parent.0 < 2 ^ 31) }
-        ensures { t.new ≡ set t.old (row.0 * 7 + 6) (pos parent.0) }
-    {
-        cells::settle(t, row.0, Stops::WIDTH, parent.0);
-    }
-
-    // Where the id of a record stands in the file.
-    pub fn id_at(t: &[i32], row: StopRow) -> Bounds
-        ensures { result ≡ bounds_at t.now (row.0 * 7) }
-    {
-        cells::bounds_of(t, row.0, Stops::WIDTH)
+        cells::store(t, row.place(), &r);
     }
 
     pub fn kind_at(t: &[i32], row: StopRow) -> usize
         ensures { result ≡ nat_at t.now (row.0 * 7 + 4) }
     {
-        cells::nat_of(t, row.0, Stops::WIDTH, 4)
+        row.nat_at(t, 4)
     }
 
     pub fn parent_at(t: &[i32], row: StopRow) -> StopRow
         ensures { result.0 ≡ nat_at t.now (row.0 * 7 + 5) }
     {
-        StopRow(cells::nat_of(t, row.0, Stops::WIDTH, 5))
+        Row::new(row.nat_at(t, 5))
     }
 }
 
@@ -117,19 +157,17 @@ impl Stops {
 #[derive(Clone, Copy)]
 pub struct Routes;
 
+impl Table for Routes {
+    const WIDTH: usize = 3;
+
+    ghost WIDTH = { 3 };
+
+    const FILE: usize = 2;
+
+    ghost has_cells = { refl };
+}
+
 impl Routes {
-    pub const WIDTH: usize = 3;
-
-    pub const FILE: usize = 2;
-
-    // Where a record starts.
-    pub fn place(row: RouteRow) -> usize
-        requires { row.0 * 3 < 2 ^ 64 }
-        ensures { result ≡ row.0 * 3 }
-    {
-        row.0 * Routes::WIDTH
-    }
-
     // The record of a line.
     pub fn put(t: &mut [i32], row: RouteRow, id: Bounds, kind: u32)
         requires row_in_bounds { row.0 * 3 + 3 ≤ length t.old }
@@ -137,20 +175,13 @@ impl Routes {
         ensures { t.new ≡ put_at t.old (row.0 * 3) (pos id.start ∷ pos id.end ∷ pos kind ∷ []) }
     {
         let r = [id.start as i32, id.end as i32, kind as i32];
-        cells::store(t, Routes::place(row), &r);
-    }
-
-    // Where the id of a record stands in the file.
-    pub fn id_at(t: &[i32], row: RouteRow) -> Bounds
-        ensures { result ≡ bounds_at t.now (row.0 * 3) }
-    {
-        cells::bounds_of(t, row.0, Routes::WIDTH)
+        cells::store(t, row.place(), &r);
     }
 
     pub fn kind_at(t: &[i32], row: RouteRow) -> usize
         ensures { result ≡ nat_at t.now (row.0 * 3 + 2) }
     {
-        cells::nat_of(t, row.0, Routes::WIDTH, 2)
+        row.nat_at(t, 2)
     }
 }
 
@@ -158,19 +189,17 @@ impl Routes {
 #[derive(Clone, Copy)]
 pub struct Calendar;
 
+impl Table for Calendar {
+    const WIDTH: usize = 5;
+
+    ghost WIDTH = { 5 };
+
+    const FILE: usize = 3;
+
+    ghost has_cells = { refl };
+}
+
 impl Calendar {
-    pub const WIDTH: usize = 5;
-
-    pub const FILE: usize = 3;
-
-    // Where a record starts.
-    pub fn place(row: ServiceRow) -> usize
-        requires { row.0 * 5 < 2 ^ 64 }
-        ensures { result ≡ row.0 * 5 }
-    {
-        row.0 * Calendar::WIDTH
-    }
-
     // The record of a line.
     pub fn put(t: &mut [i32], row: ServiceRow, id: Bounds, days: u32, start: u32, end: u32)
         requires row_in_bounds { row.0 * 5 + 5 ≤ length t.old }
@@ -185,26 +214,19 @@ impl Calendar {
             start as i32,
             end as i32,
         ];
-        cells::store(t, Calendar::place(row), &r);
-    }
-
-    // Where the id of a record stands in the file.
-    pub fn id_at(t: &[i32], row: ServiceRow) -> Bounds
-        ensures { result ≡ bounds_at t.now (row.0 * 5) }
-    {
-        cells::bounds_of(t, row.0, Calendar::WIDTH)
+        cells::store(t, row.place(), &r);
     }
 
     pub fn start_at(t: &[i32], row: ServiceRow) -> usize
         ensures { result ≡ nat_at t.now (row.0 * 5 + 3) }
     {
-        cells::nat_of(t, row.0, Calendar::WIDTH, 3)
+        row.nat_at(t, 3)
     }
 
     pub fn end_at(t: &[i32], row: ServiceRow) -> usize
         ensures { result ≡ nat_at t.now (row.0 * 5 + 4) }
     {
-        cells::nat_of(t, row.0, Calendar::WIDTH, 4)
+        row.nat_at(t, 4)
     }
 }
 
@@ -212,19 +234,21 @@ impl Calendar {
 #[derive(Clone, Copy)]
 pub struct Trips;
 
+impl Table for Trips {
+    const WIDTH: usize = 8;
+
+    ghost WIDTH = { 8 };
+
+    const FILE: usize = 4;
+
+    ghost has_cells = { refl };
+}
+
+impl Pending for Trips {
+    type Named = Dates;
+}
+
 impl Trips {
-    pub const WIDTH: usize = 8;
-
-    pub const FILE: usize = 4;
-
-    // Where a record starts.
-    pub fn place(row: TripRow) -> usize
-        requires { row.0 * 8 < 2 ^ 64 }
-        ensures { result ≡ row.0 * 8 }
-    {
-        row.0 * Trips::WIDTH
-    }
-
     // The record of a line, but for the first file 6 record of its service, number 7, which is settled before.
     pub fn put(
         t: &mut [i32],
@@ -251,47 +275,25 @@ impl Trips {
             wheelchair as i32,
             bikes as i32,
         ];
-        cells::store(t, Trips::place(row), &r);
-    }
-
-    // Where the field of a service lies that waits in a trip's record: numbers 3 and 4.
-    pub fn waiting_at(t: &[i32], row: TripRow) -> Bounds
-        ensures { result ≡ bounds_at t.now (row.0 * 8 + 3) }
-    {
-        cells::waiting_of(t, row.0, Trips::WIDTH)
-    }
-
-    // The first file 6 record of the service, number 7.
-    pub fn settle(t: &mut [i32], row: TripRow, dated: DateRow)
-        requires { (row.0 * 8 + 8 ≤ length t.old) × (dated.0 < 2 ^ 31) }
-        ensures { t.new ≡ set t.old (row.0 * 8 + 7) (pos dated.0) }
-    {
-        cells::settle(t, row.0, Trips::WIDTH, dated.0);
-    }
-
-    // Where the id of a record stands in the file.
-    pub fn id_at(t: &[i32], row: TripRow) -> Bounds
-        ensures { result ≡ bounds_at t.now (row.0 * 8) }
-    {
-        cells::bounds_of(t, row.0, Trips::WIDTH)
+        cells::store(t, row.place(), &r);
     }
 
     pub fn route_at(t: &[i32], row: TripRow) -> RouteRow
         ensures { result.0 ≡ nat_at t.now (row.0 * 8 + 2) }
     {
-        RouteRow(cells::nat_of(t, row.0, Trips::WIDTH, 2))
+        Row::new(row.nat_at(t, 2))
     }
 
     pub fn service_at(t: &[i32], row: TripRow) -> ServiceRow
         ensures { result.0 ≡ nat_at t.now (row.0 * 8 + 3) }
     {
-        ServiceRow(cells::nat_of(t, row.0, Trips::WIDTH, 3))
+        Row::new(row.nat_at(t, 3))
     }
 
     pub fn dated_at(t: &[i32], row: TripRow) -> DateRow
         ensures { result.0 ≡ nat_at t.now (row.0 * 8 + 7) }
     {
-        DateRow(cells::nat_of(t, row.0, Trips::WIDTH, 7))
+        Row::new(row.nat_at(t, 7))
     }
 }
 
@@ -299,19 +301,17 @@ impl Trips {
 #[derive(Clone, Copy)]
 pub struct StopTimes;
 
+impl Table for StopTimes {
+    const WIDTH: usize = 8;
+
+    ghost WIDTH = { 8 };
+
+    const FILE: usize = 5;
+
+    ghost has_cells = { refl };
+}
+
 impl StopTimes {
-    pub const WIDTH: usize = 8;
-
-    pub const FILE: usize = 5;
-
-    // Where a record starts.
-    pub fn place(row: TimeRow) -> usize
-        requires { row.0 * 8 < 2 ^ 64 }
-        ensures { result ≡ row.0 * 8 }
-    {
-        row.0 * StopTimes::WIDTH
-    }
-
     // The record of a line that waits for its order: number 1 is packed, 5 and 6 are where its trip_id lies, 7 is for the order.
     pub fn put_waiting(
         t: &mut [i32],
@@ -342,7 +342,7 @@ impl StopTimes {
             place.end as i32,
             0,
         ];
-        cells::store(t, StopTimes::place(row), &r);
+        cells::store(t, row.place(), &r);
     }
 
     // The last form of a record that waits.
@@ -361,25 +361,25 @@ impl StopTimes {
             (n / 4 % 4) as i32,
             unmarked(n % 4),
         ];
-        cells::store(t, StopTimes::place(row), &r);
+        cells::store(t, row.place(), &r);
     }
 
     pub fn trip_at(t: &[i32], row: TimeRow) -> TripRow
         ensures { result.0 ≡ nat_at t.now (row.0 * 8) }
     {
-        TripRow(cells::nat_of(t, row.0, StopTimes::WIDTH, 0))
+        Row::new(row.nat_at(t, 0))
     }
 
     pub fn stop_at(t: &[i32], row: TimeRow) -> StopRow
         ensures { result.0 ≡ nat_at t.now (row.0 * 8 + 1) }
     {
-        StopRow(cells::nat_of(t, row.0, StopTimes::WIDTH, 1))
+        Row::new(row.nat_at(t, 1))
     }
 
     pub fn sequence_at(t: &[i32], row: TimeRow) -> usize
         ensures { result ≡ nat_at t.now (row.0 * 8 + 2) }
     {
-        cells::nat_of(t, row.0, StopTimes::WIDTH, 2)
+        row.nat_at(t, 2)
     }
 
     pub fn arrival_at(t: &[i32], row: TimeRow) -> Time
@@ -397,20 +397,20 @@ impl StopTimes {
     pub fn pickup_at(t: &[i32], row: TimeRow) -> usize
         ensures { result ≡ nat_at t.now (row.0 * 8 + 5) }
     {
-        cells::nat_of(t, row.0, StopTimes::WIDTH, 5)
+        row.nat_at(t, 5)
     }
 
     pub fn drop_off_at(t: &[i32], row: TimeRow) -> usize
         ensures { result ≡ nat_at t.now (row.0 * 8 + 6) }
     {
-        cells::nat_of(t, row.0, StopTimes::WIDTH, 6)
+        row.nat_at(t, 6)
     }
 
     // 0 or 1; a number past both where it is empty.
     pub fn timepoint_at(t: &[i32], row: TimeRow) -> usize
         ensures { result ≡ nat_at t.now (row.0 * 8 + 7) }
     {
-        cells::nat_of(t, row.0, StopTimes::WIDTH, 7)
+        row.nat_at(t, 7)
     }
 }
 
@@ -418,19 +418,17 @@ impl StopTimes {
 #[derive(Clone, Copy)]
 pub struct Dates;
 
+impl Table for Dates {
+    const WIDTH: usize = 4;
+
+    ghost WIDTH = { 4 };
+
+    const FILE: usize = 6;
+
+    ghost has_cells = { refl };
+}
+
 impl Dates {
-    pub const WIDTH: usize = 4;
-
-    pub const FILE: usize = 6;
-
-    // Where a record starts.
-    pub fn place(row: DateRow) -> usize
-        requires { row.0 * 4 < 2 ^ 64 }
-        ensures { result ≡ row.0 * 4 }
-    {
-        row.0 * Dates::WIDTH
-    }
-
     // The record of a line.
     pub fn put(t: &mut [i32], row: DateRow, id: Bounds, date: u32, kind: u32)
         requires row_in_bounds { row.0 * 4 + 4 ≤ length t.old }
@@ -439,26 +437,19 @@ impl Dates {
             (pos id.start ∷ pos id.end ∷ pos date ∷ pos kind ∷ []) }
     {
         let r = [id.start as i32, id.end as i32, date as i32, kind as i32];
-        cells::store(t, Dates::place(row), &r);
-    }
-
-    // Where the id of a record stands in the file.
-    pub fn id_at(t: &[i32], row: DateRow) -> Bounds
-        ensures { result ≡ bounds_at t.now (row.0 * 4) }
-    {
-        cells::bounds_of(t, row.0, Dates::WIDTH)
+        cells::store(t, row.place(), &r);
     }
 
     pub fn date_at(t: &[i32], row: DateRow) -> usize
         ensures { result ≡ nat_at t.now (row.0 * 4 + 2) }
     {
-        cells::nat_of(t, row.0, Dates::WIDTH, 2)
+        row.nat_at(t, 2)
     }
 
     pub fn kind_at(t: &[i32], row: DateRow) -> usize
         ensures { result ≡ nat_at t.now (row.0 * 4 + 3) }
     {
-        cells::nat_of(t, row.0, Dates::WIDTH, 3)
+        row.nat_at(t, 3)
     }
 }
 

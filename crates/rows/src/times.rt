@@ -8,11 +8,7 @@ use meaning::Time;
 pub fn is_given(x: Time) -> bool
     ensures { result ≡ given x }
 {
-    match x {
-        Time::Seconds(_) => true,
-        Time::Untimed => false,
-        Time::NoTime => false,
-    }
+    matches!(x, Time::Seconds(_))
 }
 
 // Are both times of a line given?
@@ -28,7 +24,6 @@ pub fn seconds_of(x: Time) -> usize
 {
     match x {
         Time::Seconds(n) => n as usize,
-        Time::Untimed => 0,
-        Time::NoTime => 0,
+        Time::Untimed | Time::NoTime => 0,
     }
 }

@@ -4,25 +4,10 @@
 use listing::Sink;
 use meaning::{Bounds, Place, Time};
 use rows::{
-    Calendar, DateRow, Dates, RouteRow, Routes, ServiceRow, StopRow, StopTimes, Stops, TimeRow,
-    TripRow, Trips,
+    Calendar, DateRow, Dates, RouteRow, Routes, ServiceRow, StopRow, StopTimes, Stops, Table,
+    TimeRow, TripRow, Trips,
 };
 use std::io;
-
-// Whether two runs of numbers are equal.
-fn same(a: &[i32], b: &[i32]) -> bool {
-    if a.len() != b.len() {
-        return false;
-    }
-    let mut i = 0;
-    while i < a.len() {
-        if a[i] != b[i] {
-            return false;
-        }
-        i += 1;
-    }
-    true
-}
 
 // One line: the case, and whether it came out as expected.
 fn told(rt: &impl Print, name: &[u8], good: bool) -> io::Result<()> {
@@ -32,14 +17,6 @@ fn told(rt: &impl Print, name: &[u8], good: bool) -> io::Result<()> {
     } else {
         rt.write_all(b" DIFFERS\n")
     }
-}
-
-// Whether two results are as expected.
-fn both(a: bool, b: bool) -> bool {
-    if a {
-        return b;
-    }
-    false
 }
 
 // The places of a second record's id and of its parent's field wait; then its parent, which goes to its number, and negative coordinates.
@@ -52,17 +29,17 @@ fn stops(rt: &impl Print) -> io::Result<()> {
     told(
         rt,
         b"places",
-        same(&t, &[7, 7, 7, 7, 7, 7, 7, 36, 37, 0, 41, 44, 0, 0, 7]),
+        t == [7, 7, 7, 7, 7, 7, 7, 36, 37, 0, 41, 44, 0, 0, 7],
     )?;
-    let place = Stops::waiting_at(&t, StopRow(1));
-    told(rt, b"waiting", both(place.start == 41, place.end == 44))?;
-    Stops::settle(&mut t, StopRow(1), StopRow(3));
+    let place = StopRow::new(1).waiting_at(&t);
+    told(rt, b"waiting", place.start == 41 && place.end == 44)?;
+    StopRow::new(1).settle(&mut t, StopRow::new(3));
     told(
         rt,
         b"settled",
-        same(&t, &[7, 7, 7, 7, 7, 7, 7, 36, 37, 0, 41, 44, 0, 3, 7]),
+        t == [7, 7, 7, 7, 7, 7, 7, 36, 37, 0, 41, 44, 0, 3, 7],
     )?;
-    Stops::put(&mut t, StopRow(1), id, -338674999, -1800000000, 2, 1);
+    Stops::put(&mut t, StopRow::new(1), id, -338674999, -1800000000, 2, 1);
     let want = [
         7,
         7,
@@ -80,7 +57,7 @@ fn stops(rt: &impl Print) -> io::Result<()> {
         1,
         7,
     ];
-    told(rt, b"stops", same(&t, &want))
+    told(rt, b"stops", t == want)
 }
 
 // Record 0 and a record of the largest number.
@@ -91,16 +68,16 @@ fn routes(rt: &impl Print) -> io::Result<()> {
         end: 2147483647,
     };
     rows::cells::zero_record(&mut t, Routes::WIDTH);
-    Routes::put(&mut t, RouteRow(1), id, 12);
-    told(rt, b"routes", same(&t, &[0, 0, 0, 39, 2147483647, 12, 7]))
+    Routes::put(&mut t, RouteRow::new(1), id, 12);
+    told(rt, b"routes", t == [0, 0, 0, 39, 2147483647, 12, 7])
 }
 
 // The first and the last date.
 fn calendar(rt: &impl Print) -> io::Result<()> {
     let mut t = [7i32; 6];
     let id = Bounds { start: 0, end: 0 };
-    Calendar::put(&mut t, ServiceRow(0), id, 127, 10101, 99991231);
-    told(rt, b"calendar", same(&t, &[0, 0, 127, 10101, 99991231, 7]))
+    Calendar::put(&mut t, ServiceRow::new(0), id, 127, 10101, 99991231);
+    told(rt, b"calendar", t == [0, 0, 127, 10101, 99991231, 7])
 }
 
 // No direction. The place of the service's field waits, with zeros behind it; the eighth number is settled, and stays when the others are written.
@@ -109,33 +86,25 @@ fn trips(rt: &impl Print) -> io::Result<()> {
     let id = Bounds { start: 5, end: 6 };
     let field = Bounds { start: 7, end: 10 };
     rows::cells::put_places(&mut t, 0, Trips::WIDTH, id, 0, field);
-    told(
-        rt,
-        b"a service waits",
-        same(&t, &[5, 6, 0, 7, 10, 0, 0, 0, 7]),
-    )?;
-    let place = Trips::waiting_at(&t, TripRow(0));
-    told(rt, b"its place", both(place.start == 7, place.end == 10))?;
-    Trips::settle(&mut t, TripRow(0), DateRow(65535));
+    told(rt, b"a service waits", t == [5, 6, 0, 7, 10, 0, 0, 0, 7])?;
+    let place = TripRow::new(0).waiting_at(&t);
+    told(rt, b"its place", place.start == 7 && place.end == 10)?;
+    TripRow::new(0).settle(&mut t, DateRow::new(65535));
     Trips::put(
         &mut t,
-        TripRow(0),
+        TripRow::new(0),
         id,
-        RouteRow(0),
-        ServiceRow(65535),
+        RouteRow::new(0),
+        ServiceRow::new(65535),
         -1,
         2,
         1,
     );
-    told(
-        rt,
-        b"trips",
-        same(&t, &[5, 6, 0, 65535, -1, 2, 1, 65535, 7]),
-    )?;
+    told(rt, b"trips", t == [5, 6, 0, 65535, -1, 2, 1, 65535, 7])?;
     told(
         rt,
         b"a trip's dates",
-        Trips::dated_at(&t, TripRow(0)).0 == 65535,
+        Trips::dated_at(&t, TripRow::new(0)).0 == 65535,
     )
 }
 
@@ -148,19 +117,19 @@ fn dates(rt: &impl Print) -> io::Result<()> {
     told(
         rt,
         b"a date waits",
-        same(&t, &[7, 7, 7, 7, 31, 34, 99991231, 0, 7]),
+        t == [7, 7, 7, 7, 31, 34, 99991231, 0, 7],
     )?;
-    Dates::put(&mut t, DateRow(1), id, 99991231, 2);
+    Dates::put(&mut t, DateRow::new(1), id, 99991231, 2);
     told(
         rt,
         b"calendar_dates",
-        same(&t, &[7, 7, 7, 7, 31, 34, 99991231, 2, 7]),
+        t == [7, 7, 7, 7, 31, 34, 99991231, 2, 7],
     )?;
-    let date = Dates::date_at(&t, DateRow(1)) == 99991231;
+    let date = Dates::date_at(&t, DateRow::new(1)) == 99991231;
     told(
         rt,
         b"date and type",
-        both(date, Dates::kind_at(&t, DateRow(1)) == 2),
+        date && Dates::kind_at(&t, DateRow::new(1)) == 2,
     )
 }
 
@@ -180,9 +149,9 @@ fn waiting_times(rt: &impl Print) -> io::Result<()> {
     };
     StopTimes::put_waiting(
         &mut t,
-        TimeRow(1),
-        TripRow(0),
-        StopRow(33554431),
+        TimeRow::new(1),
+        TripRow::new(0),
+        StopRow::new(33554431),
         999999999,
         -1,
         359999,
@@ -194,13 +163,13 @@ fn waiting_times(rt: &impl Print) -> io::Result<()> {
     let waits = [
         7, 7, 7, 7, 7, 7, 7, 7, 0, 2147483636, 999999999, -1, 359999, 41, 2147483647, 0, 7,
     ];
-    told(rt, b"stop_times wait", same(&t, &waits))?;
+    told(rt, b"stop_times wait", t == waits)?;
     order(&mut t);
-    StopTimes::settle(&mut t, TimeRow(1));
+    StopTimes::settle(&mut t, TimeRow::new(1));
     let settled = [
         7, 7, 7, 7, 7, 7, 7, 7, 0, 33554431, 999999999, -1, 359999, 3, 1, -1, 7,
     ];
-    told(rt, b"stop_times settled", same(&t, &settled))
+    told(rt, b"stop_times settled", t == settled)
 }
 
 // Timepoints 0 and 1, in two records.
@@ -209,9 +178,9 @@ fn timepoints(rt: &impl Print) -> io::Result<()> {
     let field = Bounds { start: 0, end: 1 };
     StopTimes::put_waiting(
         &mut t,
-        TimeRow(0),
-        TripRow(1),
-        StopRow(2),
+        TimeRow::new(0),
+        TripRow::new(1),
+        StopRow::new(2),
         4,
         28800,
         -1,
@@ -222,9 +191,9 @@ fn timepoints(rt: &impl Print) -> io::Result<()> {
     );
     StopTimes::put_waiting(
         &mut t,
-        TimeRow(1),
-        TripRow(2147483647),
-        StopRow(0),
+        TimeRow::new(1),
+        TripRow::new(2147483647),
+        StopRow::new(0),
         0,
         0,
         0,
@@ -236,38 +205,38 @@ fn timepoints(rt: &impl Print) -> io::Result<()> {
     let waits = [
         1, 154, 4, 28800, -1, 0, 1, 0, 2147483647, 13, 0, 0, 0, 0, 1, 0,
     ];
-    told(rt, b"timepoints wait", same(&t, &waits))?;
-    StopTimes::settle(&mut t, TimeRow(0));
-    StopTimes::settle(&mut t, TimeRow(1));
+    told(rt, b"timepoints wait", t == waits)?;
+    StopTimes::settle(&mut t, TimeRow::new(0));
+    StopTimes::settle(&mut t, TimeRow::new(1));
     let settled = [1, 2, 4, 28800, -1, 1, 2, 1, 2147483647, 0, 0, 0, 0, 0, 3, 0];
-    told(rt, b"timepoints settled", same(&t, &settled))
+    told(rt, b"timepoints settled", t == settled)
 }
 
 // A negative number is one past every file and every record.
 fn negative(rt: &impl Print) -> io::Result<()> {
     let t = [36, -1, -338674999, 1800000000, 2, -2147483648, 1];
-    let id = Stops::id_at(&t, StopRow(0));
-    told(rt, b"id", both(id.start == 36, id.end == 4294967295))?;
+    let id = StopRow::new(0).id_at(&t);
+    told(rt, b"id", id.start == 36 && id.end == 4294967295)?;
     told(
         rt,
         b"parent",
-        Stops::parent_at(&t, StopRow(0)).0 == 4294967295,
+        Stops::parent_at(&t, StopRow::new(0)).0 == 4294967295,
     )
 }
 
 // What lies outside the table is 0, whatever the row; a record that is cut off is read as far as it goes.
 fn outside(rt: &impl Print) -> io::Result<()> {
     let t = [0, 0, 0, 0, 0, 0, 0, 50, 51, 9];
-    let id = Stops::id_at(&t, StopRow(1));
+    let id = StopRow::new(1).id_at(&t);
     told(
         rt,
         b"cut",
-        both(id.end == 51, Stops::kind_at(&t, StopRow(1)) == 0),
+        id.end == 51 && Stops::kind_at(&t, StopRow::new(1)) == 0,
     )?;
     told(
         rt,
         b"far",
-        Stops::kind_at(&t, StopRow(18446744073709551615)) == 0,
+        Stops::kind_at(&t, StopRow::new(18446744073709551615)) == 0,
     )
 }
 
@@ -292,28 +261,28 @@ fn untimed(x: Time) -> bool {
 // Times: 0 is midnight, -1 is none.
 fn times(rt: &impl Print) -> io::Result<()> {
     let t = [9, 8, 999999999, -1, 0, 0, 0, 1];
-    let none = untimed(StopTimes::arrival_at(&t, TimeRow(0)));
+    let none = untimed(StopTimes::arrival_at(&t, TimeRow::new(0)));
     told(
         rt,
         b"times",
-        both(none, lasts(StopTimes::departure_at(&t, TimeRow(0)), 0)),
+        none && lasts(StopTimes::departure_at(&t, TimeRow::new(0)), 0),
     )?;
-    let sequence = StopTimes::sequence_at(&t, TimeRow(0)) == 999999999;
+    let sequence = StopTimes::sequence_at(&t, TimeRow::new(0)) == 999999999;
     told(
         rt,
         b"sequence",
-        both(sequence, StopTimes::timepoint_at(&t, TimeRow(0)) == 1),
+        sequence && StopTimes::timepoint_at(&t, TimeRow::new(0)) == 1,
     )
 }
 
 // Rows of the two kinds.
 fn references(rt: &impl Print) -> io::Result<()> {
     let t = [0, 0, 0, 0, 0, 0, 0, 0, 4, 5];
-    let trip = StopTimes::trip_at(&t, TimeRow(1)).0 == 4;
+    let trip = StopTimes::trip_at(&t, TimeRow::new(1)).0 == 4;
     told(
         rt,
         b"references",
-        both(trip, StopTimes::stop_at(&t, TimeRow(1)).0 == 5),
+        trip && StopTimes::stop_at(&t, TimeRow::new(1)).0 == 5,
     )
 }
 
@@ -350,7 +319,7 @@ fn page(
     told(
         rt,
         name,
-        both(same(t, want), both(k.written == written, k.total == 3)),
+        &*t == want && k.written == written && k.total == 3,
     )
 }
 

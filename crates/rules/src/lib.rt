@@ -19,17 +19,7 @@ struct Wanted {
     asked: Profile,
 }
 
-// How many records a file of so many lines has: one for each, but for the header.
-fn records_of(lines: usize) -> usize
-    ensures { result ≡ lines - 1 }
-{
-    if lines == 0 {
-        return 0;
-    }
-    lines - 1
-}
-
-// What is wanted of the findings of a file of so many lines.
+// What is wanted of the findings of a file of so many lines: a record on each, but for the header.
 fn list_counted(
     f: usize,
     lines: usize,
@@ -45,9 +35,8 @@ fn list_counted(
         → state out.new result ≡ noting a.from (bindings_of a.asked w f) (state out.old k) }
     ensures total_bound { result.total ≤ k.total + rule_count Profile.Boards f * max_lines }
 {
-    let from = a.from;
-    let asked = a.asked;
-    file_rules::list_file(f, records_of(lines), t, stops, marks, out, k, from, asked)
+    let records = lines.saturating_sub(1);
+    file_rules::list_file(f, records, t, stops, marks, out, k, a.from, a.asked)
 }
 
 // The same of all files, in order.
@@ -67,10 +56,8 @@ fn list_tables(
         written: 0,
         total: 0,
     };
-    let mut i: usize = 0;
-    while i < 6 {
-        k = list_counted(i + 1, counts[i], tables[i], tables[0], marks, out, k, a);
-        i += 1;
+    for (i, table) in tables.iter().enumerate() {
+        k = list_counted(i + 1, counts[i], table, tables[0], marks, out, k, a);
     }
     k
 }

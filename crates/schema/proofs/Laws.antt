@@ -1,157 +1,56 @@
--- Tables of numbers, made from any schema: reading them is reading the schema. No law names a column.
-use mathlib.Core.Path.{◌≡◌, refl, sym, ◌∙◌}
+-- The table of the code, which is the schema: reading it is reading the schema. No law names a column.
+use mathlib.Core.Path.{◌≡◌, refl, sym, ap, subst, ◌∙◌}
 use mathlib.Core.Logic.{◌⊎◌, inl, inr}
 use mathlib.Core.Bool.{Bool, true, false, cond, not, ◌&&◌}
-use mathlib.Core.List.{List, [], ◌∷◌, ◌++◌}
+use mathlib.Core.List.{List, [], ◌∷◌, map}
 use Prim.Native.Nat.{ℕ, zero, suc, ◌+◌, ◌-◌, ◌≤◌, ◌<◌}
 use native.Mathlib.Omega.{arith}
-use native.Mathlib.Numerals.{add-one}
 use native.Mathlib.Nat.{not-suc-le-zero}
-use lib.Dec.{T, eqb, leb, leb→le}
-use lib.ListN.{length, get_or, set, take, drop, drop_of_length-le}
-use lib.Seq.{get_or-set_same, get_or-set_other, drop-cons}
-use borrow.Author.Tests.{eqb-true, eqb-false, eq-eqb, ne_eqb}
+use lib.Dec.{T, eqb, ltb, leb, leb→le}
+use lib.ListN.{length, get_or, length-map, get_or-eq_default}
+use Rattle.std.proofs.Common.{Bor, Option, Some, None}
+use Rattle.std.specs.Prelude.{IfSome}
+use Rattle.std.specs.Fn.{Called}
+use Rattle.std.specs.Array.{IsFromFnResultFrom}
+use denote.Param.Members.{Mut}
+use native.Mathlib.Decide.{ℕ_discrete}
+use Rattle.std.specs.List.{position_from, position_or_len}
+use Rattle.std.proofs.lemmas.Iterator.Adapters.{position_from-zero}
+use borrow.Author.Tests.{eq-eqb, ne_eqb}
 use Rattle.meaning.specs.declared.Column.{Column}
 use Rattle.meaning.specs.Lists.{same, place}
 use Rattle.meaning.specs.Columns as X
-use Rattle.meaning.specs.Columns.{Known, unknown, schemas, schema, known_at, name_of, count_of}
+use Rattle.meaning.specs.Columns.{Known, unknown, schemas, schema, known_at, name_of, column_of, count_of}
 use Rattle.meaning.proofs.ListLaws.{same_equal}
-use Rattle.meaning.proofs.Computed.{all, get_d_all, mem_all, and_left, and_right, is_true, all_below, below_all}
-use Rattle.meaning.proofs.Laws.{get_d_mem}
-use Rattle.schema.specs.Named.{named_by}
+use Rattle.meaning.proofs.Computed.{all, get_d_all, mem_all, and_left, and_right}
+use Rattle.meaning.proofs.Laws.{get_d_mem, get_d_map_in}
+use Rattle.schema.specs.Named.{counted, named_by}
+use Rattle.schema.specs.Shown.{shown}
 
--- rows of ten of one part of the columns, filled up by that of an unknown one
-module _ {A : Type 0} (g : Known → A) where
-  abbrev pub pad : ℕ → List Known → List A
-  pad zero [] = []
-  pad (suc n) [] = g unknown ∷ pad n []
-  pad zero (x ∷ r) = g x ∷ pad zero r
-  pad (suc n) (x ∷ r) = g x ∷ pad n r
+-- a known column of the code
+abbrev pub Told : Type 0
+Told = Bor (List ℕ) × Column
 
-  pad_at : (n : ℕ) (r : List Known) (k : ℕ) → get_or (pad n r) k (g unknown) ≡ g (get_or r k unknown)
-  pad_at zero [] k = refl
-  pad_at (suc n) [] zero = refl
-  pad_at (suc n) [] (suc k) = pad_at n [] k
-  pad_at zero (x ∷ r) zero = refl
-  pad_at zero (x ∷ r) (suc k) = pad_at zero r k
-  pad_at (suc n) (x ∷ r) zero = refl
-  pad_at (suc n) (x ∷ r) (suc k) = pad_at n r k
+-- a file's known columns, shown
+module _ (its : List Told) (f : ℕ) (told : map shown its ≡ schema f) where
+  pub count_told : length its ≡ count_of f
+  unfolding count_of
+  count_told = sym (length-map its shown) ∙ ap length told
 
-  abbrev pub pads : List (List Known) → List (List A)
-  pads [] = []
-  pads (r ∷ l) = pad 10 r ∷ pads l
+  pub known_some : (k : ℕ) (x : Told) → k < length its → x ≡ get_or its k x → x.1 ≡ column_of f k
+  unfolding column_of known_at
+  known_some k x g e = subst (λ (l : List Known). x.1 ≡ (get_or l k unknown).column) told (ap (λ (y : Told). y.1) e ∙ ap (λ (y : Known). y.column) (sym (get_d_map_in shown its k x unknown g)))
 
-  pub pads_at : (l : List (List Known)) (f k : ℕ) → get_or (get_or (pads l) f []) k (g unknown) ≡ g (get_or (get_or l f []) k unknown)
-  pads_at [] f k = refl
-  pads_at (r ∷ l) zero k = pad_at 10 r k
-  pads_at (r ∷ l) (suc f) k = pads_at l f k
-
-pub column_is : (c : Column) (m i : Bool) (n w : ℕ) → m ≡ c.must → n ≡ c.need → i ≡ c.ident → w ≡ c.form
-    → ◌≡◌ {A = Column} (record { must = m; need = n; ident = i; form = w }) c
-column_is c m i n w p q r s = rw (p, q, r, s)
-
--- a list of columns, one more made
-pub columns_more : (g : ℕ → Column) (d : Column) (l : List Column) (k : ℕ) (v : Column) → k < length l → v ≡ g k
-    → ((j : ℕ) → j < k → get_or l j d ≡ g j) → (j : ℕ) → j < k + 1 → get_or (set l k v) j d ≡ g j
-columns_more g d l k v h e before j b = go (eqb j k) refl
-  where
-    go : (t : Bool) → eqb j k ≡ t → get_or (set l k v) j d ≡ g j
-    go true t = rw (eqb-true j k t) (get_or-set_same l k v d h ∙ e)
-    go false t = let n : j ≡ k → ⊥ = eqb-false j k t in get_or-set_other l k j v d n ∙ before j (omega arith)
-
-abbrev pub lengths : List (List Known) → List ℕ
-lengths [] = []
-lengths (r ∷ l) = length r ∷ lengths l
-
-pub lengths_at : (l : List (List Known)) (f : ℕ) → get_or (lengths l) f 0 ≡ length (get_or l f [])
-lengths_at [] f = refl
-lengths_at (r ∷ l) zero = refl
-lengths_at (r ∷ l) (suc f) = lengths_at l f
+  pub known_none : (k : ℕ) → length its ≤ k → unknown.column ≡ column_of f k
+  unfolding column_of known_at
+  known_none k g = subst (λ (l : List Known). unknown.column ≡ (get_or l k unknown).column) told (ap (λ (y : Known). y.column) (sym (get_or-eq_default (map shown its) unknown {n = k} (rw length-map g))))
 
 -- no file has more than ten
-pub few : (f : ℕ) → get_or (lengths schemas) f 0 ≤ 10
-unfolding X.schemas X.stops_columns X.routes_columns X.calendar_columns X.trips_columns X.stop_times_columns X.calendar_dates_columns
-few f = leb→le _ _ (get_d_all (λ n. leb n 10) 0 tt (lengths schemas) tt f)
-
 pub count_le : (f : ℕ) → count_of f ≤ 10
-unfolding count_of schema
-count_le f = rw (← lengths_at schemas f) (few f)
-
--- where each name starts in the text of all names, and where the last ends, rows of eleven filled up by that
-abbrev cuts_row : ℕ → ℕ → List Known → List ℕ
-cuts_row zero at r = at ∷ []
-cuts_row (suc n) at [] = at ∷ cuts_row n at []
-cuts_row (suc n) at (x ∷ r) = at ∷ cuts_row n (at + length x.name) r
-
-abbrev names_row : List Known → List ℕ
-names_row [] = []
-names_row (x ∷ r) = x.name ++ names_row r
-
-abbrev pub cuts : ℕ → List (List Known) → List (List ℕ)
-cuts at [] = []
-cuts at (r ∷ l) = cuts_row 10 at r ∷ cuts (at + length (names_row r)) l
-
-abbrev pub names : List (List Known) → List ℕ
-names [] = []
-names (r ∷ l) = names_row r ++ names l
-
--- a name from its cut to the next
-abbrev from : List (List ℕ) → ℕ → ℕ → ℕ
-from cs f k = get_or (get_or cs f []) k 0
-
-abbrev to : List (List ℕ) → ℕ → ℕ → ℕ
-to cs f k = get_or (get_or cs f []) (k + 1) 0
-
-abbrev cut : List (List ℕ) → List ℕ → ℕ → ℕ → List ℕ
-cut cs text f k = take (to cs f k - from cs f k) (drop (from cs f k) text)
-
-abbrev placed : List (List ℕ) → List ℕ → ℕ → ℕ → Bool
-placed cs text f k = same (cut cs text f k) (name_of f k) && (leb (from cs f k) (to cs f k) && leb (to cs f k) (length text))
-
-abbrev all_placed : List (List ℕ) → List ℕ → Bool
-all_placed cs text = all_below 7 (λ f. all_below 10 (λ k. placed cs text f k))
-
-pub record Placed (cs : List (List ℕ)) (text : List ℕ) (f k : ℕ) : Type 0 where
-  pub name : cut cs text f k ≡ name_of f k
-  pub order : from cs f k ≤ to cs f k
-  pub inside : to cs f k ≤ length text
-
-is_placed : (cs : List (List ℕ)) (text : List ℕ) → T (all_placed cs text) → (f k : ℕ) → f < 7 → k < 10 → Placed cs text f k
-is_placed cs text t f k h g =
-    let w = below_all 10 (λ k. placed cs text f k) (below_all 7 (λ f. all_below 10 (λ k. placed cs text f k)) t f h) k g in
-    let a : Bool = same (cut cs text f k) (name_of f k) in
-    let b : Bool = leb (from cs f k) (to cs f k) in
-    let e : Bool = leb (to cs f k) (length text) in
-    record {
-      name = same_equal _ _ (is_true a (and_left a (b && e) w));
-      order = leb→le _ _ (and_left b e (and_right a (b && e) w));
-      inside = leb→le _ _ (and_right b e (and_right a (b && e) w));
-    }
-
-pub here : (f k : ℕ) → f < 7 → k < 10 → Placed (cuts 0 schemas) (names schemas) f k
-unfolding X.schemas X.stops_columns X.routes_columns X.calendar_columns X.trips_columns X.stop_times_columns X.calendar_dates_columns X.schema X.known_at X.name_of same
-here f k h g = is_placed (cuts 0 schemas) (names schemas) tt f k h g
+unfolding X.schemas X.stops_columns X.routes_columns X.calendar_columns X.trips_columns X.stop_times_columns X.calendar_dates_columns X.schema X.count_of
+count_le f = leb→le _ _ (get_d_all (λ (r : List Known). leb (length r) 10) [] tt schemas tt f)
 
 -- ---- which known column a value names
-
--- a turn along the known columns of a file
-module _ (f : ℕ) (v : List ℕ) (k r : ℕ) (inv : place (λ x. same v x.name) (k + 1) (drop k (schema f)) ≡ r) where
-  pub named_over : count_of f ≤ k → 0 ≡ r
-  unfolding place count_of
-  named_over h = rw (drop_of_length-le (schema f) {i = k} h) at inv
-
-  module _ (more : k < count_of f) where
-    split : drop k (schema f) ≡ known_at f k ∷ drop (k + 1) (schema f)
-    unfolding count_of known_at
-    split = rw (add-one k) (drop-cons (schema f) k unknown more)
-
-    pub named_here : same v (name_of f k) ≡ true → k + 1 ≡ r
-    unfolding place name_of
-    named_here e = rw (split, e) at inv
-
-    pub named_next : same v (name_of f k) ≡ false → place (λ x. same v x.name) (k + 1 + 1) (drop (k + 1) (schema f)) ≡ r
-    unfolding place name_of
-    named_next e = rw (split, e) at inv
 
 not-true : (b : Bool) → not b ≡ true → b ≡ false
 not-true true e = sym e
@@ -220,3 +119,42 @@ named_is f v k h = let z : k + 1 ≡ 1 + k = omega arith in rw z (place_is v (sc
 pub named_le : (f : ℕ) (v : List ℕ) → named_by f v ≤ count_of f
 unfolding named_by count_of
 named_le f v = omega (arith, place_to v 1 (schema f))
+
+-- the place of a value's name among the rows of the code
+place_told : (v : List ℕ) (i : ℕ) (l : List Told) → counted (position_from (λ (x : Told). same v x.0.now) i l) ≡ place (λ x. same v x.name) (i + 1) (map shown l)
+unfolding place
+place_told v i [] = refl
+place_told v i (x ∷ l) = go (same v x.0.now) (position_from (λ (x : Told). same v x.0.now) (i + 1) l) (place_told v (i + 1) l)
+  where
+    go : (t : Bool) (o : Option ℕ) {q : ℕ} → counted o ≡ q → counted (cond t (Some i) o) ≡ cond t (i + 1) q
+    go true o e = refl
+    go false o e = e
+
+few_named : (f : ℕ) (v : List ℕ) (r : Option ℕ) → counted r ≡ named_by f v → IfSome r (λ k. k < 10)
+few_named f v None e = tt
+few_named f v (Some k) e = omega (arith, e, named_le f v, count_le f)
+
+module _ (its : List Told) (f : ℕ) (told : map shown its ≡ schema f) (v : List ℕ) where
+  abbrev first : ℕ
+  first = position_or_len (λ (x : Told). same v x.0.now) its
+
+  pub named_told : (r : Option ℕ) → r ≡ cond (ltb first (length its)) (Some first) None → (counted r ≡ named_by f v) × IfSome r (λ k. k < 10)
+  unfolding named_by
+  named_told r e =
+      let p : counted r ≡ named_by f v = rw (← told) (ap counted (e ∙ position_from-zero (λ (x : Told). same v x.0.now) its) ∙ place_told v 0 its) in
+      (p, few_named f v r p)
+
+-- ---- an array made by calls
+
+-- calls at each number below w, none of which changes the callee, give what each call gives
+pub made_by : {F B : Type 0} {g : Mut F (ℕ × Unit {0}) B} {f : F} (ys : List B) (h : ℕ → B) (d : B) (w : ℕ)
+    → ((i : ℕ) (y : B) (q : F) → i < w → Called g f (i, tt) y q → (q ≡ f) × (y ≡ h i))
+    → (n i : ℕ) → i + n ≡ w → IsFromFnResultFrom g f ys i n → (j : ℕ) → i ≤ j → j < w → get_or ys j d ≡ h j
+made_by ys h d w gives zero i e k j a b = absurd (omega arith)
+made_by {F} {B} {g} {f} ys h d w gives (suc n) i e k j a b =
+    let r : (k.0 ≡ f) × (k.1 ≡ h i) = gives i k.1 k.0 (omega arith) k.3 in
+    go (ℕ_discrete j i) r (λ z. made_by ys h d w gives n (i + 1) (omega arith) (subst (λ (q : F). IsFromFnResultFrom g q ys (i + 1) n) r.0 k.4) j (omega arith) b)
+  where
+    go : Dec (j ≡ i) → (k.0 ≡ f) × (k.1 ≡ h i) → ((j ≡ i → ⊥) → get_or ys j d ≡ h j) → get_or ys j d ≡ h j
+    go (yes z) r later = rw z (k.2.1 d ∙ r.1)
+    go (no z) r later = later z

@@ -1,103 +1,198 @@
 #![tactic(auto)]
 // The known columns of each file, as data.
-ghost use Rattle.std.specs.Prelude.{◌≡◌, ◌<◌, ◌≤◌};
+ghost use Rattle.std.specs.Prelude.{◌≡◌, ◌<◌, ◌≤◌, map, IfSome};
 ghost use Rattle.meaning.specs.Bytes.{value};
-ghost use Rattle.meaning.specs.Columns.{column_of, count_of};
+ghost use Rattle.meaning.specs.Columns.{schema, column_of, count_of};
 ghost use Rattle.schema.specs.AllKnown.{AllKnown};
-ghost use Rattle.schema.specs.Named.{named_by};
+ghost use Rattle.schema.specs.Named.{counted, named_by};
+ghost use Rattle.schema.specs.Shown.{shown};
 
-use meaning::Column;
+use meaning::{Column, Form, Need};
 
-// For each file and known column: must be present, on which lines it needs a value, is an id, form.
-const MUST: [[bool; 10]; 7] = [
-    [
-        false, false, false, false, false, false, false, false, false, false,
-    ],
-    [
-        true, true, true, true, false, false, false, false, false, false,
-    ],
-    [
-        true, true, false, false, false, false, false, false, false, false,
-    ],
-    [true, true, true, true, true, true, true, true, true, true],
-    [
-        true, true, true, false, false, false, false, false, false, false,
-    ],
-    [
-        true, true, true, true, true, false, false, false, false, false,
-    ],
-    [
-        true, true, true, false, false, false, false, false, false, false,
-    ],
+// A known column: its name, and what it asks.
+type Known = (&'static [u8], Column);
+
+// Must be present, with a value on each line.
+const NEEDED: Column = Column {
+    must: true,
+    need: Need::Always,
+    ident: false,
+    form: Form::Text,
+};
+
+// Must be present, and its value may be empty.
+const PRESENT: Column = Column {
+    need: Need::Never,
+    ..NEEDED
+};
+
+// Known, may be absent.
+const OPTIONAL: Column = Column {
+    must: false,
+    ..PRESENT
+};
+
+// The same for an id.
+const NEEDED_ID: Column = Column {
+    ident: true,
+    ..NEEDED
+};
+
+const OPTIONAL_ID: Column = Column {
+    ident: true,
+    ..OPTIONAL
+};
+
+// .. of these forms and needs.
+const ALL_BUT_INNER: Column = Column {
+    need: Need::AllButInner,
+    ..NEEDED
+};
+
+const ALL_BUT_PLACELESS_LATITUDE: Column = Column {
+    need: Need::AllButPlaceless,
+    form: Form::Latitude,
+    ..NEEDED
+};
+
+const ALL_BUT_PLACELESS_LONGITUDE: Column = Column {
+    need: Need::AllButPlaceless,
+    form: Form::Longitude,
+    ..NEEDED
+};
+
+const OPTIONAL_UP_TO_4: Column = Column {
+    form: Form::Choice(4),
+    ..OPTIONAL
+};
+
+const NEEDED_ROUTE_TYPE: Column = Column {
+    form: Form::RouteType,
+    ..NEEDED
+};
+
+const NEEDED_UP_TO_1: Column = Column {
+    form: Form::Choice(1),
+    ..NEEDED
+};
+
+const NEEDED_DATE: Column = Column {
+    form: Form::Date,
+    ..NEEDED
+};
+
+const OPTIONAL_ID_UP_TO_1: Column = Column {
+    form: Form::Choice(1),
+    ..OPTIONAL_ID
+};
+
+const OPTIONAL_UP_TO_2: Column = Column {
+    form: Form::Choice(2),
+    ..OPTIONAL
+};
+
+const PRESENT_TIME: Column = Column {
+    form: Form::Time,
+    ..PRESENT
+};
+
+const NEEDED_SEQUENCE: Column = Column {
+    form: Form::Sequence,
+    ..NEEDED
+};
+
+const OPTIONAL_UP_TO_3: Column = Column {
+    form: Form::Choice(3),
+    ..OPTIONAL
+};
+
+const OPTIONAL_UP_TO_1: Column = Column {
+    form: Form::Choice(1),
+    ..OPTIONAL
+};
+
+const NEEDED_EXCEPTION_TYPE: Column = Column {
+    form: Form::ExceptionType,
+    ..NEEDED
+};
+
+static STOPS: [Known; 6] = [
+    (b"stop_id", NEEDED_ID), // the file's own id
+    (b"stop_name", ALL_BUT_INNER),
+    (b"stop_lat", ALL_BUT_PLACELESS_LATITUDE),
+    (b"stop_lon", ALL_BUT_PLACELESS_LONGITUDE),
+    (b"location_type", OPTIONAL_UP_TO_4),
+    (b"parent_station", OPTIONAL_ID),
 ];
 
-// By number: never, unless the line is of type 3 or 4, unless such a line has no coordinate, always.
-const NEED: [[u8; 10]; 7] = [
-    [0, 0, 0, 0, 0, 0, 0, 0, 0, 0],
-    [3, 1, 2, 2, 0, 0, 0, 0, 0, 0],
-    [3, 3, 0, 0, 0, 0, 0, 0, 0, 0],
-    [3, 3, 3, 3, 3, 3, 3, 3, 3, 3],
-    [3, 3, 3, 0, 0, 0, 0, 0, 0, 0],
-    [3, 0, 0, 3, 3, 0, 0, 0, 0, 0],
-    [3, 3, 3, 0, 0, 0, 0, 0, 0, 0],
+static ROUTES: [Known; 4] = [
+    (b"route_id", NEEDED_ID), // the file's own id
+    (b"route_type", NEEDED_ROUTE_TYPE),
+    (b"route_short_name", OPTIONAL),
+    (b"route_long_name", OPTIONAL),
 ];
 
-const IDENT: [[bool; 10]; 7] = [
-    [
-        false, false, false, false, false, false, false, false, false, false,
-    ],
-    [
-        true, false, false, false, false, true, false, false, false, false,
-    ],
-    [
-        true, false, false, false, false, false, false, false, false, false,
-    ],
-    [
-        true, false, false, false, false, false, false, false, false, false,
-    ],
-    [
-        true, true, true, true, false, false, false, false, false, false,
-    ],
-    [
-        true, false, false, true, false, false, false, false, false, false,
-    ],
-    [
-        true, false, false, false, false, false, false, false, false, false,
-    ],
+static CALENDAR: [Known; 10] = [
+    (b"service_id", NEEDED_ID), // the file's own id
+    (b"monday", NEEDED_UP_TO_1),
+    (b"tuesday", NEEDED_UP_TO_1),
+    (b"wednesday", NEEDED_UP_TO_1),
+    (b"thursday", NEEDED_UP_TO_1),
+    (b"friday", NEEDED_UP_TO_1),
+    (b"saturday", NEEDED_UP_TO_1),
+    (b"sunday", NEEDED_UP_TO_1),
+    (b"start_date", NEEDED_DATE),
+    (b"end_date", NEEDED_DATE),
 ];
 
-const FORM: [[u8; 10]; 7] = [
-    [0, 0, 0, 0, 0, 0, 0, 0, 0, 0],
-    [0, 0, 3, 4, 11, 0, 0, 0, 0, 0],
-    [0, 9, 0, 0, 0, 0, 0, 0, 0, 0],
-    [0, 6, 6, 6, 6, 6, 6, 6, 2, 2],
-    [0, 0, 0, 6, 7, 7, 0, 0, 0, 0],
-    [0, 1, 1, 0, 5, 8, 8, 6, 0, 0],
-    [0, 2, 10, 0, 0, 0, 0, 0, 0, 0],
+static TRIPS: [Known; 6] = [
+    (b"route_id", NEEDED_ID),
+    (b"service_id", NEEDED_ID),
+    (b"trip_id", NEEDED_ID), // the file's own id
+    (b"direction_id", OPTIONAL_ID_UP_TO_1),
+    (b"wheelchair_accessible", OPTIONAL_UP_TO_2),
+    (b"bikes_allowed", OPTIONAL_UP_TO_2),
 ];
 
-const COUNTS: [usize; 7] = [0, 6, 4, 10, 6, 8, 3];
-
-// All names, one after the other, and where each file's stand: each from its number to the next.
-const NAMES: [u8; 371] =
-    *b"stop_idstop_namestop_latstop_lonlocation_typeparent_stationroute_idroute_typeroute_short_nameroute_long_nameservice_idmondaytuesdaywednesdaythursdayfridaysaturdaysundaystart_dateend_dateroute_idservice_idtrip_iddirection_idwheelchair_accessiblebikes_allowedtrip_idarrival_timedeparture_timestop_idstop_sequencepickup_typedrop_off_typetimepointservice_iddateexception_type";
-
-const CUTS: [[usize; 11]; 7] = [
-    [0, 0, 0, 0, 0, 0, 0, 0, 0, 0, 0],
-    [0, 7, 16, 24, 32, 45, 59, 59, 59, 59, 59],
-    [59, 67, 77, 93, 108, 108, 108, 108, 108, 108, 108],
-    [108, 118, 124, 131, 140, 148, 154, 162, 168, 178, 186],
-    [186, 194, 204, 211, 223, 244, 257, 257, 257, 257, 257],
-    [257, 264, 276, 290, 297, 310, 321, 334, 343, 343, 343],
-    [343, 353, 357, 371, 371, 371, 371, 371, 371, 371, 371],
+static STOP_TIMES: [Known; 8] = [
+    (b"trip_id", NEEDED_ID),
+    (b"arrival_time", PRESENT_TIME),
+    (b"departure_time", PRESENT_TIME),
+    (b"stop_id", NEEDED_ID),
+    (b"stop_sequence", NEEDED_SEQUENCE),
+    (b"pickup_type", OPTIONAL_UP_TO_3),
+    (b"drop_off_type", OPTIONAL_UP_TO_3),
+    (b"timepoint", OPTIONAL_UP_TO_1),
 ];
+
+static CALENDAR_DATES: [Known; 3] = [
+    (b"service_id", NEEDED_ID),
+    (b"date", NEEDED_DATE),
+    (b"exception_type", NEEDED_EXCEPTION_TYPE),
+];
+
+// The known columns of file f.
+fn columns_of(f: usize) -> &'static [Known]
+    requires { f < 7 }
+    ensures { map shown result.now ≡ schema f }
+{
+    match f {
+        1 => &STOPS,
+        2 => &ROUTES,
+        3 => &CALENDAR,
+        4 => &TRIPS,
+        5 => &STOP_TIMES,
+        6 => &CALENDAR_DATES,
+        _ => &[],
+    }
+}
 
 // How many known columns a file has.
 pub fn count(f: usize) -> usize
     requires { f < 7 }
     ensures { (result ≡ count_of f) × (result ≤ 10) }
 {
-    COUNTS[f]
+    columns_of(f).len()
 }
 
 // What known column k of file f asks.
@@ -105,49 +200,26 @@ pub fn known(f: usize, k: usize) -> Column
     requires { (f < 7) × (k < 10) }
     ensures { result ≡ column_of f k }
 {
-    let must = MUST[f][k];
-    let need = NEED[f][k];
-    let ident = IDENT[f][k];
-    let form = FORM[f][k];
-    Column {
-        must,
-        need,
-        ident,
-        form,
+    match columns_of(f).get(k) {
+        Some((_, column)) => *column,
+        None => OPTIONAL,
     }
 }
 
-// What the known columns of file f ask. Made once a file: a constant's array is written anew wherever it is named.
+// What the known columns of file f ask.
 pub fn all_known(f: usize) -> [Column; 10]
     requires { f < 7 }
     ensures { AllKnown f result }
 {
-    let mut all = [known(f, 9); 10];
-    let mut k = 0;
-    while k < 10 {
-        all[k] = known(f, k);
-        k += 1;
-    }
-    all
+    std::array::from_fn(|k| known(f, k))
 }
 
-// Which known column of file f the value of a raw field names, counted from 1; 0 where it names none.
-pub fn named(f: usize, raw: &[u8]) -> usize
+// Which known column of file f the value of a raw field names, counted from 0.
+pub fn named(f: usize, raw: &[u8]) -> Option<usize>
     requires { f < 7 }
-    ensures { (result ≡ named_by f (value raw.now)) × (result ≤ 10) }
+    ensures { (counted result ≡ named_by f (value raw.now)) × IfSome result (λ k. k < 10) }
 {
-    // Made once a field: a constant's array is written anew wherever it is named.
-    let names = NAMES;
-    let cuts = CUTS[f];
-    let m = count(f);
-    let mut k = 0;
-    while k < m {
-        let a = cuts[k];
-        let e = cuts[k + 1];
-        if text::is_name(raw, &names[a..e]) {
-            return k + 1;
-        }
-        k += 1;
-    }
-    0
+    columns_of(f)
+        .iter()
+        .position(|(name, _)| text::is_name(raw, name))
 }

@@ -13,8 +13,9 @@ use Rattle.meaning.specs.Lists.{same}
 use Rattle.meaning.specs.Bytes.{part, value}
 use Rattle.meaning.proofs.ListLaws.{both, same_equal, same_self}
 use Rattle.rows.specs.Cells.{nat_at, bounds_at}
-use Rattle.ranking.specs.declared.Order.{Order}
-use Rattle.ranking.specs.declared.Order.TheVariants.{Less, Equal, Greater}
+use Rattle.std.specs.Ordering.{is_lt}
+use Rattle.std.specs.declared.cmp.Ordering.{Ordering}
+use Rattle.std.specs.declared.cmp.Ordering.TheVariants.{Less, Equal, Greater}
 use Rattle.ranking.specs.Ranks.{before, compare, ranked, settle}
 use Rattle.ranking.proofs.Laws.{compare_ranked, compare_equal, less_before, before_trans, before_irreflexive}
 use Rattle.ordering.specs.Cells.{cell, Kept}
@@ -27,23 +28,18 @@ use Rattle.seeking.specs.Seek.{Lower}
 
 -- ---- what a comparison tells
 
-abbrev first : Order → Bool
-first Less = true
-first Equal = false
-first Greater = false
-
-pub before_is : (a b : List ℕ) (o : Order) → o ≡ compare a b → first o ≡ before a b
+pub before_is : (a b : List ℕ) (o : Ordering) → o ≡ compare a b → is_lt o ≡ before a b
 unfolding ranked
 before_is a b o e = rw (e, compare_ranked a b) (go (before a b) (same a b))
   where
-    go : (p q : Bool) → first (ranked p q) ≡ p
+    go : (p q : Bool) → is_lt (ranked p q) ≡ p
     go true q = refl
     go false true = refl
     go false false = refl
 
-pub before_cell : (s : List ℕ) (t : List ℤ) (w i r : ℕ) (raw a : List ℕ) (o : Order)
+pub before_cell : (s : List ℕ) (t : List ℤ) (w i r : ℕ) (raw a : List ℕ) (o : Ordering)
     → r ≡ cell t w i → a ≡ part s (bounds_at t (r * w)) → o ≡ compare (value a) (value raw)
-    → first o ≡ before (id_of s t w (cell t w i)) (value raw)
+    → is_lt o ≡ before (id_of s t w (cell t w i)) (value raw)
 unfolding id_of
 before_cell s t w i r raw a o e p q = before_is (value (part s (bounds_at t (cell t w i * w)))) (value raw) o (q ∙ rw (p, e))
 
@@ -75,7 +71,7 @@ pub earlier : (id : ℕ → List ℕ) (x y : ℕ) (v : List ℕ) → no_later id
 unfolding no_later settle
 earlier id x y v h b = go (compare (id x) (id y)) refl h
   where
-    go : (o : Order) → compare (id x) (id y) ≡ o → settle o (leb x y) ≡ true → before (id x) v ≡ true
+    go : (o : Ordering) → compare (id x) (id y) ≡ o → settle o (leb x y) ≡ true → before (id x) v ≡ true
     go Less e g = before_trans (id x) (id y) v (less_before (id x) (id y) e) b
     go Equal e g = rw (compare_equal (id x) (id y) e) b
     go Greater e g = both false g refl
@@ -85,7 +81,7 @@ pub tied : (id : ℕ → List ℕ) (x y : ℕ) → no_later id x y ≡ true → 
 unfolding no_later settle
 tied id x y h b = go (compare (id x) (id y)) refl h
   where
-    go : (o : Order) → compare (id x) (id y) ≡ o → settle o (leb x y) ≡ true → (id x ≡ id y) × (x ≤ y)
+    go : (o : Ordering) → compare (id x) (id y) ≡ o → settle o (leb x y) ≡ true → (id x ≡ id y) × (x ≤ y)
     go Less e g = both (before (id x) (id y)) (less_before (id x) (id y) e) b
     go Equal e g = (compare_equal (id x) (id y) e, leb-true x y g)
     go Greater e g = both false g refl

@@ -9,7 +9,6 @@ ghost use Rattle.seeking.specs.First.{First, id_is};
 ghost use Rattle.seeking.specs.Seek.{Lower};
 
 use ordering::By;
-use ranking::Order;
 
 // The number of a record in which its file's order by id has a cell.
 pub const CELL: usize = 2;
@@ -28,11 +27,7 @@ fn is_before(s: &[u8], t: &[i32], w: usize, i: usize, raw: &[u8]) -> bool
     requires { Room w i t.now }
     ensures { result ≡ before (id_of s.now t.now w (cell t.now w i)) (value raw.now) }
 {
-    match ranking::compare_values(ordering::raw_id(s, t, w, ordering::get(t, w, CELL, i)), raw) {
-        Order::Less => true,
-        Order::Equal => false,
-        Order::Greater => false,
-    }
+    ranking::compare_values(ordering::raw_id(s, t, w, ordering::get(t, w, CELL, i)), raw).is_lt()
 }
 
 // The first cell whose id doesn't come before the value of a raw field; n + 1 where there is none.
@@ -41,6 +36,7 @@ fn lower(s: &[u8], t: &[i32], w: usize, n: usize, raw: &[u8]) -> usize
     requires sorted { Sorted (no_later (id_of s.now t.now w)) (cell t.now w) n }
     ensures { Lower (id_of s.now t.now w) (cell t.now w) n (value raw.now) result }
 {
+    // by hand: cells are numbers of the records, so there is no slice for the library's partition_point
     let mut lo = 1;
     let mut hi = n + 1;
     while lo < hi {

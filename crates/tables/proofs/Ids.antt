@@ -1,4 +1,5 @@
 -- A table that was laid for a file holds its ids, and its numbers are those of the records.
+use Rattle.std.specs.Prelude.{Option, Some, None}
 use mathlib.Core.Path.{◌≡◌, refl, sym, ap, ◌∙◌}
 use mathlib.Core.List.{List, [], map}
 use Prim.Native.Nat.{ℕ, zero, suc, ◌+◌, ◌*◌, ◌-◌, ◌≤◌, ◌<◌}
@@ -11,8 +12,7 @@ use Rattle.meaning.specs.Lists.{flat, laid}
 use Rattle.meaning.specs.Bytes.{Line, bounds, part, value, count_lf, lines_from, lines_of, start_of}
 use Rattle.meaning.specs.Columns.{Row, places, header_of, field_at, cell, row_of, rows_of}
 use Rattle.meaning.specs.Tables.{under, width_of, id_column}
-use Rattle.text.specs.declared.LineStep.{LineStep}
-use Rattle.text.specs.declared.LineStep.TheVariants.{Line as LineAt, Done}
+use Rattle.meaning.specs.declared.Bounds.{Bounds}
 use Rattle.text.specs.Lines.{LineStands, line_at}
 use Rattle.text.proofs.Laws.{part_length, part_part}
 use Rattle.text.proofs.Lines.{lines_all, line_found, line_none}
@@ -43,17 +43,17 @@ none_in {s} {x} at j e h = let z : length (lines_from s at) ≡ 0 = rw e in absu
 pub lines_in_lem : (s : List ℕ) (at j : ℕ) (d : Line) → j < length (lines_from s at) → LineIn s (get_or (lines_from s at) j d)
 lines_in_lem s at zero d h = go (line_at s at) refl
   where
-    go : (k : LineStep) → line_at s at ≡ k → LineIn s (get_or (lines_from s at) zero d)
-    go (LineAt a e n) p = let q = line_found s at a e n p in rw q.lines (line_in s at a e n q)
-    go Done p = none_in at zero (line_none s at p) h
+    go : (k : Option (Bounds × ℕ)) → line_at s at ≡ k → LineIn s (get_or (lines_from s at) zero d)
+    go (Some (b, n)) p = let q = line_found s at b.start b.end n p in rw q.lines (line_in s at b.start b.end n q)
+    go None p = none_in at zero (line_none s at p) h
 lines_in_lem s at (suc j) d h = go (line_at s at) refl (λ n q. lines_in_lem s n j d q)
   where
-    go : (k : LineStep) → line_at s at ≡ k → ((n : ℕ) → j < length (lines_from s n) → LineIn s (get_or (lines_from s n) j d)) → LineIn s (get_or (lines_from s at) (suc j) d)
-    go (LineAt a e n) p ih =
-        let q = line_found s at a e n p in
+    go : (k : Option (Bounds × ℕ)) → line_at s at ≡ k → ((n : ℕ) → j < length (lines_from s n) → LineIn s (get_or (lines_from s n) j d)) → LineIn s (get_or (lines_from s at) (suc j) d)
+    go (Some (b, n)) p ih =
+        let q = line_found s at b.start b.end n p in
         let m : length (lines_from s at) ≡ suc (length (lines_from s n)) = rw q.lines in
         rw q.lines (ih n (omega arith))
-    go Done p ih = none_in at (suc j) (line_none s at p) h
+    go None p ih = none_in at (suc j) (line_none s at p) h
 
 -- a field of a line, found by its place in the file
 pub place_value :

@@ -14,8 +14,7 @@ ghost use Rattle.columns.specs.Heading.{Heading};
 ghost use Rattle.tables.specs.Fill.{Room, Fits, Covers, CoversAll};
 ghost use Rattle.tables.specs.Walk.{written_all, written, Ordered, OrderedIf, IndexedIf, ListsIf, Settled};
 
-use rows::{Calendar, Dates, Routes, Stops, Trips};
-use text::LineStep;
+use rows::{Calendar, Dates, Routes, Stops, Table, Trips};
 
 mod placing; // placing.rt: the first walk along files 1 to 4 and 6, and the order of their ids
 mod parents; // parents.rt: the parents of stops, once every stop's id is in the table
@@ -51,33 +50,27 @@ fn fill_lines(
 {
     let mut here = at;
     let mut r = 1;
-    loop {
-        match text::next_line(s, here) {
-            LineStep::Line { start, end, next } => {
-                records::put_record(
-                    f,
-                    &s[start..end],
-                    start,
-                    known,
-                    t,
-                    r,
-                    a,
-                    a_table,
-                    a_count,
-                    a_memo,
-                    b,
-                    b_table,
-                    b_count,
-                    b_memo,
-                );
-                here = next;
-                r += 1;
-            }
-            LineStep::Done => {
-                return r - 1;
-            }
-        }
+    while let Some((line, next)) = text::next_line(s, here) {
+        records::put_record(
+            f,
+            &s[line.start..line.end],
+            line.start,
+            known,
+            t,
+            r,
+            a,
+            a_table,
+            a_count,
+            a_memo,
+            b,
+            b_table,
+            b_count,
+            b_memo,
+        );
+        here = next;
+        r += 1;
     }
+    r - 1
 }
 
 // The records of a file as the second walk writes them, record 0 first; references go to those of files a and b. How many there are.

@@ -19,8 +19,8 @@ fn waiting_parent(s: &[u8], t: &[i32], n: usize, row: StopRow, memo: &mut [u32])
     ensures result_le_n { result.0 ≤ n }
     ensures ready { Ready s.now t.now 7 n memo.new }
 {
-    let p = Stops::waiting_at(t, row);
-    resolve::find_stop(s, t, n, ordering::part_of(s, p.start, p.end), memo)
+    let p = row.waiting_at(t);
+    resolve::find::<Stops>(s, t, n, ordering::part_of(s, p.start, p.end), memo)
 }
 
 // Each stop's parent, number 6 of its record till that is put, behind a memo.
@@ -29,11 +29,10 @@ fn settle_with(s: &[u8], n: usize, t: &mut [i32], memo: &mut [u32])
     ensures kept_at { KeptAt 6 7 n t.old t.new }
     ensures by_index { (ids : List (List ℕ)) → Lists s.now t.old 7 n ids → Named 7 s.now (n + 1) ids t.old t.new }
 {
-    let mut r = 1;
-    while r <= n {
-        let parent = waiting_parent(s, t, n, StopRow(r), memo);
-        Stops::settle(t, StopRow(r), parent);
-        r += 1;
+    for r in 1..n + 1 {
+        let row = StopRow::new(r);
+        let parent = waiting_parent(s, t, n, row, memo);
+        row.settle(t, parent);
     }
 }
 

@@ -21,8 +21,7 @@ ghost use Rattle.tables.specs.Walk.{date_key, placing, placed_of, Ordered, Order
 
 use columns::Cells;
 use ordering::By;
-use rows::{Calendar, Dates, Routes, Stops, Trips};
-use text::LineStep;
+use rows::{Calendar, Dates, Routes, Stops, Table, Trips};
 
 // Where in the schema the field stands that waits: a trip's service, a stop's parent.
 fn waiting_column(f: usize) -> usize
@@ -122,18 +121,12 @@ fn place_lines(
 {
     let mut here = at;
     let mut r = 1;
-    loop {
-        match text::next_line(s, here) {
-            LineStep::Line { start, end, next } => {
-                place_line(f, &s[start..end], start, known, t, r, m);
-                here = next;
-                r += 1;
-            }
-            LineStep::Done => {
-                return r - 1;
-            }
-        }
+    while let Some((line, next)) = text::next_line(s, here) {
+        place_line(f, &s[line.start..line.end], line.start, known, t, r, m);
+        here = next;
+        r += 1;
     }
+    r - 1
 }
 
 // Record 0, and what the first walk writes for each line; how many records there are.

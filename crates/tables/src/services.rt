@@ -10,7 +10,7 @@ ghost use Rattle.memo.specs.Memo.{Ready};
 ghost use Rattle.records.specs.Refers.{Lists};
 ghost use Rattle.tables.specs.Walk.{IndexedIf, ListsIf, Named};
 
-use rows::{DateRow, TripRow, Trips};
+use rows::{DateRow, Dates, TripRow};
 
 // The first of k exceptions of the service that the field waiting in a trip's record names; a is calendar_dates.txt.
 fn waiting_service(
@@ -27,8 +27,8 @@ fn waiting_service(
     ensures result_le_k { result.0 ≤ k }
     ensures ready { Ready a.now a_table.now 4 k memo.new }
 {
-    let p = Trips::waiting_at(t, row);
-    resolve::find_dated(a, a_table, k, ordering::part_of(s, p.start, p.end), memo)
+    let p = row.waiting_at(t);
+    resolve::find::<Dates>(a, a_table, k, ordering::part_of(s, p.start, p.end), memo)
 }
 
 // Number 7 of each trip's record, behind a memo.
@@ -46,11 +46,10 @@ fn settle_with(
     ensures kept_at { KeptAt 7 8 n t.old t.new }
     ensures by_index { (ids : List (List ℕ)) → Lists a.now a_table.now 4 k ids → Named 8 s.now (n + 1) ids t.old t.new }
 {
-    let mut r = 1;
-    while r <= n {
-        let dated = waiting_service(s, t, TripRow(r), a, a_table, k, memo);
-        Trips::settle(t, TripRow(r), dated);
-        r += 1;
+    for r in 1..n + 1 {
+        let row = TripRow::new(r);
+        let dated = waiting_service(s, t, row, a, a_table, k, memo);
+        row.settle(t, dated);
     }
 }
 

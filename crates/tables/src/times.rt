@@ -11,7 +11,7 @@ ghost use Rattle.records.specs.Refers.{Indexed, Refers};
 ghost use Rattle.tables.specs.Fill.{Room};
 ghost use Rattle.tables.specs.Walk.{written};
 
-use rows::{StopTimes, TimeRow};
+use rows::{StopTimes, Table, TimeRow};
 
 // Records 1 to n, which wait, in their last form.
 fn settle_times(t: &mut [i32], n: usize)
@@ -20,10 +20,8 @@ fn settle_times(t: &mut [i32], n: usize)
         → KeptAt 7 8 n (written 5 w s lent) t.old
         → t.new ≡ filled 5 w s lent }
 {
-    let mut r = 1;
-    while r <= n {
-        StopTimes::settle(t, TimeRow(r));
-        r += 1;
+    for r in 1..n + 1 {
+        StopTimes::settle(t, TimeRow::new(r));
     }
 }
 

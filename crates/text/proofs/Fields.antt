@@ -1,4 +1,6 @@
 -- Laws of fields: stray bytes, the quoting table, the count of fields, and a cursor's step along a line.
+use Rattle.std.specs.Prelude.{Some, None}
+use Rattle.std.proofs.lemmas.Option.{same_Some}
 use mathlib.Core.Path.{◌≡◌, refl, sym, ap}
 use mathlib.Core.Bool.{Bool, true, false, cond}
 use mathlib.Core.List.{List, [], ◌∷◌}
@@ -15,7 +17,6 @@ use Rattle.meaning.specs.Bytes.{bounds, part, start, class_of, quoting, next, fi
 use Rattle.meaning.specs.Columns.{field_at}
 use Rattle.meaning.specs.Refusals.{rule5}
 use Rattle.text.specs.declared.Cursor.{Cursor}
-use Rattle.text.specs.declared.Step.TheVariants.{Field, Done}
 use Rattle.text.specs.Fields.{field_count, field_len, field_state, step_at, fields_from, values_from, FieldStands, Inside}
 use Rattle.meaning.proofs.Computed.{all, get_d_all}
 use Rattle.text.proofs.Laws.{drop_next, drop_over}
@@ -138,30 +139,30 @@ unfolding values_from values
 values_start l = rw (from_start l)
 
 -- a cursor's step, in the order of the code
-pub step_over : (l : List ℕ) (at : ℕ) → length l < at → Done ≡ step_at l at
+pub step_over : (l : List ℕ) (at : ℕ) → length l < at → None ≡ step_at l at
 unfolding step_at
 step_over l at h = rw (lt-ltb (length l) at h)
 
 pub step_to : (l : List ℕ) (at e z : ℕ) → at ≤ length l → (e ≡ at + field_len start (drop at l)) × (z ≡ field_state start (drop at l))
-    → Field at e (record { at = e + 1; state = z }) ≡ step_at l at
+    → Some (bounds at e, record { at = e + 1; state = z }) ≡ step_at l at
 unfolding step_at
 step_to l at e z h p = rw (le-ltb (length l) at h, ← p.0, ← p.1)
 
 -- a step that finds a field, from any byte
-pub field_found : (l : List ℕ) (at a e : ℕ) (n : Cursor) → step_at l at ≡ Field a e n → FieldStands l at a e n.at
+pub field_found : (l : List ℕ) (at a e : ℕ) (n : Cursor) → step_at l at ≡ Some (bounds a e, n) → FieldStands l at a e n.at
 unfolding step_at
 field_found l at a e n p = go (ltb (length l) at) refl (at + field_len start (drop at l)) refl
   where
     go : (t : Bool) → ltb (length l) at ≡ t → (k : ℕ) → k ≡ at + field_len start (drop at l) → FieldStands l at a e n.at
-    go true t k q = let z : Done ≡ Field a e n = rw t at p in let w : ◌≡◌ {A = ℕ} 0 1 = cc in absurd (omega arith)
+    go true t k q = let z : None ≡ Some (bounds a e, n) = rw t at p in let w : ◌≡◌ {A = ℕ} 0 1 = cc in absurd (omega arith)
     go false t k q =
         let h : at ≤ length l = ltb-false (length l) at t in
         let s : ℕ = field_state start (drop at l) in
-        let z : Field at k (record { at = k + 1; state = s }) ≡ Field a e n = rw q (rw t at p) in
-        let x : at ≡ a = cc in
-        let y : k ≡ e = cc in
-        let c : ◌≡◌ {A = Cursor} (record { at = k + 1; state = s }) n = cc in
-        let m : k + 1 ≡ n.at = ap (λ (v : Cursor). v.at) c in
+        let z : Some (bounds at k, record { at = k + 1; state = s }) ≡ Some (bounds a e, n) = rw q (rw t at p) in
+        let v : ◌≡◌ {A = Bounds × Cursor} (bounds at k, record { at = k + 1; state = s }) (bounds a e, n) = same_Some _ _ z in
+        let x : at ≡ a = ap (λ (w : Bounds × Cursor). w.0.start) v in
+        let y : k ≡ e = ap (λ (w : Bounds × Cursor). w.0.end) v in
+        let m : k + 1 ≡ n.at = ap (λ (w : Bounds × Cursor). w.1.at) v in
         record {
           starts = sym x;
           ordered = omega arith;
@@ -172,7 +173,7 @@ field_found l at a e n p = go (ltb (length l) at) refl (at + field_len start (dr
         }
 
 -- and where the cursor has moved
-pub field_moved : (l : List ℕ) (at a e : ℕ) (n : Cursor) → step_at l at ≡ Field a e n
+pub field_moved : (l : List ℕ) (at a e : ℕ) (n : Cursor) → step_at l at ≡ Some (bounds a e, n)
     → n ≡ record { at = at + field_len start (drop at l) + 1; state = field_state start (drop at l) }
 unfolding step_at
 field_moved l at a e n p = go (ltb (length l) at) refl
@@ -181,24 +182,24 @@ field_moved l at a e n p = go (ltb (length l) at) refl
     m = record { at = at + field_len start (drop at l) + 1; state = field_state start (drop at l) }
 
     go : (t : Bool) → ltb (length l) at ≡ t → n ≡ m
-    go true t = let z : Done ≡ Field a e n = rw t at p in let w : ◌≡◌ {A = ℕ} 0 1 = cc in absurd (omega arith)
-    go false t = let z : Field at (at + field_len start (drop at l)) m ≡ Field a e n = rw t at p in cc
+    go true t = let z : None ≡ Some (bounds a e, n) = rw t at p in let w : ◌≡◌ {A = ℕ} 0 1 = cc in absurd (omega arith)
+    go false t = let z : Some (bounds at (at + field_len start (drop at l)), m) ≡ Some (bounds a e, n) = rw t at p in sym (ap (λ (w : Bounds × Cursor). w.1) (same_Some _ _ z))
 
 -- a step that finds none
-pub field_none : (l : List ℕ) (at : ℕ) → step_at l at ≡ Done → length l < at
+pub field_none : (l : List ℕ) (at : ℕ) → step_at l at ≡ None → length l < at
 unfolding step_at
 field_none l at p = go (ltb (length l) at) refl
   where
     go : (t : Bool) → ltb (length l) at ≡ t → length l < at
     go true t = ltb-true (length l) at t
     go false t =
-        let z : Field at (at + field_len start (drop at l)) (record { at = at + field_len start (drop at l) + 1; state = field_state start (drop at l) }) ≡ Done = rw t at p in
+        let z : Some (bounds at (at + field_len start (drop at l)), record { at = at + field_len start (drop at l) + 1; state = field_state start (drop at l) }) ≡ None = rw t at p in
         let w : ◌≡◌ {A = ℕ} 0 1 = cc in omega arith
 
-pub fields_none : (l : List ℕ) (at : ℕ) → step_at l at ≡ Done → fields_from l at ≡ []
+pub fields_none : (l : List ℕ) (at : ℕ) → step_at l at ≡ None → fields_from l at ≡ []
 fields_none l at p = from_over l at (field_none l at p)
 
-pub values_none : (l : List ℕ) (at : ℕ) → step_at l at ≡ Done → values_from l at ≡ []
+pub values_none : (l : List ℕ) (at : ℕ) → step_at l at ≡ None → values_from l at ≡ []
 values_none l at p = values_over l at (field_none l at p)
 
 -- every field of what is left lies within the line

@@ -1,5 +1,6 @@
 -- The laws that the proofs apply, and that the crates above cite.
 pub mod Laws
+pub mod Chains
 pub mod Lines
 pub mod Walk
 pub mod Fields

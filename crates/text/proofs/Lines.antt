@@ -1,4 +1,7 @@
 -- Laws of lines: the LF count, the mark at a file's start, and a step along a file.
+use Rattle.std.specs.Prelude.{Some, None}
+use Rattle.std.proofs.lemmas.Option.{same_Some}
+use Rattle.meaning.specs.declared.Bounds.{Bounds}
 use mathlib.Core.Path.{◌≡◌, refl, sym, ap, ◌∙◌}
 use mathlib.Core.Bool.{Bool, true, false, cond, ◌&&◌, ◌||◌}
 use mathlib.Core.List.{List, [], ◌∷◌, ◌++◌}
@@ -15,7 +18,6 @@ use Rattle.meaning.specs.Bytes.{bounds, leading_mark, start_of, count_lf, cuts, 
 use Rattle.meaning.specs.Refusals.{ended}
 use Rattle.meaning.proofs.ListLaws.{same_equal, both}
 use Rattle.meaning.proofs.Records.{cuts_count}
-use Rattle.text.specs.declared.LineStep.TheVariants.{Line, Done}
 use Rattle.text.specs.Lines.{to_first, is_lf, to_lf, line_to, line_at, LineStands}
 use Rattle.text.proofs.Laws.{drop_next, drop_over, same_no}
 
@@ -182,20 +184,20 @@ start_count s = go (same (take 3 s) leading_mark) refl
 
 -- the line from `at` with its LF at e, in the order of the code
 module _ (s : List ℕ) (at e : ℕ) where
-  pub to_none : length s ≤ e → Done ≡ line_to s at e
+  pub to_none : length s ≤ e → None ≡ line_to s at e
   unfolding line_to
   to_none h = rw (le-ltb e (length s) h)
 
   module _ (more : e < length s) where
-    pub to_cr : at < e → get_or s (e - 1) 0 ≡ 13 → Line at (e - 1) (e + 1) ≡ line_to s at e
+    pub to_cr : at < e → get_or s (e - 1) 0 ≡ 13 → Some (bounds at (e - 1), e + 1) ≡ line_to s at e
     unfolding line_to end_of
     to_cr h c = rw (lt-ltb e (length s) more, lt-ltb at e h, eq-eqb _ _ c)
 
-    pub to_lf_lem : at < e → (get_or s (e - 1) 0 ≡ 13 → ⊥) → Line at e (e + 1) ≡ line_to s at e
+    pub to_lf_lem : at < e → (get_or s (e - 1) 0 ≡ 13 → ⊥) → Some (bounds at e, e + 1) ≡ line_to s at e
     unfolding line_to end_of
     to_lf_lem h c = rw (lt-ltb e (length s) more, lt-ltb at e h, ne_eqb _ _ c)
 
-    pub to_empty : e ≤ at → Line at e (e + 1) ≡ line_to s at e
+    pub to_empty : e ≤ at → Some (bounds at e, e + 1) ≡ line_to s at e
     unfolding line_to end_of
     to_empty h = rw (lt-ltb e (length s) more, le-ltb at e h)
 
@@ -253,18 +255,19 @@ module _ (s : List ℕ) (at e : ℕ) (ends : e ≡ at + to_lf (drop at s)) where
       rw (ends, ← d, ← drop-drop (to_lf (drop at s) + 1) at s) (rw d (cuts_step at at (drop at s) z)) in
       rw q
 
-  to_found : (a x n : ℕ) → line_to s at e ≡ Line a x n → LineStands s at a x n
+  to_found : (a x n : ℕ) → line_to s at e ≡ Some (bounds a x, n) → LineStands s at a x n
   unfolding line_to line_of
   to_found a x n p = go (ltb e (length s)) refl
     where
       go : (t : Bool) → ltb e (length s) ≡ t → LineStands s at a x n
-      go false t = let z : Done ≡ Line a x n = rw t at p in let w : ◌≡◌ {A = ℕ} 0 1 = cc in absurd (omega arith)
+      go false t = let z : None ≡ Some (bounds a x, n) = rw t at p in let w : ◌≡◌ {A = ℕ} 0 1 = cc in absurd (omega arith)
       go true t =
           let h : e < length s = ltb-true e (length s) t in
-          let z : Line at (end_of s at e) (e + 1) ≡ Line a x n = rw t at p in
-          let i : at ≡ a = cc in
-          let j : end_of s at e ≡ x = cc in
-          let k : e + 1 ≡ n = cc in
+          let z : Some (bounds at (end_of s at e), e + 1) ≡ Some (bounds a x, n) = rw t at p in
+          let v : ◌≡◌ {A = Bounds × ℕ} (bounds at (end_of s at e), e + 1) (bounds a x, n) = same_Some _ _ z in
+          let i : at ≡ a = ap (λ (u : Bounds × ℕ). u.0.start) v in
+          let j : end_of s at e ≡ x = ap (λ (u : Bounds × ℕ). u.0.end) v in
+          let k : e + 1 ≡ n = ap (λ (u : Bounds × ℕ). u.1) v in
           let w = ending_within s at e (omega arith) in
           record {
             starts = sym i;
@@ -274,23 +277,23 @@ module _ (s : List ℕ) (at e : ℕ) (ends : e ≡ at + to_lf (drop at s)) where
             lines = rw (← i, ← j, ← k) (lines_some h);
           }
 
-  to_end : line_to s at e ≡ Done → lines_from s at ≡ []
+  to_end : line_to s at e ≡ None → lines_from s at ≡ []
   unfolding line_to
   to_end p = go (ltb e (length s)) refl
     where
       go : (t : Bool) → ltb e (length s) ≡ t → lines_from s at ≡ []
       go false t = lines_none (ltb-false e (length s) t)
       go true t =
-          let z : Line at (end_of s at e) (e + 1) ≡ Done = rw t at p in
+          let z : Some (bounds at (end_of s at e), e + 1) ≡ None = rw t at p in
           let w : ◌≡◌ {A = ℕ} 0 1 = cc in absurd (omega arith)
 
 -- a step that finds a line, from any byte
-pub line_found : (s : List ℕ) (at a e n : ℕ) → line_at s at ≡ Line a e n → LineStands s at a e n
+pub line_found : (s : List ℕ) (at a e n : ℕ) → line_at s at ≡ Some (bounds a e, n) → LineStands s at a e n
 unfolding line_at
 line_found s at a e n p = to_found s at (at + to_lf (drop at s)) refl a e n p
 
 -- a step that finds none
-pub line_none : (s : List ℕ) (at : ℕ) → line_at s at ≡ Done → lines_from s at ≡ []
+pub line_none : (s : List ℕ) (at : ℕ) → line_at s at ≡ None → lines_from s at ≡ []
 unfolding line_at
 line_none s at p = to_end s at (at + to_lf (drop at s)) refl p
 

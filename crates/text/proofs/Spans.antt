@@ -1,4 +1,5 @@
 -- Laws of a field's end: bytes that change no state are passed over, and a walk from field to field tells of the whole line.
+use Rattle.std.specs.Prelude.{Some, None}
 use mathlib.Core.Path.{◌≡◌, refl, sym, ap, ◌∙◌}
 use mathlib.Core.Bool.{Bool, true, false, cond}
 use mathlib.Core.List.{List, [], ◌∷◌}
@@ -16,7 +17,6 @@ use Rattle.meaning.specs.Bytes.{bounds, start, bare, closed, class_of, quoting, 
 use Rattle.text.specs.Lines.{to_first}
 use Rattle.text.specs.Fields.{is_mark, is_break, to_break, to_mark, asked, to_asked, field_len, field_state, up_to33, step_at, fields_from, past_ends, FieldStands}
 use Rattle.text.specs.declared.Cursor.{Cursor}
-use Rattle.text.specs.declared.Step.TheVariants.{Field}
 use Rattle.meaning.proofs.ListLaws.{both}
 use Rattle.text.proofs.Laws.{drop_next, drop_over}
 use Rattle.text.proofs.Fields.{next_lt, from_start, from_step, from_over, field_found, field_moved}
@@ -229,7 +229,7 @@ module _ (l : List ℕ) (c : Cursor) where
   told_first h = (omega (arith, h.1), λ _. h.1, rw (h.0, h.1))
 
   module _ (h : Told l c) where
-    pub told_next : (a e : ℕ) (n : Cursor) → step_at l c.at ≡ Field a e n → Told l n
+    pub told_next : (a e : ℕ) (n : Cursor) → step_at l c.at ≡ Some (bounds a e, n) → Told l n
     told_next a e n p =
         let s = field_found l c.at a e n p in
         let m : n ≡ record { at = c.at + field_len start (drop c.at l) + 1; state = field_state start (drop c.at l) } = field_moved l c.at a e n p in

@@ -1,10 +1,9 @@
 -- A step along the fields of a line.
-use Rattle.std.specs.Prelude.{ℕ, ◌+◌, ◌≤◌, ◌≡◌, List, [], ◌∷◌, Bool, true, cond, ◌||◌, length, set, take, drop, ltb, eqb}
+use Rattle.std.specs.Prelude.{ℕ, ◌+◌, ◌≤◌, ◌≡◌, Option, Some, None, List, [], ◌∷◌, Bool, true, cond, ◌||◌, length, set, take, drop, ltb, eqb}
 use Rattle.meaning.specs.declared.Bounds.{Bounds}
 use Rattle.meaning.specs.Bytes.{bounds, part, start, bare, closed, next, fields_go, value, values_of}
 use Rattle.text.specs.Lines.{to_first}
-use Rattle.text.specs.declared.Step.{Step}
-use Rattle.text.specs.declared.Step.TheVariants.{Field, Done}
+use Rattle.text.specs.declared.Cursor.{Cursor}
 
 -- how many fields a line has from a state on
 unfoldable pub field_count : ℕ → List ℕ → ℕ
@@ -65,11 +64,12 @@ field_run q (b ∷ r) = let k = field_run (next q b) r + 1 in cond (ends_line b)
 unfoldable pub field_on : List ℕ → ℕ → List ℕ
 field_on s at = take (field_run start (drop at s)) (drop at s)
 
--- the step of a cursor that has come to `at`, where a field begins: none past the line's end. The moved cursor has the state in which the field ended.
-unfoldable pub step_at : List ℕ → ℕ → Step
+-- the step of a cursor that has come to `at`, where a field begins: where the field lies, and the moved cursor, which has the state in which the field
+-- ended; none past the line's end
+unfoldable pub step_at : List ℕ → ℕ → Option (Bounds × Cursor)
 step_at l at =
     let e = at + field_len start (drop at l) in
-    cond (ltb (length l) at) Done (Field at e (record { at = e + 1; state = field_state start (drop at l) }))
+    cond (ltb (length l) at) None (Some (bounds at e, record { at = e + 1; state = field_state start (drop at l) }))
 
 -- the fields from byte `at`, where one begins: none past the line's end
 unfoldable pub fields_from : List ℕ → ℕ → List Bounds

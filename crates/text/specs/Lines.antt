@@ -1,8 +1,7 @@
 -- A step along the lines of a file.
-use Rattle.std.specs.Prelude.{ℕ, ◌+◌, ◌≤◌, ◌<◌, ◌≡◌, List, [], ◌∷◌, Bool, cond, length, drop, ltb, eqb}
+use Rattle.std.specs.Prelude.{ℕ, ◌+◌, ◌≤◌, ◌<◌, ◌≡◌, Option, Some, None, List, [], ◌∷◌, Bool, cond, length, drop, ltb, eqb}
 use Rattle.meaning.specs.Bytes.{bounds, part, end_of, lines_from}
-use Rattle.text.specs.declared.LineStep.{LineStep}
-use Rattle.text.specs.declared.LineStep.TheVariants.{Line, Done}
+use Rattle.meaning.specs.declared.Bounds.{Bounds}
 
 -- is a byte LF
 abbrev pub is_lf : ℕ → Bool
@@ -17,12 +16,12 @@ to_first P (b ∷ r) = let k = to_first P r + 1 in cond (P b) 0 k
 abbrev pub to_lf : List ℕ → ℕ
 to_lf r = to_first is_lf r
 
--- the step where a line begins at `at` and the next LF, if there is one, stands at e
-unfoldable pub line_to : List ℕ → ℕ → ℕ → LineStep
-line_to s at e = cond (ltb e (length s)) (Line at (end_of s at e) (e + 1)) Done
+-- where the line lies that begins at `at` and whose LF, if there is one, stands at e, and where the next one starts
+unfoldable pub line_to : List ℕ → ℕ → ℕ → Option (Bounds × ℕ)
+line_to s at e = cond (ltb e (length s)) (Some (bounds at (end_of s at e), e + 1)) None
 
--- the step where a line begins at `at`
-unfoldable pub line_at : List ℕ → ℕ → LineStep
+-- the same of the line that begins at `at`
+unfoldable pub line_at : List ℕ → ℕ → Option (Bounds × ℕ)
 line_at s at = line_to s at (at + to_lf (drop at s))
 
 -- what a step from `at` to a line tells: it is the first of the lines from there, the others are those from n, and all lies within the file

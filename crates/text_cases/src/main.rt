@@ -4,7 +4,7 @@
 ghost use Rattle.std.specs.Prelude.{◌+◌, ◌≤◌, length};
 
 use std::io;
-use text::{Cursor, LineStep, Step};
+use text::Cursor;
 
 // Writes bytes.
 fn say(rt: &impl Print, word: &[u8]) -> io::Result<()> {
@@ -60,17 +60,11 @@ fn told(rt: &impl Print, l: &[u8]) -> io::Result<()> {
 // Writes the fields of a line.
 fn fields(rt: &impl Print, l: &[u8]) -> io::Result<()> {
     let mut c = Cursor::new();
-    loop {
-        match c.next(l) {
-            Step::Field { start, end, next } => {
-                field(rt, start, end, &l[start..end])?;
-                c = next;
-            }
-            Step::Done => {
-                return Ok(());
-            }
-        }
+    while let Some((bounds, next)) = c.next(l) {
+        field(rt, bounds.start, bounds.end, &l[bounds.start..bounds.end])?;
+        c = next;
     }
+    Ok(())
 }
 
 // Writes a line: its bounds and the next one's start, what is asked of it, and its fields.
@@ -95,17 +89,17 @@ fn whole(rt: &impl Print, s: &[u8]) -> io::Result<()> {
 fn file(rt: &impl Print, s: &[u8]) -> io::Result<()> {
     whole(rt, s)?;
     let mut at = text::body_start(s);
-    loop {
-        match text::next_line(s, at) {
-            LineStep::Line { start, end, next } => {
-                line(rt, start, end, next, &s[start..end])?;
-                at = next;
-            }
-            LineStep::Done => {
-                return Ok(());
-            }
-        }
+    while let Some((bounds, next)) = text::next_line(s, at) {
+        line(
+            rt,
+            bounds.start,
+            bounds.end,
+            next,
+            &s[bounds.start..bounds.end],
+        )?;
+        at = next;
     }
+    Ok(())
 }
 
 // Writes two raw fields.
@@ -238,11 +232,7 @@ fn starts(rt: &impl Print) -> io::Result<()> {
 fn put(s: &mut [u8], at: usize, word: &[u8])
     requires { at + length word.now ≤ length s.old }
 {
-    let mut i = 0;
-    while i < word.len() {
-        s[at + i] = word[i];
-        i += 1;
-    }
+    s[at..at + word.len()].copy_from_slice(word);
 }
 
 // Writes what a walk tells of a line: whether it is good, how many fields are told, and the places past the ends of fields 32, 33 and 34; 9 stands where
@@ -302,10 +292,8 @@ fn quotes(rt: &impl Print, at: usize) -> io::Result<()>
 fn along(rt: &impl Print, from: usize, to: usize) -> io::Result<()>
     requires { to ≤ 400 }
 {
-    let mut at = from;
-    while at < to {
+    for at in from..to {
         quotes(rt, at)?;
-        at += 1;
     }
     Ok(())
 }

@@ -203,8 +203,8 @@ module _ (L : Lines) (trips : Trips L) (trip f : ℕ → ℕ) (n : ℕ) (g : Gro
 -- ---- over a table
 
 module _ (s : List ℕ) (t : List ℤ) (n : ℕ) (r : Ranged s t n) where
-  pub table_start : (m : List ℕ) → ((b q : ℕ) → 9 ≤ b → b ≤ 12 → marked m b q ≡ false) → Walking (lines_in s t) (trip_of t 8) (cells_in t) n 1 m m 0 0 0 0
-  table_start m blank = walking_start (lines_in s t) (trips_in s t) (trip_of t 8) (cells_in t) n r.grouped r.whole r.apart (by_record s t) m 0 0 0 0 blank
+  pub table_start : (m : List ℕ) {b h f g : ℕ} → ((c q : ℕ) → 9 ≤ c → c ≤ 12 → marked m c q ≡ false) → Walking (lines_in s t) (trip_of t 8) (cells_in t) n 1 m m b h f g
+  table_start m {b} {h} {f} {g} blank = walking_start (lines_in s t) (trips_in s t) (trip_of t 8) (cells_in t) n r.grouped r.whole r.apart (by_record s t) m b h f g blank
 
   pub table_turn :
       (k : ℕ) (old m u v : List ℕ) {b h f g below here from begins : ℕ} {link equal falls : Bool} (x : ℕ)

@@ -15,7 +15,7 @@ ghost use Rattle.trip_walk.specs.Walk.{Turned, Closed, goes_by};
 
 use marks::{EQUAL, FALLING, MET, OPEN, PAIRED};
 use ordering::By;
-use rows::{StopTimes, TimeRow, times};
+use rows::{StopTimes, Table, TimeRow, times};
 
 // The number of a waiting record that holds a cell of the order.
 const CELL: usize = 7;
@@ -27,7 +27,7 @@ const END: usize = 6;
 
 // What the walk carries along: the greatest departure in the group of smaller sequences, and of this one;
 // the first cell of the group, and of the run of equal sequences; and of this line: is it of the group before, and what is told of it.
-#[derive(Clone, Copy)]
+#[derive(Clone, Copy, Default)]
 struct State {
     below: usize,
     here: usize,
@@ -75,8 +75,8 @@ fn larger_of(a: usize, b: usize) -> usize
 fn times_at(t: &[i32], x: usize) -> Times
     ensures { (result.timed ≡ timed_in t.now x) × ((result.arrives ≡ seconds_of (time_at t.now (x * 8 + 3))) × (result.departs ≡ seconds_of (time_at t.now (x * 8 + 4)))) }
 {
-    let a = StopTimes::arrival_at(t, TimeRow(x));
-    let d = StopTimes::departure_at(t, TimeRow(x));
+    let a = StopTimes::arrival_at(t, TimeRow::new(x));
+    let d = StopTimes::departure_at(t, TimeRow::new(x));
     Times {
         timed: times::is_timed(a, d),
         arrives: times::seconds_of(a),
@@ -97,8 +97,8 @@ fn raw_trip<'a>(s: &'a [u8], t: &[i32], x: usize) -> &'a [u8]
 fn same_trip(s: &[u8], t: &[i32], x: usize, y: usize) -> bool
     ensures { result ≡ same_in s.now t.now x y }
 {
-    let a = StopTimes::trip_at(t, TimeRow(x)).0;
-    let b = StopTimes::trip_at(t, TimeRow(y)).0;
+    let a = StopTimes::trip_at(t, TimeRow::new(x)).0;
+    let b = StopTimes::trip_at(t, TimeRow::new(y)).0;
     if a != b {
         return false;
     }
@@ -124,8 +124,8 @@ fn is_repeat(t: &[i32], k: usize, link: bool) -> bool
     ensures { (s : List ℕ) → link ≡ linked (lines_in s t.now) (cells_in t.now) k → result ≡ repeats (lines_in s t.now) (cells_in t.now) k }
 {
     if link {
-        return StopTimes::sequence_at(t, TimeRow(line_at(t, k - 1)))
-            == StopTimes::sequence_at(t, TimeRow(line_at(t, k)));
+        return StopTimes::sequence_at(t, TimeRow::new(line_at(t, k - 1)))
+            == StopTimes::sequence_at(t, TimeRow::new(line_at(t, k)));
     }
     false
 }
@@ -219,7 +219,7 @@ fn is_open(t: &[i32], a: State) -> bool
 fn tell_trip(t: &[i32], k: usize, a: State, m: &mut [u16])
     ensures { ToldTwo m.old m.new paired_mark (not (eqb a.from k)) open_mark (not (timed_in t.now (cells_in t.now a.from)) || not (timed_in t.now (cells_in t.now a.begins))) (trip_of t.now 8 (cells_in t.now k)) }
 {
-    let r = StopTimes::trip_at(t, TimeRow(line_at(t, k))).0;
+    let r = StopTimes::trip_at(t, TimeRow::new(line_at(t, k))).0;
     let open = is_open(t, a);
     tell(m, PAIRED, a.from != k, OPEN, open, r);
 }
@@ -244,22 +244,12 @@ fn walk(s: &[u8], t: &[i32], n: usize, m: &mut [u16])
     ensures told { Told s.now t.now n m.new }
     ensures kept_marks { KeptMarks m.old m.new }
 {
-    let mut a = State {
-        below: 0,
-        here: 0,
-        from: 0,
-        begins: 0,
-        linked: false,
-        equal: false,
-        falls: false,
-    };
-    let mut k = 1;
-    while k <= n {
+    let mut a = State::default();
+    for k in 1..n + 1 {
         let next = turn(s, t, k, a);
         close(t, k, a, next.linked, m);
         tell(m, EQUAL, next.equal, FALLING, next.falls, line_at(t, k));
         a = next;
-        k += 1;
     }
     close(t, n + 1, a, false, m);
 }
@@ -269,8 +259,8 @@ fn is_after(t: &[i32], i: usize) -> bool
     requires { i < 2 ^ 31 }
     ensures { result ≡ (ltb 0 i && eqb (trip_of t.now 8 i) (trip_of t.now 8 (i + 1))) }
 {
-    let before = StopTimes::trip_at(t, TimeRow(i)).0;
-    let here = StopTimes::trip_at(t, TimeRow(i + 1)).0;
+    let before = StopTimes::trip_at(t, TimeRow::new(i)).0;
+    let here = StopTimes::trip_at(t, TimeRow::new(i + 1)).0;
     (0 < i) & (before == here)
 }
 
@@ -279,11 +269,11 @@ fn goes_on(t: &[i32], m: &[u16], i: usize) -> bool
     requires { i < 2 ^ 31 }
     ensures { result ≡ goes_by t.now m.now i }
 {
-    let r = StopTimes::trip_at(t, TimeRow(i + 1)).0;
+    let r = StopTimes::trip_at(t, TimeRow::new(i + 1)).0;
     if (0 < r) & (r < m.len()) {
         if is_after(t, i) {
-            let x = StopTimes::sequence_at(t, TimeRow(i));
-            let y = StopTimes::sequence_at(t, TimeRow(i + 1));
+            let x = StopTimes::sequence_at(t, TimeRow::new(i));
+            let y = StopTimes::sequence_at(t, TimeRow::new(i + 1));
             return x <= y;
         }
         return !marks::is_marked(m, MET, r);
@@ -299,14 +289,12 @@ fn is_steady(t: &[i32], n: usize, m: &mut [u16]) -> bool
     ensures by_index_3 { (s : List ℕ) → ((x : ℕ) → 0 < x → x ≤ n → (0 < trip_of t.now 8 x) × (trip_of t.now 8 x < length m.old)) → result ≡ steady (lines_in s t.now) n }
     ensures only_met { OnlyMet m.old m.new }
 {
-    let mut i = 0;
-    while i < n {
+    for i in 0..n {
         if !goes_on(t, m, i) {
             return false;
         }
-        let r = StopTimes::trip_at(t, TimeRow(i + 1)).0;
+        let r = StopTimes::trip_at(t, TimeRow::new(i + 1)).0;
         marks::mark(m, MET, r);
-        i += 1;
     }
     true
 }

@@ -10,7 +10,7 @@ use lib.ListN.{length, get_or}
 use lib.Dec.{ltb, eqb}
 use borrow.Author.Tests.{le-ltb, ltb-true, ltb-false}
 use Rattle.meaning.specs.declared.Refusal.{Refusal}
-use Rattle.meaning.specs.declared.Verdict.TheVariants.{Unreadable}
+use Rattle.std.specs.Prelude.{Err}
 use Rattle.meaning.specs.declared.Place.{Place}
 use Rattle.meaning.specs.declared.Answer.{Answer}
 use Rattle.meaning.specs.declared.Answer.TheVariants.{Accepted, Findings, Refused}
@@ -28,7 +28,7 @@ use Rattle.listing.specs.declared.Sink.{Sink}
 use Rattle.listing.specs.Handing.{State, state, handed_out}
 use Rattle.tusuchiy.specs.Small.{Small}
 
-module _ (files : List (List ℕ)) (rooms : List ℕ) (r : Refusal) (e : verdict_of files rooms ≡ Unreadable r) (enough : length files ≤ length rooms) where
+module _ (files : List (List ℕ)) (rooms : List ℕ) (r : Refusal) (e : verdict_of files rooms ≡ Err r) (enough : length files ≤ length rooms) where
   said : Sayable files r
   said = refusal_numbers files rooms r e
 

@@ -8,7 +8,7 @@ use lib.IntN.{ℤ}
 use lib.ListN.{length, get_or, length-map}
 use lib.Dec.{eqb}
 use Rattle.meaning.specs.declared.Refusal.{Refusal}
-use Rattle.meaning.specs.declared.Verdict.TheVariants.{Readable, Unreadable}
+use Rattle.std.specs.Prelude.{Ok, Err}
 use Rattle.meaning.specs.declared.Place.{Place}
 use Rattle.meaning.specs.declared.Profile.{Profile}
 use Rattle.meaning.specs.declared.Answer.{Answer}
@@ -60,7 +60,7 @@ few_next counts k n h e i l = go (standing i k)
     go (level q) = rw q e
     go (over q) = absurd (omega arith)
 
-module _ (files : List (List ℕ)) (tables : List (List ℤ)) (six : length files ≡ 6) (lent : length tables ≡ 6) (read : verdict_of files (map length tables) ≡ Readable) where
+module _ (files : List (List ℕ)) (tables : List (List ℤ)) (six : length files ≡ 6) (lent : length tables ≡ 6) (read : verdict_of files (map length tables) ≡ Ok tt) where
   kept : (f : ℕ) → 1 ≤ f → f ≤ 6 → WholeKept files f (file_of files f) (length (table_of tables f))
   unfolding table_of
   kept f low high =
@@ -125,10 +125,10 @@ module _ (files : List (List ℕ)) (tables : List (List ℤ)) (six : length file
         rw (h, n, m, o, all)
 
 module _ (files : List (List ℕ)) (tables : List (List ℤ)) (list : List ℤ) (p : Place) (asked : Profile) where
-  pub outcome_readable : (o : Outcome) → verdict_of files (map length tables) ≡ Readable → read_outcome files tables list p asked ≡ o → outcome files tables list p asked ≡ o
+  pub outcome_readable : (o : Outcome) → verdict_of files (map length tables) ≡ Ok tt → read_outcome files tables list p asked ≡ o → outcome files tables list p asked ≡ o
   unfolding outcome
   outcome_readable o e h = rw e h
 
-  pub outcome_refused : (r : Refusal) → verdict_of files (map length tables) ≡ Unreadable r → outcome files tables list p asked ≡ record { answer = Refused r; tables = tables; list = list }
+  pub outcome_refused : (r : Refusal) → verdict_of files (map length tables) ≡ Err r → outcome files tables list p asked ≡ record { answer = Refused r; tables = tables; list = list }
   unfolding outcome
   outcome_refused r e = rw e

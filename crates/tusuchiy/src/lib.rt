@@ -1,8 +1,8 @@
 #![tactic(auto)]
 // The whole check, and every refusal at once.
-ghost use Rattle.std.specs.Prelude.{◌≡◌, ◌∷◌, [], map, cond, eqb, length, get_or, ℕ, ◌+◌, ◌*◌, ◌<◌, ◌≤◌};
+ghost use Rattle.std.specs.Prelude.{◌≡◌, ◌∷◌, [], map, cond, eqb, length, get_or, ℕ, ◌+◌, ◌*◌, ◌<◌, ◌≤◌, Ok};
 ghost use Rattle.meaning.specs.Bytes.{count_lf};
-ghost use Rattle.meaning.specs.Refusals.{max_bytes, few_lines, verdict_of};
+ghost use Rattle.meaning.specs.Refusals.{max_bytes, max_lines, few_lines, verdict_of};
 ghost use Rattle.meaning.specs.Outcome.{read_outcome, outcome};
 ghost use Rattle.marks.specs.Marks.{Blank};
 ghost use Rattle.listing.specs.Handing.{state};
@@ -10,7 +10,7 @@ ghost use Rattle.faults.specs.Told.{told};
 ghost use Rattle.tusuchiy.specs.Small.{Small};
 
 use listing::Sink;
-use meaning::{Answer, FEW_LINES, Place, Profile, Verdict};
+use meaning::{Answer, FEW_LINES, MAX_LINES, Place, Profile};
 
 // Accepted exactly when there is no finding; else how many are written, and how many there are.
 fn answer_of(k: Sink) -> Answer
@@ -29,11 +29,10 @@ fn answer_of(k: Sink) -> Answer
 fn count_all(files: [&[u8]; 6]) -> [usize; 6]
     ensures { result ≡ map count_lf (map (λ x. x.now) files.entry) }
 {
+    // tried with `files.map`: what it ensures of its items (`items`) the search did not bring to `map count_lf`
     let mut counts = [0usize; 6];
-    let mut i: usize = 0;
-    while i < 6 {
+    for i in 0..6 {
         counts[i] = text::count_lf(files[i]);
-        i += 1;
     }
     counts
 }
@@ -54,7 +53,7 @@ fn checked_with(
     asked: Profile,
 ) -> Answer
     requires calendar_dates_table_value { verdict_of (map (λ x. x.now) files)
-        (length stops_table.old ∷ length routes_table.old ∷ length calendar_table.old ∷ length trips_table.old ∷ length stop_times_table.old ∷ length calendar_dates_table.old ∷ []) ≡ Verdict.Readable }
+        (length stops_table.old ∷ length routes_table.old ∷ length calendar_table.old ∷ length trips_table.old ∷ length stop_times_table.old ∷ length calendar_dates_table.old ∷ []) ≡ Ok tt }
     requires counts_value { counts ≡ map count_lf (map (λ x. x.now) files) }
     requires blank { Blank marks.old × ((i : ℕ) → i < 6 → get_or counts i 0 ≤ length marks.old) }
     ensures asked_value { read_outcome (map (λ x. x.now) files.entry)
@@ -89,8 +88,8 @@ fn checked_with(
     answer_of(k)
 }
 
-// The same, where no file has more than few lines.
-fn checked_few(
+// The same, where no file has more than N lines.
+fn checked_up_to<const N: usize>(
     files: [&[u8]; 6],
     counts: [usize; 6],
     stops_table: &mut [i32],
@@ -104,56 +103,17 @@ fn checked_few(
     asked: Profile,
 ) -> Answer
     requires calendar_dates_table_value { verdict_of (map (λ x. x.now) files)
-        (length stops_table.old ∷ length routes_table.old ∷ length calendar_table.old ∷ length trips_table.old ∷ length stop_times_table.old ∷ length calendar_dates_table.old ∷ []) ≡ Verdict.Readable }
+        (length stops_table.old ∷ length routes_table.old ∷ length calendar_table.old ∷ length trips_table.old ∷ length stop_times_table.old ∷ length calendar_dates_table.old ∷ []) ≡ Ok tt }
     requires counts_value { counts ≡ map count_lf (map (λ x. x.now) files) }
-    requires by_index { (i : ℕ) → i < 6 → get_or counts i 0 ≤ few_lines }
+    requires by_index { (i : ℕ) → i < 6 → get_or counts i 0 ≤ N }
+    requires room { N ≤ max_lines }
     ensures asked_value { read_outcome (map (λ x. x.now) files.entry)
         (stops_table.old ∷ routes_table.old ∷ calendar_table.old ∷ trips_table.old ∷ stop_times_table.old ∷ calendar_dates_table.old ∷ [])
         findings.old from asked
         ≡ record { answer = result; tables = stops_table.new ∷ routes_table.new ∷ calendar_table.new ∷ trips_table.new ∷ stop_times_table.new ∷ calendar_dates_table.new ∷ []; list = findings.new } }
     ensures small { Small result }
 {
-    let mut marks = marks::blank_few();
-    checked_with(
-        files,
-        counts,
-        stops_table,
-        routes_table,
-        calendar_table,
-        trips_table,
-        stop_times_table,
-        calendar_dates_table,
-        findings,
-        &mut marks,
-        from,
-        asked,
-    )
-}
-
-// The same, with marks for as many lines as there may be.
-fn checked_many(
-    files: [&[u8]; 6],
-    counts: [usize; 6],
-    stops_table: &mut [i32],
-    routes_table: &mut [i32],
-    calendar_table: &mut [i32],
-    trips_table: &mut [i32],
-    stop_times_table: &mut [i32],
-    calendar_dates_table: &mut [i32],
-    findings: &mut [i32],
-    from: Place,
-    asked: Profile,
-) -> Answer
-    requires calendar_dates_table_value { verdict_of (map (λ x. x.now) files)
-        (length stops_table.old ∷ length routes_table.old ∷ length calendar_table.old ∷ length trips_table.old ∷ length stop_times_table.old ∷ length calendar_dates_table.old ∷ []) ≡ Verdict.Readable }
-    requires counts_value { counts ≡ map count_lf (map (λ x. x.now) files) }
-    ensures asked_value { read_outcome (map (λ x. x.now) files.entry)
-        (stops_table.old ∷ routes_table.old ∷ calendar_table.old ∷ trips_table.old ∷ stop_times_table.old ∷ calendar_dates_table.old ∷ [])
-        findings.old from asked
-        ≡ record { answer = result; tables = stops_table.new ∷ routes_table.new ∷ calendar_table.new ∷ trips_table.new ∷ stop_times_table.new ∷ calendar_dates_table.new ∷ []; list = findings.new } }
-    ensures small { Small result }
-{
-    let mut marks = marks::blank();
+    let mut marks = marks::blank::<N>();
     checked_with(
         files,
         counts,
@@ -187,7 +147,7 @@ fn checked_from(
     asked: Profile,
 ) -> Answer
     requires calendar_dates_table_value { verdict_of (map (λ x. x.now) files)
-        (length stops_table.old ∷ length routes_table.old ∷ length calendar_table.old ∷ length trips_table.old ∷ length stop_times_table.old ∷ length calendar_dates_table.old ∷ []) ≡ Verdict.Readable }
+        (length stops_table.old ∷ length routes_table.old ∷ length calendar_table.old ∷ length trips_table.old ∷ length stop_times_table.old ∷ length calendar_dates_table.old ∷ []) ≡ Ok tt }
     requires counts_value { counts ≡ map count_lf (map (λ x. x.now) files) }
     requires i_bound { (i ≤ 6) × ((k : ℕ) → k < i → get_or counts k 0 ≤ few_lines) }
     ensures asked_value { read_outcome (map (λ x. x.now) files.entry)
@@ -197,7 +157,7 @@ fn checked_from(
     ensures small { Small result }
 {
     if i == 6 {
-        return checked_few(
+        return checked_up_to::<FEW_LINES>(
             files,
             counts,
             stops_table,
@@ -212,7 +172,7 @@ fn checked_from(
         );
     }
     if FEW_LINES < counts[i] {
-        return checked_many(
+        return checked_up_to::<MAX_LINES>(
             files,
             counts,
             stops_table,
@@ -271,7 +231,7 @@ pub fn check(
         calendar_dates_table.len(),
     ];
     match reading::verdict(files, rooms, counts) {
-        Verdict::Readable => checked_from(
+        Ok(()) => checked_from(
             0,
             files,
             counts,
@@ -285,7 +245,7 @@ pub fn check(
             from,
             asked,
         ),
-        Verdict::Unreadable(r) => Answer::Refused(r),
+        Err(r) => Answer::Refused(r),
     }
 }
 
@@ -299,10 +259,8 @@ pub fn faults(files: [&[u8]; 6], list: &mut [i32], from: Place) -> Sink
         written: 0,
         total: 0,
     };
-    let mut i: usize = 0;
-    while i < 6 {
-        k = file_faults::list_faults(i + 1, files[i], dated, list, k, from);
-        i += 1;
+    for (i, file) in files.iter().enumerate() {
+        k = file_faults::list_faults(i + 1, file, dated, list, k, from);
     }
     k
 }

@@ -1,15 +1,14 @@
--- Laws: the profile that a number asks for; checks and calls for faults from a starting place; answers about an index.
-use Prim.Native.Nat.{ℕ, zero, suc}
+-- Laws: a default number; checks and calls for faults from a starting place; answers about an index.
+use Prim.Native.Nat.{ℕ}
 use mathlib.Core.Path.{◌≡◌, refl, subst, ap, ap₂, sym, ◌∙◌}
 use mathlib.Core.List.{List}
-use native.Mathlib.Omega.{arith}
-use lib.IntN.{ℤ, pos, negsuc, nat_abs}
+use lib.IntN.{ℤ, pos}
+use mir.Syntax.{w32}
+use mir.Val.{to_z, of_z}
 use Rattle.meaning.specs.declared.Place.{Place}
 use Rattle.meaning.specs.declared.Profile.{Profile}
-use Rattle.meaning.specs.declared.Profile.TheVariants.{Plain, Boards}
 use Rattle.meaning.specs.Outcome.{Outcome, outcome}
 use Rattle.tusuchiy_c.specs.declared.TusuchiyAnswer.{TusuchiyAnswer}
-use Rattle.tusuchiy_c.specs.Asked.{profile_of}
 use Rattle.tusuchiy_c.specs.Told.{Told}
 use Rattle.tusuchiy_c.specs.ToldCheck.{ToldCheck}
 use Rattle.listing.specs.declared.Sink.{Sink}
@@ -17,21 +16,14 @@ use Rattle.listing.specs.Handing.{State, state}
 use Rattle.faults.specs.Told.{told as faultsTold}
 use Rattle.tusuchiy_c.specs.declared.TusuchiyFaultsAnswer.{TusuchiyFaultsAnswer}
 use Rattle.tusuchiy_c.specs.ToldFaults.{ToldFaults}
-use Rattle.indexes.specs.declared.IndexAnswer.{IndexAnswer}
+use Rattle.indexes.specs.Answer.{IndexAnswer}
 use Rattle.indexes.specs.Index.{checked, wrote, written}
 use Rattle.tusuchiy_c.specs.declared.TusuchiyIndexAnswer.{TusuchiyIndexAnswer}
 use Rattle.tusuchiy_c.specs.ToldIndex.{ToldIndex}
 
--- a number asks for none where it is 0
-pub none_asked : (z : ℤ) → nat_abs z ≡ 0 → Plain ≡ profile_of z
-none_asked (pos zero) e = refl
-none_asked (pos (suc n)) e = absurd (omega arith)
-none_asked (negsuc n) e = absurd (omega arith)
-
-pub boards_asked : (z : ℤ) → (nat_abs z ≡ 0 → ⊥) → Boards ≡ profile_of z
-boards_asked (pos zero) h = absurd (h refl)
-boards_asked (pos (suc n)) h = refl
-boards_asked (negsuc n) h = refl
+-- a default number, stored in a struct
+pub still_zero : (z : ℤ) → z ≡ pos 0 → to_z w32 (of_z w32 z) ≡ pos 0
+still_zero z e = ap (λ (x : ℤ). to_z w32 (of_z w32 x)) e
 
 -- a check from one starting place and profile is told of others that are the same
 pub told_check :

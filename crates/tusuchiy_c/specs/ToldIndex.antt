@@ -1,6 +1,6 @@
 -- Each number of an answer about an index, for C, is the one that document 02 gives to the answer's case.
 use Rattle.std.specs.Prelude.{◌≡◌, pos, get_or}
-use Rattle.indexes.specs.declared.IndexAnswer.{IndexAnswer}
+use Rattle.indexes.specs.Answer.{IndexAnswer}
 use Rattle.indexes.specs.Index.{index_numbers}
 use Rattle.tusuchiy_c.specs.declared.TusuchiyIndexAnswer.{TusuchiyIndexAnswer}
 

@@ -1,6 +1,6 @@
 #![tactic(auto)]
 // The check for C and Rust, every refusal at once, the index beside a feed, and one code asked at the counter: the exported functions.
-ghost use Rattle.std.specs.Prelude.{◌≡◌, ◌∷◌, [], ◌+◌, ◌*◌, ◌≤◌, ◌<◌, pos, length};
+ghost use Rattle.std.specs.Prelude.{◌≡◌, ◌∷◌, [], ◌+◌, ◌*◌, ◌≤◌, ◌<◌, pos, length, Ok, Err};
 ghost use Rattle.meaning.specs.Outcome.{outcome};
 ghost use Rattle.meaning.specs.Refusals.{max_bytes, max_lines};
 ghost use Rattle.tusuchiy.specs.Small.{Small};
@@ -16,14 +16,14 @@ ghost use Rattle.tusuchiy_c.specs.ToldFaults.{ToldFaults};
 ghost use Rattle.tusuchiy_c.specs.ToldIndex.{ToldIndex};
 ghost use Rattle.tusuchiy_c.specs.ToldLookup.{ToldLookup};
 
-use indexes::IndexAnswer;
+use indexes::IndexRefusal;
 use listing::Sink;
-use lookups::LookupAnswer;
+use lookups::Refused;
 use meaning::{Answer, Place, Profile, Refusal};
 
 // The answer: verdict 0 accepted, 1 findings, 2 refused; the refusal's number, file, line and column; findings written and in all.
 #[repr(C)]
-#[derive(Clone, Copy)]
+#[derive(Clone, Copy, Default)]
 pub struct TusuchiyAnswer {
     pub verdict: i32,
     pub number: i32,
@@ -45,8 +45,7 @@ fn refused(r: Refusal) -> TusuchiyAnswer
         file: r.file as i32,
         line: r.line as i32,
         column: r.column as i32,
-        written: 0,
-        total: 0,
+        ..TusuchiyAnswer::default()
     }
 }
 
@@ -57,30 +56,19 @@ fn found(written: usize, total: usize) -> TusuchiyAnswer
 {
     TusuchiyAnswer {
         verdict: 1,
-        number: 0,
-        file: 0,
-        line: 0,
-        column: 0,
         written: written as i32,
         total: total as i32,
+        ..TusuchiyAnswer::default()
     }
 }
 
-// An answer, for C.
+// An answer, for C. No `From`: it can't ask that the numbers are small (`Small`).
 fn told(a: Answer) -> TusuchiyAnswer
     requires { Small a }
     ensures { Told a result }
 {
     match a {
-        Answer::Accepted => TusuchiyAnswer {
-            verdict: 0,
-            number: 0,
-            file: 0,
-            line: 0,
-            column: 0,
-            written: 0,
-            total: 0,
-        },
+        Answer::Accepted => TusuchiyAnswer::default(),
         Answer::Findings { written, total } => found(written, total),
         Answer::Refused(r) => refused(r),
     }
@@ -97,10 +85,10 @@ fn place_of(file: i32, line: i32, rule: i32) -> Place
 fn profile_of(number: i32) -> Profile
     ensures { result ≡ profile_of number }
 {
-    if num::size(number) == 0 {
-        return Profile::Plain;
+    match number {
+        0 => Profile::Plain,
+        _ => Profile::Boards,
     }
-    Profile::Boards
 }
 
 // The check over six files, six lent tables and a lent list, from a starting place, for boards where `profile` isn't 0. An empty slice of file 3 or 6
@@ -204,8 +192,8 @@ pub struct TusuchiyIndexAnswer {
 
 // The file's own refusal, for C.
 fn unread(r: Refusal) -> TusuchiyIndexAnswer
-    requires { SmallIndex (IndexAnswer.Unread r) }
-    ensures { ToldIndex (IndexAnswer.Unread r) result }
+    requires { SmallIndex (Err (IndexRefusal.Unread r)) }
+    ensures { ToldIndex (Err (IndexRefusal.Unread r)) result }
 {
     TusuchiyIndexAnswer {
         number: r.number as i32,
@@ -230,15 +218,25 @@ fn bare(number: usize, length: usize) -> TusuchiyIndexAnswer
     }
 }
 
+// Why there is no index, for C.
+fn told_refusal(why: IndexRefusal) -> TusuchiyIndexAnswer
+    requires { SmallIndex (Err why) }
+    ensures { ToldIndex (Err why) result }
+{
+    match why {
+        IndexRefusal::Unread(r) => unread(r),
+        IndexRefusal::Barred(n) => bare(n, 0),
+    }
+}
+
 // An answer about an index, for C.
-fn told_index(a: IndexAnswer) -> TusuchiyIndexAnswer
+fn told_index(a: Result<usize, IndexRefusal>) -> TusuchiyIndexAnswer
     requires { SmallIndex a }
     ensures { ToldIndex a result }
 {
     match a {
-        IndexAnswer::Whole(n) => bare(0, n),
-        IndexAnswer::Unread(r) => unread(r),
-        IndexAnswer::Barred(n) => bare(n, 0),
+        Ok(n) => bare(0, n),
+        Err(why) => told_refusal(why),
     }
 }
 
@@ -288,7 +286,7 @@ fn looked_up(number: usize, row: usize) -> TusuchiyLookupAnswer
 
 // The answer that finds a record, for C, whose numbers end below 2,147,483,648.
 fn told_record(r: usize) -> TusuchiyLookupAnswer
-    ensures { ToldLookup (LookupAnswer.Found r) result }
+    ensures { ToldLookup (Ok r) result }
 {
     if r < 2147483648 {
         return looked_up(0, r);
@@ -297,12 +295,12 @@ fn told_record(r: usize) -> TusuchiyLookupAnswer
 }
 
 // The answer of a lookup, for C.
-fn told_lookup(a: LookupAnswer) -> TusuchiyLookupAnswer
+fn told_lookup(a: Result<usize, Refused>) -> TusuchiyLookupAnswer
     ensures { ToldLookup a result }
 {
     match a {
-        LookupAnswer::Found(r) => told_record(r),
-        LookupAnswer::Refused => looked_up(50, 0),
+        Ok(r) => told_record(r),
+        Err(Refused) => looked_up(50, 0),
     }
 }
 

@@ -1,4 +1,5 @@
 -- A choice as it is stored: none, or a number up to the largest.
+use Rattle.std.specs.Prelude.{Option, Some, None}
 use mathlib.Core.Path.{◌≡◌, refl}
 use mathlib.Core.Bool.{Bool, true, false, cond}
 use mathlib.Core.List.{List}
@@ -6,8 +7,6 @@ use Prim.Native.Nat.{ℕ, ◌≤◌}
 use native.Mathlib.Omega.{arith}
 use lib.IntN.{ℤ, pos}
 use Rattle.num.specs.Signs.{nat_of}
-use Rattle.meaning.specs.declared.Choice.{Choice}
-use Rattle.meaning.specs.declared.Choice.TheVariants.{Picked, NoChoice}
 use Rattle.meaning.specs.Lists.{empty}
 use Rattle.meaning.specs.Forms.{no_mark, formed, digit_text, choice_of}
 use Rattle.meaning.specs.Tables.{picked, choice_or, or_zero}
@@ -23,7 +22,7 @@ fits : (m : ℕ) (v : List ℕ) → ChoiceFits m (choice_of m v)
 unfolding choice_of formed
 fits m v n e = go (no_mark v) e
   where
-    go : (b : Bool) → cond b (digit_text 0 m v) NoChoice ≡ Picked n → n ≤ m
+    go : (b : Bool) → cond b (digit_text 0 m v) None ≡ Some n → n ≤ m
     go true q = choice_fits 0 m v n q
     go false q = not_picked n q
 
@@ -31,10 +30,10 @@ pub choice_stored : (none : ℤ) (m : ℕ) (v : List ℕ) → Stored none m (cho
 unfolding choice_or
 choice_stored none m v = go (empty v) (choice_of m v) (fits m v)
   where
-    go : (b : Bool) (c : Choice) → ChoiceFits m c → Stored none m (cond b none (picked c))
+    go : (b : Bool) (c : Option ℕ) → ChoiceFits m c → Stored none m (cond b none (picked c))
     go true c h = nothing
-    go false (Picked n) h = number n (h n refl)
-    go false NoChoice h = number 0 (omega arith)
+    go false (Some n) h = number n (h n refl)
+    go false None h = number 0 (omega arith)
 
 -- empty means 0
 module _ (m : ℕ) (v : List ℕ) where

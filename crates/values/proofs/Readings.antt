@@ -1,4 +1,5 @@
 -- What the readers of one located line answer.
+use Rattle.std.specs.Prelude.{Option, Some, None}
 use mathlib.Core.Path.{◌≡◌, refl, ap, ◌∙◌}
 use mathlib.Core.Bool.{Bool, true, false, not, ◌&&◌}
 use mathlib.Core.List.{List, []}
@@ -7,8 +8,6 @@ use native.Mathlib.Omega.{arith}
 use native.Mathlib.Nat.{pow-le-pow_right, pow-succ', zero-lt-suc}
 use lib.ListN.{length, get_or, get_or-map}
 use lib.IntN.{ℤ, pos}
-use Rattle.meaning.specs.declared.Choice.{Choice}
-use Rattle.meaning.specs.declared.Choice.TheVariants.{Picked, NoChoice}
 use Rattle.meaning.specs.Lists.{empty}
 use Rattle.meaning.specs.Bytes.{value}
 use Rattle.meaning.specs.Columns.{field_at, cell, row_of}
@@ -29,22 +28,22 @@ in_row ps l st en loc k = row_at ps l k ∙ rw (loc k)
 pub through : {A : Type 0} (f : List ℕ → A) (x : A) (r p : List ℕ) → x ≡ f (value r) → r ≡ p → x ≡ f (value p)
 through f x r p e g = e ∙ ap (λ (l : List ℕ). f (value l)) g
 
-pub picked_one : (c : Choice) (n : ℕ) → n ≡ one_if c → pos n ≡ picked c
-picked_one (Picked m) n e = rw e
-picked_one NoChoice n e = rw e
+pub picked_one : (c : Option ℕ) (n : ℕ) → n ≡ one_if c → pos n ≡ picked c
+picked_one (Some m) n e = rw e
+picked_one None n e = rw e
 
 module _ (none : ℤ) (m : ℕ) (v : List ℕ) where
   pub choice_empty : empty v ≡ true → none ≡ choice_or none m v
   unfolding choice_or
   choice_empty e = rw e
 
-  pub choice_given : (n : ℕ) (c : Choice) → empty v ≡ false → n ≡ one_if c → c ≡ choice_of m v → pos n ≡ choice_or none m v
+  pub choice_given : (n : ℕ) (c : Option ℕ) → empty v ≡ false → n ≡ one_if c → c ≡ choice_of m v → pos n ≡ choice_or none m v
   unfolding choice_or
   choice_given n c e p q = rw (e, ← q) (picked_one c n p)
 
 -- the type of a stop and whether it has a place, by the values under its columns
 module _ (ps l st en : List ℕ) (loc : Located l ps st en) where
-  pub kind_in : (n : ℕ) (c : Choice) → n ≡ one_if c → c ≡ choice_of 4 (value_in l st en 4) → n ≡ kind_of (row_of ps l)
+  pub kind_in : (n : ℕ) (c : Option ℕ) → n ≡ one_if c → c ≡ choice_of 4 (value_in l st en 4) → n ≡ kind_of (row_of ps l)
   unfolding kind_of
   kind_in n c e q = rw (in_row ps l st en loc 4, ← q) e
 

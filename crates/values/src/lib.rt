@@ -9,41 +9,28 @@ ghost use Rattle.forms.specs.Bounds.{ChoiceFits};
 ghost use Rattle.values.specs.Located.{field_in, value_in, Within, Located};
 
 use columns::Cells;
-use meaning::{Choice, Date, Degrees, Number, Time};
+use meaning::Time;
 
 // The raw field under known column k.
 pub fn raw(l: &[u8], q: Cells, k: usize) -> &[u8]
     requires { (k < 10) × Within (length l.now) q.start q.end }
     ensures { result.now ≡ part l.now (field_in q.start q.end k) }
 {
-    let starts = q.start;
-    let ends = q.end;
-    let a = starts[k];
-    let e = ends[k];
-    &l[a..e]
-}
-
-fn ten_millionths(d: Degrees) -> i32
-    ensures { result ≡ degrees d }
-{
-    match d {
-        Degrees::TenMillionths(z) => z,
-        Degrees::NoDegrees => 0,
-    }
+    &l[q.start[k]..q.end[k]]
 }
 
 pub fn latitude(l: &[u8], q: Cells, k: usize) -> i32
     requires { (k < 10) × Within (length l.now) q.start q.end }
     ensures { result ≡ degrees (latitude_of (value_in l.now q.start q.end k)) }
 {
-    ten_millionths(forms::latitude_of(raw(l, q, k)))
+    forms::latitude_of(raw(l, q, k)).unwrap_or(0)
 }
 
 pub fn longitude(l: &[u8], q: Cells, k: usize) -> i32
     requires { (k < 10) × Within (length l.now) q.start q.end }
     ensures { result ≡ degrees (longitude_of (value_in l.now q.start q.end k)) }
 {
-    ten_millionths(forms::longitude_of(raw(l, q, k)))
+    forms::longitude_of(raw(l, q, k)).unwrap_or(0)
 }
 
 // A date as it is stored.
@@ -51,10 +38,7 @@ pub fn date(l: &[u8], q: Cells, k: usize) -> u32
     requires { (k < 10) × Within (length l.now) q.start q.end }
     ensures { (pos result ≡ day (date_of (value_in l.now q.start q.end k))) × (result < 2 ^ 31) }
 {
-    match forms::date_of(raw(l, q, k)) {
-        Date::Day(n) => n,
-        Date::NoDate => 0,
-    }
+    forms::date_of(raw(l, q, k)).unwrap_or(0)
 }
 
 // A stop_sequence.
@@ -62,10 +46,7 @@ pub fn sequence(l: &[u8], q: Cells, k: usize) -> u32
     requires { (k < 10) × Within (length l.now) q.start q.end }
     ensures { (pos result ≡ number (sequence_of (value_in l.now q.start q.end k))) × (result < 2 ^ 31) }
 {
-    match forms::sequence_of(raw(l, q, k)) {
-        Number::Value(n) => n,
-        Number::NoNumber => 0,
-    }
+    forms::sequence_of(raw(l, q, k)).unwrap_or(0)
 }
 
 // A time in seconds; empty is -1.
@@ -75,19 +56,15 @@ pub fn clock(l: &[u8], q: Cells, k: usize) -> i32
 {
     match forms::time_of(raw(l, q, k)) {
         Time::Seconds(n) => num::u32_to_i32(n),
-        Time::Untimed => -1,
-        Time::NoTime => -1,
+        Time::Untimed | Time::NoTime => -1,
     }
 }
 
 // The number of a choice.
-fn chosen(c: Choice) -> u32
+fn chosen(c: Option<u32>) -> u32
     ensures { (result ≡ one_if c) × ((m : ℕ) → ChoiceFits m c → result ≤ m) }
 {
-    match c {
-        Choice::Picked(n) => n,
-        Choice::NoChoice => 0,
-    }
+    c.unwrap_or(0)
 }
 
 pub fn route_type(l: &[u8], q: Cells, k: usize) -> u32
@@ -149,10 +126,7 @@ pub fn has_place(l: &[u8], q: Cells) -> bool
     requires { Within (length l.now) q.start q.end }
     ensures { (ps : List ℕ) → Located l.now ps q.start q.end → result ≡ placed (row_of ps l.now) }
 {
-    if text::is_empty_value(raw(l, q, 2)) {
-        return !text::is_empty_value(raw(l, q, 3));
-    }
-    true
+    !text::is_empty_value(raw(l, q, 2)) || !text::is_empty_value(raw(l, q, 3))
 }
 
 // The mark of a place: 1 with one, 0 without.
@@ -160,10 +134,7 @@ pub fn place_mark(l: &[u8], q: Cells) -> u32
     requires { Within (length l.now) q.start q.end }
     ensures { (((ps : List ℕ) → Located l.now ps q.start q.end → result ≡ cond (placed (row_of ps l.now)) 1 0)) × (result < 2 ^ 31) }
 {
-    if has_place(l, q) {
-        return 1;
-    }
-    0
+    u32::from(has_place(l, q))
 }
 
 // The seven day marks packed in one number with Monday lowest.
@@ -172,10 +143,8 @@ pub fn packed_days(l: &[u8], q: Cells) -> u32
     ensures { (((ps : List ℕ) → Located l.now ps q.start q.end → result ≡ packed_days (row_of ps l.now))) × (result < 2 ^ 31) }
 {
     let mut n: u32 = 0;
-    let mut d: usize = 7;
-    while 0 < d {
+    for d in (1..8).rev() {
         n = mark(l, q, d) + 2 * n;
-        d -= 1;
     }
     n
 }

@@ -1,19 +1,22 @@
 -- `characters::ascii_end` meets its contract.
-use Rattle.text.proofs.Lines.{first_here, first_next, first_over}
+use Rattle.std.proofs.Common.{rules, tests}
+use Rattle.std.proofs.lemmas.Iterator.{YieldsList-from_slice}
+use Rattle.std.proofs.lemmas.Iterator.Search.{position_from_yields_List}
+use Rattle.text.proofs.Chains.{first_or, first_past}
 use Rattle.characters.specs.States.{is_high}
-use mathlib.Core.Path.{refl}
+use mathlib.Core.Path.{◌≡◌, ◌∙◌}
+use lib.ListN.{drop, length-drop}
+use Rattle.std.proofs.lemmas.List.{take_all}
 use native.Mathlib.Omega.{arith}
-use borrow.Author.Tests.{le-leb, lt-leb}
 use Rattle.characters.proofs.ascii_end.Goals as goal
 
-pub loop-i-init : goal.loop-i-init
-loop-i-init c = (omega arith, refl)
-
-pub returns-then-l-i-ge128 : goal.returns-then-l-i-ge128
-returns-then-l-i-ge128 c = (first_here is_high _ _ _ c.loop-i.invariant.1 c.loop-i-test.true (le-leb _ _ c.if-l-i-ge128.true), omega arith)
-
-pub loop-i-preserved : goal.loop-i-preserved
-loop-i-preserved c = (omega arith, first_next is_high _ _ _ c.loop-i.invariant.1 c.loop-i-test.true (lt-leb _ _ c.if-l-i-ge128.false))
+pub returns-in_default : goal.returns-in_default
+returns-in_default c = (first_past is_high _ _ (search rules), omega arith)
 
 pub returns : goal.returns
-returns c = (first_over is_high _ _ _ c.loop-i.invariant.1 c.loop-i-test.false, omega arith)
+returns c =
+    let r = c.in-Some.rest.now in
+    let d : r ≡ drop c.args.at c.args.l.now = c.in-Some.ensures.lookup.0.2 ∙ take_all _ _ (omega (arith, length-drop c.args.at c.args.l.now)) in
+    let e = position_from_yields_List is_high _ _ _ c.position.ensures.ran (YieldsList-from_slice _ c.iter.ensures.rest) (λ x b q k. search (rules, tests)) in
+    let z = c.unwrap_or.ensures ∙ first_or is_high r _ e in
+    (rw (← d) (omega arith), omega arith)

@@ -1,22 +1,13 @@
 -- `characters::is_plain` meets its contract.
-use Rattle.characters.proofs.Laws.{plain_low, plain_high, plain_next, plain_over}
-use native.Mathlib.Omega.{arith}
+use Rattle.std.proofs.Common.{rules, tests}
+use Rattle.std.proofs.lemmas.Iterator.{YieldsList-from_slice}
+use Rattle.std.proofs.lemmas.Iterator.Consumers.{fold_from_yields_List}
+use Rattle.characters.proofs.Laws.{plain_folded}
+use lib.Dec.{leb, ltb}
+use mathlib.Core.Path.{◌∙◌}
+use mathlib.Core.Bool.{true, ◌&&◌}
 use Rattle.characters.proofs.is_plain.Goals as goal
 
-pub loop-i-init : goal.loop-i-init
-loop-i-init c = (c.past_plain-i.ensures.1, c.past_plain-i.ensures.0)
-
-pub returns-then-b-lt32 : goal.returns-then-b-lt32
-returns-then-b-lt32 c =
-    plain_low _ _ _ c.loop-i.invariant.1 c.loop-i-test.true c.if-b-lt32.true
-
-pub returns-then-b-ge128 : goal.returns-then-b-ge128
-returns-then-b-ge128 c =
-    plain_high _ _ _ c.loop-i.invariant.1 c.loop-i-test.true c.if-b-lt32.false c.if-b-ge128.true
-
-pub loop-i-preserved : goal.loop-i-preserved
-loop-i-preserved c =
-    (omega arith, plain_next _ _ _ c.loop-i.invariant.1 c.loop-i-test.true c.if-b-lt32.false c.if-b-ge128.false)
-
 pub returns : goal.returns
-returns c = plain_over _ _ _ c.loop-i.invariant.1 c.loop-i-test.false
+returns c =
+    fold_from_yields_List _ (λ a b. a && (leb 0x20 b && ltb b 0x80)) true _ c.fold.ensures.ran (YieldsList-from_slice _ c.iter.ensures.rest) (λ a x b q k. search (rules, tests)) ∙ plain_folded true c.args.l.now

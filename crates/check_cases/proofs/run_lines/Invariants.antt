@@ -2,8 +2,8 @@
 use Rattle.std.proofs.Common.{length, ◌-◌, ◌≤◌}
 use Rattle.check_cases.proofs.run_lines.Given as goal
 
-abbrev pub invariant-loop-start : goal.invariant-loop-start
-invariant-loop-start g l = l.at ≤ length l.s
+abbrev pub invariant-loop-line : goal.invariant-loop-line
+invariant-loop-line g l = l.at ≤ length l.s
 
-abbrev pub decreases-loop-start : goal.decreases-loop-start
-decreases-loop-start g l = length l.s - l.at
+abbrev pub decreases-loop-line : goal.decreases-loop-line
+decreases-loop-line g l = length l.s - l.at

@@ -1,20 +1,19 @@
 -- `columns::lacks` meets its contract.
-use Rattle.columns.proofs.Laws.{some_over, some_here, some_next}
+use Rattle.columns.proofs.Laws.{some_any}
 use Rattle.columns.specs.Columns.{lacking}
-use native.Mathlib.Nat.{sub-zero}
-use mathlib.Core.Path.{sym, ◌∙◌}
+use Rattle.meaning.specs.Columns.{column_of, count_of}
+use Rattle.std.proofs.Common.{rules, tests}
+use Rattle.std.proofs.lemmas.Iterator.{YieldsList-from_range}
+use Rattle.std.proofs.lemmas.Iterator.Search.{any_from_yields_List}
+use mathlib.Core.Bool.{◌&&◌}
+use mathlib.Core.Path.{refl, ◌∙◌}
 use native.Mathlib.Omega.{arith}
+use lib.Dec.{eqb}
+use lib.ListN.{get_or}
 use Rattle.columns.proofs.lacks.Goals as goal
 
-pub loop-k-init : goal.loop-k-init
-unfolding lacking
-loop-k-init c = (omega arith, rw (sub-zero, ← c.count-m.ensures.0))
-
-pub returns-then-is_missing : goal.returns-then-is_missing
-returns-then-is_missing c = some_here _ _ _ _ c.loop-k.invariant.1 c.loop-k-test.true (sym c.is_missing.ensures ∙ c.if-is_missing.true)
-
-pub loop-k-preserved : goal.loop-k-preserved
-loop-k-preserved c = (omega arith, some_next _ _ _ _ c.loop-k.invariant.1 c.loop-k-test.true (sym c.is_missing.ensures ∙ c.if-is_missing.false))
-
 pub returns : goal.returns
-returns c = some_over _ _ _ _ c.loop-k.invariant.1 c.loop-k-test.false
+unfolding lacking
+returns c =
+    any_from_yields_List (λ k. (column_of c.args.f k).must && eqb (get_or c.args.at k 0) 0) _ _ c.any.result c.any.ensures.ran (YieldsList-from_range 0 c.count.result (count_of c.args.f) refl (omega (arith, c.count.ensures.0))) (λ x b q k. search (rules, tests))
+    ∙ some_any _ 0 (count_of c.args.f)

@@ -8,25 +8,19 @@ use Rattle.meaning.specs.declared.Bounds.{Bounds}
 use Rattle.columns.proofs.near_cells.Goals as goal
 
 pub loop-k-init : goal.loop-k-init
-loop-k-init c = (omega arith, tab_none_yet _, tab_none_yet _)
-
-pub field_by-b-requires : goal.field_by-b-requires
-field_by-b-requires c = c.requires
+loop-k-init c = (tab_none_yet _, tab_none_yet _)
 
 pub loop-k-preserved : goal.loop-k-preserved
 loop-k-preserved c =
     let i = c.loop-k.invariant in
-    let e = c.field_by-b.ensures in (
-      omega arith,
-      tab_more _ _ _ _ (omega arith) (ap (λ (b : Bounds). b.start) e) _ i.1,
-      tab_more _ _ _ _ (omega arith) (ap (λ (b : Bounds). b.end) e) _ i.2,
-    )
+    let e = c.field_by-b.ensures in
+    (tab_more _ _ _ _ (omega arith) (ap (λ (b : Bounds). b.start) e) _ i.0, tab_more _ _ _ _ (omega arith) (ap (λ (b : Bounds). b.end) e) _ i.1)
 
 pub returns : goal.returns
 returns c =
     let a = c.args in
     let i = c.loop-k.invariant in
     let w : length a.at ≡ 10 = omega arith in (
-      tab_map (λ p. (field_by a.count a.starts.now p).start) a.at _ 10 c.loop-k-test.false i.0 w _ i.1,
-      tab_map (λ p. (field_by a.count a.starts.now p).end) a.at _ 10 c.loop-k-test.false i.0 w _ i.2,
+      tab_map (λ p. (field_by a.count a.starts.now p).start) a.at _ 10 (omega arith) (omega arith) w _ i.0,
+      tab_map (λ p. (field_by a.count a.starts.now p).end) a.at _ 10 (omega arith) (omega arith) w _ i.1,
     )

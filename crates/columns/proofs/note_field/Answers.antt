@@ -4,22 +4,22 @@ use Rattle.columns.specs.Columns.{noted}
 use mathlib.Core.Path.{◌≡◌, refl}
 use native.Mathlib.Omega.{arith}
 use Rattle.columns.proofs.note_field.Goals as goal
-use Rattle.columns.proofs.note_field.Goals.{then-at-k, else-at-k}
+use Rattle.columns.proofs.note_field.Goals.{then-p-j, else-p-j}
 
 pub loop-k-init : goal.loop-k-init
 unfolding noted
-loop-k-init c = (omega arith, (refl, refl))
+loop-k-init c = (refl, refl)
 
 pub loop-k-preserved : goal.loop-k-preserved
 loop-k-preserved c =
-    let i = c.loop-k.invariant.1 in
-    elim c.if-at-k.branch [
-      | then-at-k w ↦ (omega arith, (rw w.start-is (note_yes _ _ _ _ (omega arith) _ _ i.0 w.if-at-k.true), rw w.end-is (note_yes _ _ _ _ (omega arith) _ _ i.1 w.if-at-k.true)))
-      | else-at-k w ↦ (omega arith, (rw w.start-is (note_no _ _ _ _ (omega arith) _ _ i.0 w.if-at-k.false), rw w.end-is (note_no _ _ _ _ (omega arith) _ _ i.1 w.if-at-k.false)))
+    let i = c.loop-k.invariant in
+    elim c.if-p-j.branch [
+      | then-p-j w ↦ (rw w.start-is (note_yes _ _ _ _ (omega arith) _ _ i.0 w.if-p-j.true), rw w.end-is (note_yes _ _ _ _ (omega arith) _ _ i.1 w.if-p-j.true))
+      | else-p-j w ↦ (rw w.start-is (note_no _ _ _ _ (omega arith) _ _ i.0 w.if-p-j.false), rw w.end-is (note_no _ _ _ _ (omega arith) _ _ i.1 w.if-p-j.false))
     ]
 
 pub returns : goal.returns
 returns c =
     let e : c.loop-k.k ≡ 10 = omega arith in
-    let i = c.loop-k.invariant.1 in
+    let i = c.loop-k.invariant in
     (rw (← e) i.0, rw (← e) i.1)

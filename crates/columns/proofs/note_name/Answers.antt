@@ -1,29 +1,25 @@
 -- `columns::note_name` meets its contract.
-use Rattle.columns.specs.Columns.{firsts_with, again_with}
-use borrow.Author.Tests.{eq-eqb, ne_eqb}
+use Rattle.columns.proofs.Standings.{new_first, new_again, old_first, old_again}
+use Rattle.columns.specs.Columns.{firsts_with, again_with, told}
+use mathlib.Core.Path.{ap, ◌∙◌}
 use Rattle.columns.proofs.note_name.Goals as goal
 
-pub returns-then-k-eq0 : goal.returns-then-k-eq0
-unfolding firsts_with again_with
-returns-then-k-eq0 c = let z = eq-eqb _ _ c.if-k-eq0.true in (rw z, rw z)
+pub returns-in_default-clause-at_value : goal.returns-in_default-clause-at_value
+unfolding firsts_with
+returns-in_default-clause-at_value c = rw c.in_default.is
 
-pub returns-then-at-k-eq0 : goal.returns-then-at-k-eq0
-unfolding firsts_with again_with
-returns-then-at-k-eq0 c =
-    let z = ne_eqb _ _ c.if-k-eq0.false in
-    let p = eq-eqb _ _ c.if-at-k-eq0.true in
-    (rw (z, p), rw (z, p))
+pub returns-in_default-clause-again_value : goal.returns-in_default-clause-again_value
+unfolding again_with
+returns-in_default-clause-again_value c = λ a e h. rw c.in_default.is e
 
-pub returns-then-again-eq0 : goal.returns-then-again-eq0
-unfolding firsts_with again_with
-returns-then-again-eq0 c =
-    let z = ne_eqb _ _ c.if-k-eq0.false in
-    let p = ne_eqb _ _ c.if-at-k-eq0.false in
-    (rw (z, p), rw (z, p, eq-eqb _ _ c.if-again-eq0.true))
+pub returns-then-at-k-eq0-clause-at_value : goal.returns-then-at-k-eq0-clause-at_value
+returns-then-at-k-eq0-clause-at_value c = rw c.in-Some.is (new_first _ _ _ c.if-at-k-eq0.true)
 
-pub returns : goal.returns
-unfolding firsts_with again_with
-returns c =
-    let z = ne_eqb _ _ c.if-k-eq0.false in
-    let p = ne_eqb _ _ c.if-at-k-eq0.false in
-    (rw (z, p), rw (z, p, ne_eqb _ _ c.if-again-eq0.false))
+pub returns-then-at-k-eq0-clause-again_value : goal.returns-then-at-k-eq0-clause-again_value
+returns-then-at-k-eq0-clause-again_value c = λ a e h. rw c.in-Some.is (e ∙ ap told (new_again _ _ _ a c.if-at-k-eq0.true))
+
+pub returns-clause-at_value : goal.returns-clause-at_value
+returns-clause-at_value c = rw c.in-Some.is (old_first _ _ _ c.if-at-k-eq0.false)
+
+pub returns-clause-again_value : goal.returns-clause-again_value
+returns-clause-again_value c = λ a e h. rw c.in-Some.is (c.or.ensures ∙ rw e (old_again _ _ _ a c.if-at-k-eq0.false h))

@@ -8,19 +8,19 @@ use native.Mathlib.Omega.{arith}
 use Rattle.columns.proofs.read_header.Goals as goal
 
 pub slice_bounds-header_names-count : goal.slice_bounds-header_names-count
-slice_bounds-header_names-count c = (line_found _ _ _ _ _ (sym c.next_line.ensures ∙ c.in-Line.is)).ordered
+slice_bounds-header_names-count c = (line_found _ _ _ _ _ (sym c.next_line.ensures ∙ c.in-Some.is)).ordered
 
 pub slice_bounds-header_names-start : goal.slice_bounds-header_names-start
-slice_bounds-header_names-start c = let h = line_found _ _ _ _ _ (sym c.next_line.ensures ∙ c.in-Line.is) in omega (arith, h.ordered)
+slice_bounds-header_names-start c = let h = line_found _ _ _ _ _ (sym c.next_line.ensures ∙ c.in-Some.is) in omega (arith, h.ordered)
 
 pub slice_bounds-header_names-end : goal.slice_bounds-header_names-end
-slice_bounds-header_names-end c = let h = line_found _ _ _ _ _ (sym c.next_line.ensures ∙ c.in-Line.is) in omega (arith, h.before, h.within)
+slice_bounds-header_names-end c = let h = line_found _ _ _ _ _ (sym c.next_line.ensures ∙ c.in-Some.is) in omega (arith, h.before, h.within)
 
-pub returns-in-Line : goal.returns-in-Line
+pub returns : goal.returns
 unfolding part
-returns-in-Line c = header_found _ _ c.body_start-at.ensures.0 _ _ _ _ _ (line_found _ _ _ _ _ (sym c.next_line.ensures ∙ c.in-Line.is)) c.header_names-names.ensures.0
+returns c = header_found _ _ c.body_start-at.ensures.0 _ _ _ _ _ (line_found _ _ _ _ _ (sym c.next_line.ensures ∙ c.in-Some.is)) c.header_names-names.ensures.0
 
-pub returns-in-Done : goal.returns-in-Done
-returns-in-Done c =
-    let z = no_header _ _ c.body_start-at.ensures.0 (line_none _ _ (sym c.next_line.ensures ∙ c.in-Done.is)) in
+pub returns-in_default : goal.returns-in_default
+returns-in_default c =
+    let z = no_header _ _ c.body_start-at.ensures.0 (line_none _ _ (sym c.next_line.ensures ∙ c.in_default.is)) in
     absurd (omega (arith, z, c.requires.1))

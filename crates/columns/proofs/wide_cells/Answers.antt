@@ -8,26 +8,26 @@ use native.Mathlib.Omega.{arith}
 use lib.ListN.{length}
 use Rattle.columns.proofs.wide_cells.Goals as goal
 
-pub loop-start-init : goal.loop-start-init
-loop-start-init c =
+pub loop-field-init : goal.loop-field-init
+loop-field-init c =
     let w : length c.args.at ≡ 10 = omega arith in
     (omega arith, omega arith, omega arith, fields_first _ _ c.new-c.ensures.0, seen_first (λ b. b.start) refl _ _ 10 w, seen_first (λ b. b.end) refl _ _ 10 w)
 
 pub overflow_add-n : goal.overflow_add-n
 overflow_add-n c =
-    let s = field_found _ _ _ _ _ (sym c.next.ensures ∙ c.in-Field.is) in
+    let s = field_found _ _ _ _ _ (sym c.next.ensures ∙ c.in-Some.is) in
     omega arith
 
-pub loop-start-smaller : goal.loop-start-smaller
-loop-start-smaller c =
-    let s = field_found _ _ _ _ _ (sym c.next.ensures ∙ c.in-Field.is) in
+pub loop-field-smaller : goal.loop-field-smaller
+loop-field-smaller c =
+    let s = field_found _ _ _ _ _ (sym c.next.ensures ∙ c.in-Some.is) in
     omega arith
 
-pub loop-start-preserved : goal.loop-start-preserved
-loop-start-preserved c =
-    let i = c.loop-start.invariant in
+pub loop-field-preserved : goal.loop-field-preserved
+loop-field-preserved c =
+    let i = c.loop-field.invariant in
     let w : length c.args.at ≤ 10 = omega (arith, c.well_formed) in
-    let s = field_found _ _ _ _ _ (sym c.next.ensures ∙ c.in-Field.is) in
+    let s = field_found _ _ _ _ _ (sym c.next.ensures ∙ c.in-Some.is) in
     let h = field_here _ _ _ i.1 i.3 _ _ _ s in (
       omega arith,
       omega arith,
@@ -37,9 +37,9 @@ loop-start-preserved c =
       c.note_field-cells.ensures.1 ∙ rw i.5 (seen_turn (λ b. b.end) _ _ _ 10 _ w (rw h)),
     )
 
-pub returns-in-Done : goal.returns-in-Done
+pub returns : goal.returns
 unfolding starts_of ends_of
-returns-in-Done c =
-    let i = c.loop-start.invariant in
-    let o = fields_over _ _ _ i.1 i.3 (field_none _ _ (sym c.next.ensures ∙ c.in-Done.is)) in
+returns c =
+    let i = c.loop-field.invariant in
+    let o = fields_over _ _ _ i.1 i.3 (field_none _ _ (sym c.next.ensures ∙ c.in_default.is)) in
     (i.4 ∙ seen_last (λ b. b.start) refl _ _ _ o, i.5 ∙ seen_last (λ b. b.end) refl _ _ _ o)

@@ -7,28 +7,28 @@ use Rattle.file_faults.proofs.Steps.{any_found, any_none}
 use Rattle.file_faults.proofs.Walk.{left_next, left_last}
 use Rattle.file_faults.proofs.list_later.Goals as goal
 
-pub loop-start-init : goal.loop-start-init
-loop-start-init c = (λ h k. refl, (omega arith, (omega arith, (omega arith, (omega arith, refl)))))
+pub loop-line-init : goal.loop-line-init
+loop-line-init c = (λ h k. refl, (omega arith, (omega arith, (omega arith, (omega arith, refl)))))
 
 pub slice_bounds-list_line-count : goal.slice_bounds-list_line-count
 slice_bounds-list_line-count c =
-    let s = any_found _ _ _ _ _ (sym c.any_line.ensures ∙ c.in-Line.is) in
+    let s = any_found _ _ _ _ _ (sym c.any_line.ensures ∙ c.in-Some.is) in
     omega (arith, s.ordered)
 
 pub slice_bounds-list_line-start : goal.slice_bounds-list_line-start
 slice_bounds-list_line-start c =
-    let s = any_found _ _ _ _ _ (sym c.any_line.ensures ∙ c.in-Line.is) in
+    let s = any_found _ _ _ _ _ (sym c.any_line.ensures ∙ c.in-Some.is) in
     omega (arith, s.ordered, s.within)
 
 pub slice_bounds-list_line-end : goal.slice_bounds-list_line-end
 slice_bounds-list_line-end c =
-    let s = any_found _ _ _ _ _ (sym c.any_line.ensures ∙ c.in-Line.is) in
+    let s = any_found _ _ _ _ _ (sym c.any_line.ensures ∙ c.in-Some.is) in
     omega (arith, s.ordered, s.within)
 
 pub list_line-sink-requires : goal.list_line-sink-requires
 list_line-sink-requires c =
-    let s = any_found _ _ _ _ _ (sym c.any_line.ensures ∙ c.in-Line.is) in
-    let l = c.loop-start.invariant.1 in record {
+    let s = any_found _ _ _ _ _ (sym c.any_line.ensures ∙ c.in-Some.is) in
+    let l = c.loop-line.invariant.1 in record {
       f_bound = (c.requires.f_bound.0, (omega (arith, l.1.0, s.further, s.inside, c.requires.f_bound.1.0), omega (arith, l.1.1.0, l.1.1.1.0, c.requires.f_bound.1.0, c.requires.f_bound.1.1)));
       all_known = c.all_known-known.ensures;
       header = c.requires.header;
@@ -36,27 +36,27 @@ list_line-sink-requires c =
 
 pub overflow_add-n : goal.overflow_add-n
 overflow_add-n c =
-    let s = any_found _ _ _ _ _ (sym c.any_line.ensures ∙ c.in-Line.is) in
-    omega (arith, c.loop-start.invariant.1.1.0, s.further, s.inside)
+    let s = any_found _ _ _ _ _ (sym c.any_line.ensures ∙ c.in-Some.is) in
+    omega (arith, c.loop-line.invariant.1.1.0, s.further, s.inside)
 
-pub loop-start-smaller : goal.loop-start-smaller
-loop-start-smaller c =
-    let s = any_found _ _ _ _ _ (sym c.any_line.ensures ∙ c.in-Line.is) in
+pub loop-line-smaller : goal.loop-line-smaller
+loop-line-smaller c =
+    let s = any_found _ _ _ _ _ (sym c.any_line.ensures ∙ c.in-Some.is) in
     omega (arith, s.further, s.inside)
 
-pub loop-start-preserved : goal.loop-start-preserved
+pub loop-line-preserved : goal.loop-line-preserved
 unfolding part
-loop-start-preserved c =
-    let s = any_found _ _ _ _ _ (sym c.any_line.ensures ∙ c.in-Line.is) in
-    let l = c.loop-start.invariant in (
+loop-line-preserved c =
+    let s = any_found _ _ _ _ _ (sym c.any_line.ensures ∙ c.in-Some.is) in
+    let l = c.loop-line.invariant in (
       λ h k. left_next _ _ h _ _ _ _ _ _ _ _ _ s (c.list_line-sink.ensures.by_index h k) (l.0 h k),
       (omega (arith, l.1.0, s.further), (omega (arith, l.1.1.0, s.further), (omega (arith, s.inside), (omega (arith, c.list_line-sink.ensures.total_bound, l.1.1.1.1.0, l.1.0, s.further), search rules)))),
     )
 
-pub returns-in-Done : goal.returns-in-Done
-returns-in-Done c =
-    let e = any_none _ _ (sym c.any_line.ensures ∙ c.in-Done.is) in
-    let l = c.loop-start.invariant in record {
+pub returns : goal.returns
+returns c =
+    let e = any_none _ _ (sym c.any_line.ensures ∙ c.in_default.is) in
+    let l = c.loop-line.invariant in record {
       by_index = λ h k. left_last _ _ h _ _ _ _ _ e (l.0 h k);
       total_bound = omega (arith, l.1.1.1.0, l.1.1.1.1.0);
     }

@@ -9,10 +9,10 @@ use Rattle.faults.specs.List.{texts_from, later_faults}
 use Rattle.file_faults.specs.Walk.{Heads}
 use Rattle.file_faults.proofs.list_later.Given as goal
 
-abbrev pub invariant-loop-start : goal.invariant-loop-start
-invariant-loop-start l =
-    ((h : List ℕ) → Heads l.f h l.good l.c.at l.c.count → adding quad l.p (later_faults l.f h l.n (texts_from l.s l.at)) (state l.out l.sink) ≡ adding quad l.p (later_faults l.f h 2 (texts_from l.s l.from)) (state l.initial.out l.initial.sink))
+abbrev pub invariant-loop-line : goal.invariant-loop-line
+invariant-loop-line l =
+    ((h : List ℕ) → Heads l.f h l.header → adding quad l.p (later_faults l.f h l.n (texts_from l.s l.at)) (state l.out l.sink) ≡ adding quad l.p (later_faults l.f h 2 (texts_from l.s l.from)) (state l.initial.out l.initial.sink))
     × ((l.from ≤ l.at) × ((l.n ≤ l.at + 2) × ((l.at - l.from ≤ length l.s) × ((l.sink.total ≤ l.initial.sink.total + (l.at - l.from)) × (length l.out ≡ length l.initial.out)))))
 
-abbrev pub decreases-loop-start : goal.decreases-loop-start
-decreases-loop-start l = length l.s - l.at
+abbrev pub decreases-loop-line : goal.decreases-loop-line
+decreases-loop-line l = length l.s - l.at

@@ -1,6 +1,6 @@
 -- What the loop of `file_rules::list_file` keeps.
 use mathlib.Core.Path.{◌≡◌}
-use Prim.Native.Nat.{◌+◌, ◌*◌, ◌-◌, ◌≤◌}
+use Prim.Native.Nat.{◌+◌, ◌*◌, ◌≤◌}
 use lib.ListN.{length}
 use Rattle.meaning.specs.declared.Profile.{Profile}
 use Rattle.meaning.specs.declared.Profile.TheVariants.{Boards}
@@ -14,6 +14,3 @@ abbrev pub invariant-loop-i : goal.invariant-loop-i
 invariant-loop-i l =
     ((asked : Profile) → l.rules ≡ rule_count asked l.f → (w : Feed) → Ready l.f l.n w l.t l.stops l.marks → Left asked l.p l.f w l.i (state l.out l.sink) (state l.initial.out l.initial.sink))
     × ((l.i ≤ l.n) × ((l.sink.total ≤ l.initial.sink.total + rule_count Boards l.f * l.i) × (length l.out ≡ length l.initial.out)))
-
-abbrev pub decreases-loop-i : goal.decreases-loop-i
-decreases-loop-i l = l.n - l.i

@@ -4,4 +4,5 @@ use Rattle.file_rules.proofs.service_line.Goals as goal
 
 pub returns : goal.returns
 returns c =
-    λ w n stops h inside. service_line_is h inside c.is_marked.ensures c.start_at.ensures c.end_at.ensures c.judge_service.ensures
+    let row = c.new-row.ensures in
+    λ w n stops h inside. service_line_is h inside (rw row at c.is_marked.ensures) (rw row at c.start_at.ensures) (rw row at c.end_at.ensures) c.judge_service.ensures

@@ -4,4 +4,5 @@ use Rattle.file_rules.proofs.trip_line.Goals as goal
 
 pub returns : goal.returns
 returns c =
-    λ w n stops h inside. trip_line_is h inside c.is_marked.ensures c.route_at.ensures c.service_at.ensures c.dated_at.ensures c.is_marked-2.ensures c.is_marked-3.ensures c.judge_trip.ensures
+    let row = c.new-row.ensures in
+    λ w n stops h inside. trip_line_is h inside (rw row at c.is_marked.ensures) (rw row at c.route_at.ensures) (rw row at c.service_at.ensures) (rw row at c.dated_at.ensures) (rw row at c.is_marked-2.ensures) (rw row at c.is_marked-3.ensures) c.judge_trip.ensures

@@ -1,48 +1,35 @@
 -- `forms::clock_of` meets its contract.
+use Rattle.forms.proofs.Laws.{either}
 use Rattle.meaning.specs.Forms.{clock_of}
-use borrow.Author.Tests.{lt-ltb, le-ltb}
-use native.Mathlib.Omega.{arith}
+use Rattle.meaning.specs.declared.Time.TheVariants.{NoTime}
+use Rattle.std.proofs.Common.{sym, lt-ltb, le-ltb}
 use Rattle.forms.proofs.clock_of.Goals as goal
+use Rattle.forms.proofs.clock_of.Goals.{else-colons-via-then-colons+then-b-lt60+else-e-lt60, else-colons-via-then-colons+else-b-lt60, else-colons-via-else-colons}
 
 pub returns-in_default : goal.returns-in_default
 unfolding clock_of
-returns-in_default c = rw (c.if-colons.true, c.in_default.is)
+returns-in_default c = rw (c.in_default.is-0, c.in_default.is-1, c.in_default.is-2) (sym (either c.args.colons NoTime))
 
-pub returns-in_default-m : goal.returns-in_default-m
+pub returns-in_default-2 : goal.returns-in_default-2
 unfolding clock_of
-returns-in_default-m c = rw (c.if-colons.true, c.in-Value.is, c.in_default-m.is)
+returns-in_default-2 c = rw (c.in_default.is-0, c.in_default.is-1) (sym (either c.args.colons NoTime))
 
-pub returns-in_default-x : goal.returns-in_default-x
+pub returns-in_default-3 : goal.returns-in_default-3
 unfolding clock_of
-returns-in_default-x c = rw (c.if-colons.true, c.in-Value.is, c.in-Value-m.is, c.in_default-x.is)
-
-pub overflow_mul-result : goal.overflow_mul-result
-overflow_mul-result c =
-    let k = c.requires _ c.in-Value.is in
-    omega (arith, k)
-
-pub overflow_add-result : goal.overflow_add-result
-overflow_add-result c =
-    let k = c.requires _ c.in-Value.is in
-    omega (arith, k)
-
-pub overflow_add-result-then-e-lt60 : goal.overflow_add-result-then-e-lt60
-overflow_add-result-then-e-lt60 c =
-    let k = c.requires _ c.in-Value.is in
-    omega (arith, k)
+returns-in_default-3 c = rw c.in_default.is-0 (sym (either c.args.colons NoTime))
 
 pub returns-then-e-lt60 : goal.returns-then-e-lt60
 unfolding clock_of
-returns-then-e-lt60 c = rw (c.if-colons.true, c.in-Value.is, c.in-Value-m.is, c.in-Value-x.is, lt-ltb _ _ c.if-b-lt60.true, lt-ltb _ _ c.if-e-lt60.true)
+returns-then-e-lt60 c =
+    let k = c.in-Some-Some-Some in
+    rw (c.if-colons.true, k.is-0, k.is-1, k.is-2, lt-ltb _ _ c.if-b-lt60.true, lt-ltb _ _ c.if-e-lt60.true)
 
-pub returns-else-e-lt60 : goal.returns-else-e-lt60
+pub returns : goal.returns
 unfolding clock_of
-returns-else-e-lt60 c = rw (c.if-colons.true, c.in-Value.is, c.in-Value-m.is, c.in-Value-x.is, lt-ltb _ _ c.if-b-lt60.true, le-ltb _ _ c.if-e-lt60.false)
-
-pub returns-else-b-lt60 : goal.returns-else-b-lt60
-unfolding clock_of
-returns-else-b-lt60 c = rw (c.if-colons.true, c.in-Value.is, c.in-Value-m.is, c.in-Value-x.is, le-ltb _ _ c.if-b-lt60.false)
-
-pub returns-else-colons : goal.returns-else-colons
-unfolding clock_of
-returns-else-colons c = rw c.if-colons.false
+returns c =
+    let k = c.in-Some-Some-Some in
+    elim c.else-colons.branch [
+      | else-colons-via-then-colons+then-b-lt60+else-e-lt60 w ↦ rw (w.if-colons.true, k.is-0, k.is-1, k.is-2, lt-ltb _ _ w.if-b-lt60.true, le-ltb _ _ w.if-e-lt60.false)
+      | else-colons-via-then-colons+else-b-lt60 w ↦ rw (w.if-colons.true, k.is-0, k.is-1, k.is-2, le-ltb _ _ w.if-b-lt60.false)
+      | else-colons-via-else-colons w ↦ rw w.if-colons.false
+    ]

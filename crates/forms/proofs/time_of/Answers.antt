@@ -8,4 +8,4 @@ use Rattle.forms.proofs.time_of.Goals as goal
 
 pub returns : goal.returns
 unfolding time_of
-returns c = raw_is NoTime time_text time_marked TimeFits time_fits _ _ c.content_of-v.ensures.0 _ c.time_text.ensures
+returns c = raw_is NoTime time_text time_marked TimeFits time_fits _ _ c.content_of.ensures.0 _ c.time_text.ensures

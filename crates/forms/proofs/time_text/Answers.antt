@@ -1,20 +1,22 @@
 -- `forms::time_text` meets its contract.
 use Rattle.meaning.specs.Forms.{time_text}
-use borrow.Author.Tests.{eq-eqb, ne_eqb}
+use Rattle.std.proofs.Common.{rules, length, eq-eqb, ne_eqb}
 use Rattle.forms.proofs.time_text.Goals as goal
 
-pub returns-then-v-eq0 : goal.returns-then-v-eq0
+pub returns-in-0 : goal.returns-in-0
 unfolding time_text
-returns-then-v-eq0 c = rw (eq-eqb _ _ c.if-v-eq0.true)
+returns-in-0 c = rw (eq-eqb _ _ c.in-0.is)
 
-pub returns-then-v-eq7 : goal.returns-then-v-eq7
+pub returns-in-7 : goal.returns-in-7
 unfolding time_text
-returns-then-v-eq7 c = rw (ne_eqb _ _ c.if-v-eq0.false, eq-eqb _ _ c.if-v-eq7.true) c.clock_at.ensures
+returns-in-7 c = rw c.in-7.is c.clock_at.ensures
 
-pub returns-then-v-eq8 : goal.returns-then-v-eq8
+pub returns-in-8 : goal.returns-in-8
 unfolding time_text
-returns-then-v-eq8 c = rw (ne_eqb _ _ c.if-v-eq0.false, ne_eqb _ _ c.if-v-eq7.false, eq-eqb _ _ c.if-v-eq8.true) c.clock_at-then-v-eq8.ensures
+returns-in-8 c = rw c.in-8.is c.clock_at-in-8.ensures
 
-pub returns : goal.returns
+pub returns-in_default : goal.returns-in_default
 unfolding time_text
-returns c = rw (ne_eqb _ _ c.if-v-eq0.false, ne_eqb _ _ c.if-v-eq7.false, ne_eqb _ _ c.if-v-eq8.false)
+returns-in_default c =
+    let n = length c.args.v.now in
+    rw (ne_eqb n 0 (search rules), ne_eqb n 7 (search rules), ne_eqb n 8 (search rules))

@@ -1,36 +1,36 @@
 -- `index_check::falls` meets its contract.
-use Rattle.index_check.proofs.Laws.{entry_fits, falls_first, listed_fits, falls_at}
-use Rattle.columns.proofs.Laws.{some_over, some_here, some_next}
-use mathlib.Core.Path.{sym, ◌∙◌}
+use Rattle.index_check.proofs.Laws.{falls_first, falls_next, listed_fits, falls_at, fewer}
+use Rattle.columns.proofs.Laws.{some_over, some_here}
+use mathlib.Core.Path.{refl, sym, ◌∙◌}
 use Prim.Native.Nat.{◌+◌, ◌-◌}
 use native.Mathlib.Omega.{arith}
 use Rattle.index_check.proofs.falls.Goals as goal
 
 pub loop-i-init : goal.loop-i-init
-loop-i-init c = (omega arith, falls_first _ _ _ _ _ c.requires.reads.1.count)
+loop-i-init c = falls_first _ _ _ _ _ c.requires.reads.1.count
+
+pub entry_at-last-requires : goal.entry_at-last-requires
+entry_at-last-requires c = (c.requires.entries.wide, omega (arith, fewer _ _ _ c.requires.reads.0 c.requires.reads.1.count))
 
 pub entry_at-requires : goal.entry_at-requires
-entry_at-requires c = (c.requires.entries.wide, entry_fits c.args.v c.args.b.now c.args.n _ c.requires.entries.size (omega arith))
-
-pub entry_at-requires-in-loop-i : goal.entry_at-requires-in-loop-i
-entry_at-requires-in-loop-i c = (c.requires.entries.wide, entry_fits c.args.v c.args.b.now c.args.n _ c.requires.entries.size c.loop-i-test.true)
+entry_at-requires c = (c.requires.entries.wide, omega (arith, fewer _ _ _ c.requires.reads.0 c.requires.reads.1.count))
 
 pub is_before-requires : goal.is_before-requires
 is_before-requires c =
     let i = c.loop-i.i in
     let more = c.loop-i-test.true in
     let fits = listed_fits c.args.f c.args.s.now c.args.n c.args.t.now c.requires.reads.0 c.requires.reads.1 c.args.v c.args.b.now c.requires.entries in
-    (fits i (omega arith) _ c.entry_at.ensures.0 c.requires.reads.2, fits (i + 1) more _ c.entry_at-in-loop-i.ensures.0 c.requires.reads.2)
+    (fits (i - 1) (omega arith) _ c.entry_at-last.ensures.0 c.requires.reads.2, fits i more _ c.entry_at.ensures.0 c.requires.reads.2)
 
 pub returns-then-not-is_before : goal.returns-then-not-is_before
 returns-then-not-is_before c =
-    let k = falls_at c.args.f c.args.s.now c.args.n c.args.t.now c.requires.reads.0 c.requires.reads.1 c.args.v c.args.b.now c.requires.entries c.loop-i.i c.loop-i-test.true _ _ c.entry_at.ensures.0 c.entry_at-in-loop-i.ensures.0 _ c.is_before.ensures in
-    some_here _ c.loop-i.i (c.args.n - 1) _ c.loop-i.invariant.1 (omega arith) (sym k ∙ c.if-not-is_before.true-raw)
+    let k = falls_at c.args.f c.args.s.now c.args.n c.args.t.now c.requires.reads.0 c.requires.reads.1 c.args.v c.args.b.now c.requires.entries (c.loop-i.i - 1) c.loop-i.i (omega (arith, c.loop-i.auto.i)) c.loop-i-test.true _ _ c.entry_at-last.ensures.0 c.entry_at.ensures.0 _ c.is_before.ensures in
+    some_here _ (c.loop-i.i - 1) (c.args.n - 1) _ c.loop-i.invariant (omega (arith, c.loop-i.auto.i)) (sym k ∙ c.if-not-is_before.true-raw)
 
 pub loop-i-preserved : goal.loop-i-preserved
 loop-i-preserved c =
-    let k = falls_at c.args.f c.args.s.now c.args.n c.args.t.now c.requires.reads.0 c.requires.reads.1 c.args.v c.args.b.now c.requires.entries c.loop-i.i c.loop-i-test.true _ _ c.entry_at.ensures.0 c.entry_at-in-loop-i.ensures.0 _ c.is_before.ensures in
-    (omega arith, some_next _ c.loop-i.i (c.args.n - 1) _ c.loop-i.invariant.1 (omega arith) (sym k ∙ c.if-not-is_before.false-raw))
+    let k = falls_at c.args.f c.args.s.now c.args.n c.args.t.now c.requires.reads.0 c.requires.reads.1 c.args.v c.args.b.now c.requires.entries (c.loop-i.i - 1) c.loop-i.i (omega (arith, c.loop-i.auto.i)) c.loop-i-test.true _ _ c.entry_at-last.ensures.0 c.entry_at.ensures.0 _ c.is_before.ensures in
+    falls_next _ c.loop-i.i c.args.n _ c.loop-i.auto.i c.loop-i.invariant c.loop-i-test.true (sym k ∙ c.if-not-is_before.false-raw) _ refl
 
 pub returns : goal.returns
-returns c = some_over _ c.loop-i.i (c.args.n - 1) _ c.loop-i.invariant.1 (omega arith)
+returns c = some_over _ (c.loop-i.i - 1) (c.args.n - 1) _ c.loop-i.invariant (omega arith)

@@ -4,11 +4,8 @@ use Rattle.meaning.specs.Lists.{some}
 use Rattle.indexes.specs.Order.{ids_of}
 use Rattle.indexes.specs.Index.{rule44}
 use mathlib.Core.Path.{◌≡◌}
-use Prim.Native.Nat.{◌-◌, ◌≤◌}
+use Prim.Native.Nat.{◌-◌}
 use Rattle.index_check.proofs.falls.Given as goal
 
 abbrev pub invariant-loop-i : goal.invariant-loop-i
-invariant-loop-i l = (l.i ≤ l.n) × (some (falling l.v (ids_of l.f l.s) l.b) l.i (l.n - 1 - l.i) ≡ rule44 l.v (ids_of l.f l.s) l.b)
-
-abbrev pub decreases-loop-i : goal.decreases-loop-i
-decreases-loop-i l = l.n - l.i
+invariant-loop-i l = some (falling l.v (ids_of l.f l.s) l.b) (l.i - 1) (l.n - 1 - (l.i - 1)) ≡ rule44 l.v (ids_of l.f l.s) l.b

@@ -1,5 +1,4 @@
 -- `index_check::has_stray` meets its contract.
-use Rattle.index_check.proofs.Laws.{entry_fits}
 use Rattle.columns.proofs.Laws.{some_over, some_here, some_next}
 use Rattle.indexes.specs.Index.{rule43}
 use mathlib.Core.Path.{sym, ◌∙◌}
@@ -9,9 +8,6 @@ use Rattle.index_check.proofs.has_stray.Goals as goal
 pub loop-i-init : goal.loop-i-init
 unfolding rule43
 loop-i-init c = simp unary_clauses
-
-pub is_stray-requires : goal.is_stray-requires
-is_stray-requires c = (c.requires.0, entry_fits c.args.v c.args.b.now c.args.n _ c.requires.1 c.loop-i-test.true)
 
 pub returns-then-is_stray : goal.returns-then-is_stray
 returns-then-is_stray c = some_here _ c.loop-i.i _ _ c.loop-i.invariant c.loop-i-test.true (sym c.is_stray.ensures ∙ c.if-is_stray.true)

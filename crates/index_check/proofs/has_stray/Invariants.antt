@@ -7,6 +7,3 @@ use Rattle.index_check.proofs.has_stray.Given as goal
 
 abbrev pub invariant-loop-i : goal.invariant-loop-i
 invariant-loop-i l = some (λ k. strays l.n (entry l.v l.b k)) l.i (l.n - l.i) ≡ rule43 l.v l.n l.b
-
-abbrev pub decreases-loop-i : goal.decreases-loop-i
-decreases-loop-i l = l.n - l.i

@@ -1,6 +1,6 @@
 -- `index_check::is_before` meets its contract.
 use Rattle.index_check.proofs.Laws.{before_told}
-use Rattle.ranking.specs.declared.Order.TheVariants.{Less, Equal, Greater}
+use Rattle.std.specs.declared.cmp.Ordering.TheVariants.{Less, Equal, Greater}
 use Rattle.ordering.specs.Cells.{cell_at}
 use mathlib.Core.Path.{sym, ◌∙◌}
 use Rattle.index_check.proofs.is_before.Goals as goal

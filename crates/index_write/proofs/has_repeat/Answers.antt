@@ -7,16 +7,16 @@ use native.Mathlib.Omega.{arith}
 use Rattle.index_write.proofs.has_repeat.Goals as goal
 
 pub loop-k-init : goal.loop-k-init
-loop-k-init c = (omega arith, refl)
+loop-k-init c = refl
 
 pub is_repeat-requires : goal.is_repeat-requires
 is_repeat-requires c = room_less {m = c.loop-k.k + 1} (omega arith) c.requires
 
 pub returns-then-is_repeat : goal.returns-then-is_repeat
-returns-then-is_repeat c = some_here _ _ _ _ c.loop-k.invariant.1 c.loop-k-test.true (sym c.is_repeat.ensures ∙ c.if-is_repeat.true)
+returns-then-is_repeat c = some_here _ _ _ _ c.loop-k.invariant c.loop-k-test.true (sym c.is_repeat.ensures ∙ c.if-is_repeat.true)
 
 pub loop-k-preserved : goal.loop-k-preserved
-loop-k-preserved c = (omega arith, some_next _ _ _ _ c.loop-k.invariant.1 c.loop-k-test.true (sym c.is_repeat.ensures ∙ c.if-is_repeat.false))
+loop-k-preserved c = some_next _ _ _ _ c.loop-k.invariant c.loop-k-test.true (sym c.is_repeat.ensures ∙ c.if-is_repeat.false)
 
 pub returns : goal.returns
-returns c = some_over _ _ _ _ c.loop-k.invariant.1 c.loop-k-test.false
+returns c = some_over _ _ _ _ c.loop-k.invariant c.loop-k-test.false

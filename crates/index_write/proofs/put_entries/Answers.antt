@@ -2,6 +2,7 @@
 use Rattle.meaning.specs.Bytes.{part}
 use Rattle.text.proofs.Lines.{line_found, line_none}
 use Rattle.text.proofs.Walk.{line_next}
+use Rattle.id_places.proofs.Own.{sized}
 use Rattle.id_places.proofs.Walk.{turn_inside, turn_fits, turn_past}
 use Rattle.index_write.proofs.Bytes.{within_self, within_trans}
 use Rattle.index_write.proofs.Entries.{start_is, entered_turn, entered_none}
@@ -10,57 +11,57 @@ use Prim.Native.Nat.{◌+◌, ◌≤◌}
 use native.Mathlib.Omega.{arith}
 use Rattle.index_write.proofs.put_entries.Goals as goal
 
-pub loop-start-init : goal.loop-start-init
-loop-start-init c = ((omega arith, omega arith), c.requires.at_value.0, within_self _ _ _, entered_none _ _ _ _ c.args.t.now _)
+pub loop-line-init : goal.loop-line-init
+loop-line-init c = ((omega arith, omega arith), c.requires.at_value.0, within_self _ _ _, entered_none _ _ _ _ c.args.t.now _)
 
 pub slice_bounds-field_start-count : goal.slice_bounds-field_start-count
-slice_bounds-field_start-count c = let h = line_found _ _ _ _ _ (sym c.next_line.ensures ∙ c.in-Line.is) in h.ordered
+slice_bounds-field_start-count c = let h = line_found _ _ _ _ _ (sym c.next_line.ensures ∙ c.in-Some.is) in h.ordered
 
 pub slice_bounds-field_start-start : goal.slice_bounds-field_start-start
-slice_bounds-field_start-start c = let h = line_found _ _ _ _ _ (sym c.next_line.ensures ∙ c.in-Line.is) in omega (arith, h.ordered)
+slice_bounds-field_start-start c = let h = line_found _ _ _ _ _ (sym c.next_line.ensures ∙ c.in-Some.is) in omega (arith, h.ordered)
 
 pub slice_bounds-field_start-end : goal.slice_bounds-field_start-end
-slice_bounds-field_start-end c = let h = line_found _ _ _ _ _ (sym c.next_line.ensures ∙ c.in-Line.is) in omega (arith, h.before, h.within)
+slice_bounds-field_start-end c = let h = line_found _ _ _ _ _ (sym c.next_line.ensures ∙ c.in-Some.is) in omega (arith, h.before, h.within)
 
-pub overflow_add-start : goal.overflow_add-start
+pub overflow_add-line : goal.overflow_add-line
 unfolding part
-overflow_add-start c = let h = line_found _ _ _ _ _ (sym c.next_line.ensures ∙ c.in-Line.is) in omega (arith, turn_fits c.args.s.now c.loop-start.here c.loop-start.r c.loop-start.invariant.1 _ _ _ h _ c.field_start-field.ensures.1 c.requires.s_len_bound.0)
+overflow_add-line c = let h = line_found _ _ _ _ _ (sym c.next_line.ensures ∙ c.in-Some.is) in omega (arith, turn_fits c.args.s.now c.loop-line.here c.loop-line.r c.loop-line.invariant.1 _ _ _ h _ c.field_start-field.ensures.1 c.requires.s_len_bound.0)
 
 pub put_entry-requires : goal.put_entry-requires
 unfolding part
 put_entry-requires c =
-    let h = line_found _ _ _ _ _ (sym c.next_line.ensures ∙ c.in-Line.is) in
+    let h = line_found _ _ _ _ _ (sym c.next_line.ensures ∙ c.in-Some.is) in
     let w = c.requires.reads.1 in
-    let i : c.loop-start.r ≤ c.args.n = omega (arith, turn_inside c.args.s.now c.loop-start.here c.loop-start.r c.loop-start.invariant.1 _ _ _ h, w.count) in
-    let e = start_is c.args.f c.args.s.now c.loop-start.here c.loop-start.r c.loop-start.invariant.1 _ _ _ h _ _ c.requires.at_value.1 c.field_start-field.ensures.0 in
-    let q = w.every c.loop-start.r c.loop-start.invariant.0.0 i in record {
-      room_at = (w.room, omega (arith, turn_fits c.args.s.now c.loop-start.here c.loop-start.r c.loop-start.invariant.1 _ _ _ h _ c.field_start-field.ensures.1 c.requires.s_len_bound.0));
+    let i : c.loop-line.r ≤ c.args.n = omega (arith, turn_inside c.args.s.now c.loop-line.here c.loop-line.r c.loop-line.invariant.1 _ _ _ h, w.count) in
+    let e = start_is c.args.f c.args.s.now c.loop-line.here c.loop-line.r c.loop-line.invariant.1 _ _ _ h _ _ c.requires.at_value.1 c.field_start-field.ensures.0 in
+    let q = w.every c.loop-line.r c.loop-line.invariant.0.0 i in record {
+      room_at = (w.room, omega (arith, turn_fits c.args.s.now c.loop-line.here c.loop-line.r c.loop-line.invariant.1 _ _ _ h _ c.field_start-field.ensures.1 c.requires.s_len_bound.0));
       sorted = (w.sorted, w.apart, rw e q);
-      wide = (c.requires.s_len_bound.1, omega (arith, c.loop-start.invariant.2.size, c.requires.reads.2), omega (arith, i, c.requires.s_len_bound.2));
+      wide = (c.requires.s_len_bound.1, omega (arith, c.loop-line.invariant.2.size, c.requires.reads.2), omega (arith, i, c.requires.s_len_bound.2), omega (arith, w.count, (sized _ _ c.requires.reads.0).few));
     }
 
 pub overflow_add-r : goal.overflow_add-r
-overflow_add-r c = let h = line_found _ _ _ _ _ (sym c.next_line.ensures ∙ c.in-Line.is) in omega (arith, turn_inside c.args.s.now c.loop-start.here c.loop-start.r c.loop-start.invariant.1 _ _ _ h, c.requires.reads.1.count, c.requires.s_len_bound.2)
+overflow_add-r c = let h = line_found _ _ _ _ _ (sym c.next_line.ensures ∙ c.in-Some.is) in omega (arith, turn_inside c.args.s.now c.loop-line.here c.loop-line.r c.loop-line.invariant.1 _ _ _ h, c.requires.reads.1.count, c.requires.s_len_bound.2)
 
-pub loop-start-smaller : goal.loop-start-smaller
-loop-start-smaller c = let h = line_found _ _ _ _ _ (sym c.next_line.ensures ∙ c.in-Line.is) in omega (arith, h.starts, h.ordered, h.before, h.within)
+pub loop-line-smaller : goal.loop-line-smaller
+loop-line-smaller c = let h = line_found _ _ _ _ _ (sym c.next_line.ensures ∙ c.in-Some.is) in omega (arith, h.starts, h.ordered, h.before, h.within)
 
-pub loop-start-preserved : goal.loop-start-preserved
+pub loop-line-preserved : goal.loop-line-preserved
 unfolding part
-loop-start-preserved c =
-    let h = line_found _ _ _ _ _ (sym c.next_line.ensures ∙ c.in-Line.is) in
+loop-line-preserved c =
+    let h = line_found _ _ _ _ _ (sym c.next_line.ensures ∙ c.in-Some.is) in
     let w = c.requires.reads.1 in
-    let i : c.loop-start.r ≤ c.args.n = omega (arith, turn_inside c.args.s.now c.loop-start.here c.loop-start.r c.loop-start.invariant.1 _ _ _ h, w.count) in
-    let e = start_is c.args.f c.args.s.now c.loop-start.here c.loop-start.r c.loop-start.invariant.1 _ _ _ h _ _ c.requires.at_value.1 c.field_start-field.ensures.0 in
+    let i : c.loop-line.r ≤ c.args.n = omega (arith, turn_inside c.args.s.now c.loop-line.here c.loop-line.r c.loop-line.invariant.1 _ _ _ h, w.count) in
+    let e = start_is c.args.f c.args.s.now c.loop-line.here c.loop-line.r c.loop-line.invariant.1 _ _ _ h _ _ c.requires.at_value.1 c.field_start-field.ensures.0 in
     let q = c.put_entry.ensures in (
       (omega arith, omega (arith, i)),
-      line_next c.args.s.now _ c.loop-start.here c.loop-start.r c.loop-start.invariant.1 _ _ _ h,
-      within_trans c.loop-start.invariant.2 q.within,
-      entered_turn c.args.v c.args.f c.args.s.now c.requires.reads.0 c.args.n c.args.t.now w c.loop-start.r c.loop-start.invariant.0.0 i _ _ c.loop-start.invariant.3 (rw e at q),
+      line_next c.args.s.now _ c.loop-line.here c.loop-line.r c.loop-line.invariant.1 _ _ _ h,
+      within_trans c.loop-line.invariant.2 q.within,
+      entered_turn c.args.v c.args.f c.args.s.now c.requires.reads.0 c.args.n c.args.t.now w c.loop-line.r c.loop-line.invariant.0.0 i _ _ c.loop-line.invariant.3 (rw e at q),
     )
 
-pub returns-in-Done : goal.returns-in-Done
-returns-in-Done c =
-    let all = turn_past c.args.s.now c.loop-start.here c.loop-start.r c.loop-start.invariant.1 (line_none _ _ (sym c.next_line.ensures ∙ c.in-Done.is)) (omega (arith, c.loop-start.invariant.0.1, c.requires.reads.1.count)) in
-    let e : c.loop-start.r ≡ c.args.n + 1 = omega (arith, all, c.requires.reads.1.count) in
-    (rw e at c.loop-start.invariant.3, c.loop-start.invariant.2)
+pub returns : goal.returns
+returns c =
+    let all = turn_past c.args.s.now c.loop-line.here c.loop-line.r c.loop-line.invariant.1 (line_none _ _ (sym c.next_line.ensures ∙ c.in_default.is)) (omega (arith, c.loop-line.invariant.0.1, c.requires.reads.1.count)) in
+    let e : c.loop-line.r ≡ c.args.n + 1 = omega (arith, all, c.requires.reads.1.count) in
+    (rw e at c.loop-line.invariant.3, c.loop-line.invariant.2)

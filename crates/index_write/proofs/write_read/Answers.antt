@@ -1,9 +1,9 @@
 -- `index_write::write_read` meets its contract.
-use Rattle.indexes.specs.declared.IndexAnswer.TheVariants.{Whole}
+use Rattle.std.specs.Prelude.{Ok}
 use Rattle.indexes.specs.Index.{index_length}
 use Rattle.indexes.proofs.Beside.{asked_range}
 use Rattle.id_places.proofs.Own.{sized, ids_count}
-use Rattle.indexes.proofs.Versions.{version_fits, few_bytes}
+use Rattle.indexes.proofs.Versions.{version_fits}
 use Rattle.index_write.proofs.Whole.{room_of, ranked_of, none_twins, some_twins}
 use Rattle.index_write.proofs.Answers.{repeated, short, roomy, laid_for}
 use mathlib.Core.Path.{refl, sym, ◌∙◌}
@@ -27,41 +27,24 @@ returns-then-has_repeat c =
       b_after = refl;
     }
 
-pub overflow_add-need : goal.overflow_add-need
-overflow_add-need c =
+pub length_of-need-requires : goal.length_of-need-requires
+length_of-need-requires c =
     let z = sized _ _ c.requires.0 in
     let few : c.place_ids-n.result < 2 ^ 32 = omega (arith, c.place_ids-n.ensures.ids.count, z.few) in
-    let fits = version_fits c.version_of-v.result c.place_ids-n.result c.version_of-v.ensures few in
-    omega (arith, fits.0.1)
-
-pub overflow_mul-need : goal.overflow_mul-need
-overflow_mul-need c =
-    let z = sized _ _ c.requires.0 in
-    let few : c.place_ids-n.result < 2 ^ 32 = omega (arith, c.place_ids-n.ensures.ids.count, z.few) in
-    let fits = version_fits c.version_of-v.result c.place_ids-n.result c.version_of-v.ensures few in
-    omega (arith, few_bytes c.version_of-v.result c.place_ids-n.result fits.0 few)
-
-pub overflow_add-need-2 : goal.overflow_add-need-2
-overflow_add-need-2 c =
-    let z = sized _ _ c.requires.0 in
-    let few : c.place_ids-n.result < 2 ^ 32 = omega (arith, c.place_ids-n.ensures.ids.count, z.few) in
-    let fits = version_fits c.version_of-v.result c.place_ids-n.result c.version_of-v.ensures few in
-    omega (arith, fits.0.1, few_bytes c.version_of-v.result c.place_ids-n.result fits.0 few)
+    ((version_fits c.version_of-v.result c.place_ids-n.result c.version_of-v.ensures few).0, few)
 
 pub returns-then-b-need : goal.returns-then-b-need
-unfolding index_length
 returns-then-b-need c =
     let a = c.args in
     let i = c.place_ids-n.ensures.ids in
     let room = room_of _ a.s.now a.t.now _ i.count c.requires.1 c.place_ids-n.ensures.t_len_unchanged in
     let w = ranked_of a.f a.s.now c.requires.0 _ _ _ i room c.sort.ensures.kept_at c.sort.ensures.sorted c.sort.ensures.moved in
     let n = ids_count a.f a.s.now _ i.count in record {
-      value = short _ _ (none_twins a.f a.s.now c.requires.0 _ _ w (sym c.has_repeat.ensures ∙ c.if-has_repeat.false)) _ n c.version_of-v.result c.version_of-v.ensures c.if-b-need.true;
+      value = short _ _ (none_twins a.f a.s.now c.requires.0 _ _ w (sym c.has_repeat.ensures ∙ c.if-has_repeat.false)) _ n c.version_of-v.result c.version_of-v.ensures (rw c.length_of-need.ensures.0 at c.if-b-need.true);
       b_after = refl;
     }
 
 pub put_index-requires : goal.put_index-requires
-unfolding index_length
 put_index-requires c =
     let a = c.args in
     let i = c.place_ids-n.ensures.ids in
@@ -70,19 +53,18 @@ put_index-requires c =
     let n = ids_count a.f a.s.now _ i.count in
     let z = sized _ _ c.requires.0 in
     let none = sym c.has_repeat.ensures ∙ c.if-has_repeat.false in record {
-      reads = (c.requires.0, w, c.if-b-need.false);
+      reads = (c.requires.0, w, rw c.length_of-need.ensures.0 at c.if-b-need.false);
       f_bound = (omega (arith, ((asked_range a.f a.s.now).0 c.requires.0.asked).1), none);
       s_len_bound = (z.short, omega (arith, i.count, z.few), c.version_of-v.ensures);
     }
 
 pub returns : goal.returns
-unfolding index_length
 returns c =
     let a = c.args in
     let i = c.place_ids-n.ensures.ids in
     let room = room_of _ a.s.now a.t.now _ i.count c.requires.1 c.place_ids-n.ensures.t_len_unchanged in
     let w = ranked_of a.f a.s.now c.requires.0 _ _ _ i room c.sort.ensures.kept_at c.sort.ensures.sorted c.sort.ensures.moved in
     let n = ids_count a.f a.s.now _ i.count in record {
-      value = roomy _ _ (none_twins a.f a.s.now c.requires.0 _ _ w (sym c.has_repeat.ensures ∙ c.if-has_repeat.false)) _ n c.version_of-v.result c.version_of-v.ensures c.if-b-need.false;
-      b_after = laid_for a.f a.s.now _ n c.version_of-v.result c.version_of-v.ensures (Whole (index_length c.version_of-v.result c.place_ids-n.result)) a.b.now _ c.put_index.ensures;
+      value = rw c.length_of-need.ensures.0 (roomy _ _ (none_twins a.f a.s.now c.requires.0 _ _ w (sym c.has_repeat.ensures ∙ c.if-has_repeat.false)) _ n c.version_of-v.result c.version_of-v.ensures (rw c.length_of-need.ensures.0 at c.if-b-need.false));
+      b_after = laid_for a.f a.s.now _ n c.version_of-v.result c.version_of-v.ensures (Ok (index_length c.version_of-v.result c.place_ids-n.result)) a.b.now _ c.put_index.ensures;
     }

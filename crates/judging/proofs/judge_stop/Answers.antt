@@ -1,7 +1,7 @@
 -- `judging::judge_stop` meets its contract.
-use Rattle.judging.specs.Judging.{filled_up, stop_judged}
+use Rattle.judging.specs.Judging.{stop_judged}
 use Rattle.judging.proofs.judge_stop.Goals as goal
 
 pub returns : goal.returns
-unfolding filled_up stop_judged
+unfolding stop_judged
 returns c = cc

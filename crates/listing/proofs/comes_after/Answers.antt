@@ -1,30 +1,18 @@
 -- `listing::comes_after` meets its contract.
+use mathlib.Core.Path.{◌∙◌}
+use Prim.Native.Nat.{◌<◌, ◌^◌}
+use native.Mathlib.Omega.{arith}
 use lib.IntN.{pos}
 use lib.ListN.{get_or}
+use lib.Signed.{mag}
 use Rattle.num.proofs.Laws.{kept}
-use Rattle.meaning.specs.Pages.{behind}
-use native.Mathlib.Omega.{arith}
+use Rattle.meaning.specs.Pages.{place_in}
+use Rattle.listing.proofs.Laws.{less_behind}
 use Rattle.listing.proofs.comes_after.Goals as goal
 
-pub bounds-e-0 : goal.bounds-e-0
-bounds-e-0 c = omega (arith, c.requires)
-
-pub bounds-e-1 : goal.bounds-e-1
-bounds-e-1 c = omega (arith, c.requires)
-
-pub bounds-e-2 : goal.bounds-e-2
-bounds-e-2 c = omega (arith, c.requires)
-
 pub returns : goal.returns
-unfolding behind
 returns c =
-    let g = c.struct_told-3-1.given in
-    simp (
-      kept c.args.p.file g.0.1,
-      kept c.args.p.line g.1.0.1,
-      kept c.args.p.rule g.1.1.0.1,
-      kept (get_or c.args.e.now 0 (pos 0)) c.greater-arg-1.given,
-      kept (get_or c.args.e.now 1 (pos 0)) c.greater-arg-2-1.given,
-      kept (get_or c.args.e.now 2 (pos 0)) c.greater-arg-3-1.given,
-    )
-    at c.greater.ensures
+    let file : mag (get_or c.args.e.now 0 (pos 0)) < 2 ^ 31 = omega arith in
+    let line : mag (get_or c.args.e.now 1 (pos 0)) < 2 ^ 31 = omega arith in
+    let rule : mag (get_or c.args.e.now 2 (pos 0)) < 2 ^ 31 = omega arith in
+    (simp (kept (get_or c.args.e.now 0 (pos 0)) file, kept (get_or c.args.e.now 1 (pos 0)) line, kept (get_or c.args.e.now 2 (pos 0)) rule) at c.lt.ensures) ∙ less_behind c.args.p (place_in c.args.e.now)

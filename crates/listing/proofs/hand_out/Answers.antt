@@ -9,6 +9,7 @@ use Rattle.listing.specs.Handing.{state}
 use Rattle.listing.proofs.Laws.{same_state, added_in, added_full, added_before, within_room}
 use borrow.Author.Rules.{rules}
 use Rattle.listing.proofs.hand_out.Goals as goal
+use Rattle.listing.proofs.hand_out.Goals.{else-comes_after-via-then-comes_after+else-written-out, else-comes_after-via-else-comes_after}
 
 pub comes_after-requires : goal.comes_after-requires
 comes_after-requires c = c.requires.in_bounds
@@ -40,17 +41,15 @@ returns-then-written-out c =
       total_value = refl;
     }
 
-pub returns-else-written-out : goal.returns-else-written-out
+pub returns : goal.returns
 unfolding room_for
-returns-else-written-out c =
+returns c =
     let a = c.args in record {
-      result_after = sym (added_full a.p a.e.now (state a.out.now a.k) (sym c.comes_after.ensures ∙ c.if-comes_after.true) (le-ltb _ _ c.if-written-out.false));
-      total_value = refl;
-    }
-
-pub returns-else-comes_after : goal.returns-else-comes_after
-returns-else-comes_after c =
-    let a = c.args in record {
-      result_after = sym (added_before a.p a.e.now (state a.out.now a.k) (sym c.comes_after.ensures ∙ c.if-comes_after.false));
+      result_after = elim c.else-comes_after.branch [
+        | else-comes_after-via-then-comes_after+else-written-out w ↦
+            sym (added_full a.p a.e.now (state a.out.now a.k) (sym c.comes_after.ensures ∙ w.if-comes_after.true) (le-ltb _ _ w.if-written-out.false))
+        | else-comes_after-via-else-comes_after w ↦
+            sym (added_before a.p a.e.now (state a.out.now a.k) (sym c.comes_after.ensures ∙ w.if-comes_after.false))
+      ];
       total_value = refl;
     }

@@ -1,5 +1,6 @@
 -- `marks::is_marked` meets its contract.
-use mathlib.Core.Path.{refl, sym}
+use mathlib.Core.Path.{refl, sym, ◌∙◌}
+use borrow.Author.Tests.{le-ltb}
 use Rattle.marks.specs.Marks.{marked}
 use Rattle.marks.proofs.Bits.{unmarked_past}
 use Rattle.marks.proofs.is_marked.Goals as goal
@@ -8,5 +9,5 @@ pub returns-then-r-m : goal.returns-then-r-m
 unfolding marked
 returns-then-r-m c = refl
 
-pub returns : goal.returns
-returns c = sym (unmarked_past _ _ _ c.if-r-m.false)
+pub returns-else-r-m : goal.returns-else-r-m
+returns-else-r-m c = le-ltb _ _ c.if-r-m.false ∙ sym (unmarked_past _ _ _ c.if-r-m.false)

@@ -10,7 +10,7 @@ loop-i-init c = (none_noted _ _ _ _ _ _, omega arith)
 
 pub loop-i-preserved : goal.loop-i-preserved
 loop-i-preserved c =
-    (note_turn _ _ _ _ _ _ _ _ _ _ c.loop-i.invariant.0 c.number_at.ensures c.note-sink.ensures.result_after, search rules)
+    (note_turn _ _ _ _ _ _ _ _ _ _ c.loop-i.invariant.0 c.from-number.ensures c.note-sink.ensures.result_after, search rules)
 
 pub returns : goal.returns
 returns c =

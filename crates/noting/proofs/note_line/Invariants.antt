@@ -1,5 +1,5 @@
 -- What the loop of `noting::note_line` keeps.
-use Prim.Native.Nat.{◌+◌, ◌-◌, ◌≤◌}
+use Prim.Native.Nat.{◌+◌, ◌≤◌}
 use mathlib.Core.Path.{◌≡◌}
 use lib.ListN.{length}
 use Rattle.meaning.specs.Refusals.{on_line}
@@ -11,6 +11,3 @@ abbrev pub invariant-loop-i : goal.invariant-loop-i
 invariant-loop-i l =
     (state l.out l.sink ≡ noting l.p (on_line l.file l.line (tests_from l.numbers l.broken l.i)) (state l.initial.out l.initial.sink))
     × ((l.sink.total ≤ l.initial.sink.total + l.i) × ((l.i ≤ l.count) × (length l.out ≡ length l.initial.out)))
-
-abbrev pub decreases-loop-i : goal.decreases-loop-i
-decreases-loop-i l = l.count - l.i

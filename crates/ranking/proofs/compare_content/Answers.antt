@@ -12,11 +12,11 @@ returns-then-b-j c = turn_longer _ _ _ _ _ _ _ c.loop-i.invariant.2 c.loop-i-tes
 
 pub returns-then-a-i : goal.returns-then-a-i
 returns-then-a-i c =
-    c.by_byte.ensures ∙ turn_differ _ _ _ _ _ _ _ c.loop-i.invariant.2 c.loop-i-test.true c.if-b-j.false c.if-a-i.true
+    c.cmp.ensures ∙ turn_differ _ _ _ _ _ _ _ c.loop-i.invariant.2 _ _ c.loop-i-test.true c.if-b-j.false refl refl c.if-a-i.true
 
 pub loop-i-preserved : goal.loop-i-preserved
 loop-i-preserved c =
-    let r = turn _ _ _ _ _ _ _ c.loop-i.invariant.2 c.loop-i-test.true c.if-b-j.false c.if-a-i.false in
+    let r = turn _ _ _ _ _ _ _ c.loop-i.invariant.2 _ _ c.loop-i-test.true c.if-b-j.false refl refl c.if-a-i.false in
     (omega arith, omega arith, rw (c.reach-i.ensures.0, c.reach-j.ensures.0) r)
 
 pub returns-then-j-b : goal.returns-then-j-b

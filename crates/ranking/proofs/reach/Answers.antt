@@ -9,7 +9,7 @@ pub returns-then-b-eq34 : goal.returns-then-b-eq34
 unfolding width_of
 returns-then-b-eq34 c = (rw (c.if-q.true, c.if-b-eq34.true-raw), omega arith, omega arith)
 
-pub returns : goal.returns
+pub returns-else-q : goal.returns-else-q
 unfolding width_of
-returns c =
+returns-else-q c =
     (elim c.else-q.branch [ else-q-via-then-q+else-b-eq34 w ↦ rw (w.if-b-eq34.false-raw, and-false c.args.q) | else-q-via-else-q w ↦ rw w.if-q.false ], omega arith, omega arith)

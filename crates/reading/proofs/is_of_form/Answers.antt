@@ -1,30 +1,39 @@
 -- `reading::is_of_form` meets its contract.
-use Rattle.meaning.specs.Forms.{shape, shapes}
-use native.Mathlib.Omega.{arith}
+use Rattle.meaning.specs.Forms.{shape}
 use Rattle.reading.proofs.is_of_form.Goals as goal
 
-pub is_of_late_form-requires : goal.is_of_late_form-requires
-is_of_late_form-requires c = omega arith
+pub returns-in-Text : goal.returns-in-Text
+unfolding shape
+returns-in-Text c = rw c.in-Text.is
 
-pub returns-in-0 : goal.returns-in-0
-unfolding shape shapes
-returns-in-0 c = rw c.in-0.is
+pub returns-in-Time : goal.returns-in-Time
+unfolding shape
+returns-in-Time c = rw c.in-Time.is c.is_time.ensures
 
-pub returns-in-1 : goal.returns-in-1
-unfolding shape shapes
-returns-in-1 c = rw c.in-1.is c.is_time.ensures
+pub returns-in-Date : goal.returns-in-Date
+unfolding shape
+returns-in-Date c = rw c.in-Date.is c.is_date.ensures
 
-pub returns-in-2 : goal.returns-in-2
-unfolding shape shapes
-returns-in-2 c = rw c.in-2.is c.is_date.ensures
+pub returns-in-Latitude : goal.returns-in-Latitude
+unfolding shape
+returns-in-Latitude c = rw c.in-Latitude.is c.is_latitude.ensures
 
-pub returns-in-3 : goal.returns-in-3
-unfolding shape shapes
-returns-in-3 c = rw c.in-3.is c.is_latitude.ensures
+pub returns-in-Longitude : goal.returns-in-Longitude
+unfolding shape
+returns-in-Longitude c = rw c.in-Longitude.is c.is_longitude.ensures
 
-pub returns-in-4 : goal.returns-in-4
-unfolding shape shapes
-returns-in-4 c = rw c.in-4.is c.is_longitude.ensures
+pub returns-in-Sequence : goal.returns-in-Sequence
+unfolding shape
+returns-in-Sequence c = rw c.in-Sequence.is c.is_sequence.ensures
 
-pub returns-in_default : goal.returns-in_default
-returns-in_default c = c.is_of_late_form.ensures
+pub returns-in-Choice : goal.returns-in-Choice
+unfolding shape
+returns-in-Choice c = rw c.in-Choice.is c.is_choice.ensures
+
+pub returns-in-RouteType : goal.returns-in-RouteType
+unfolding shape
+returns-in-RouteType c = rw c.in-RouteType.is c.is_route_type.ensures
+
+pub returns-in-ExceptionType : goal.returns-in-ExceptionType
+unfolding shape
+returns-in-ExceptionType c = rw c.in-ExceptionType.is c.is_exception.ensures

@@ -3,26 +3,24 @@ use Rattle.reading.proofs.First.{first_yes, first_no, first_stop, first_then}
 use Rattle.reading.proofs.Values.{other_yes, other_no}
 use Rattle.columns.proofs.Laws.{noted_by}
 use Rattle.meaning.specs.Refusals.{text_tests, line_tests}
+use mathlib.Core.Path.{refl}
 use Rattle.reading.proofs.line_fault.Goals as goal
 
-pub returns-then-t-ne0 : goal.returns-then-t-ne0
+pub returns-in-Some : goal.returns-in-Some
 unfolding line_tests
-returns-then-t-ne0 c = first_stop (text_tests _) _ _ c.text_rule-t.ensures.result_value c.if-t-ne0.true
+returns-in-Some c = first_stop (text_tests _) _ _ c.in-Some.ensures.result_value
 
 pub returns-then-m-c : goal.returns-then-m-c
-unfolding line_tests text_tests
+unfolding line_tests
 returns-then-m-c c =
-    first_then (text_tests _) _ tt _ _ c.text_rule-t.ensures.result_value c.if-t-ne0.false
-    (first_yes _ _ _ (other_yes _ _ (c.text_rule-t.ensures.fields_value c.if-t-ne0.false) _ c.if-m-c.true))
+    first_then (text_tests _) _ _ c.in_default.ensures.result_value
+    (first_yes _ _ _ (other_yes _ _ (c.in_default.ensures.fields_value refl) _ c.if-m-c.true))
 
-pub row_fault-requires : goal.row_fault-requires
-row_fault-requires c = record {
-  f_bound = c.requires;
-  count_value = (c.walk_fields-m.ensures.good_value.1, noted_by _ _ _ c.blank_starts-starts.ensures c.walk_fields-m.ensures.starts_after);
-}
+pub row_fault-requires-clause-count_value : goal.row_fault-requires-clause-count_value
+row_fault-requires-clause-count_value c = (c.walk_fields-m.ensures.good_value.1, noted_by _ _ _ c.blank_starts-starts.ensures c.walk_fields-m.ensures.starts_after)
 
 pub returns : goal.returns
-unfolding line_tests text_tests
+unfolding line_tests
 returns c =
-    first_then (text_tests _) _ tt _ _ c.text_rule-t.ensures.result_value c.if-t-ne0.false
-    (first_no _ _ _ (other_no _ _ (c.text_rule-t.ensures.fields_value c.if-t-ne0.false) _ c.if-m-c.false) _ c.row_fault.ensures)
+    first_then (text_tests _) _ _ c.in_default.ensures.result_value
+    (first_no _ _ _ (other_no _ _ (c.in_default.ensures.fields_value refl) _ c.if-m-c.false) _ c.row_fault.ensures)

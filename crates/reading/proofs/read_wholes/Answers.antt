@@ -15,7 +15,7 @@ use Rattle.reading.proofs.read_wholes.Goals as goal
 
 pub loop-i-init : goal.loop-i-init
 unfolding wholes_of
-loop-i-init c = (omega arith, (refl, refl))
+loop-i-init c = (refl, refl)
 
 pub whole_of-requires : goal.whole_of-requires
 unfolding count_lf
@@ -30,15 +30,12 @@ loop-i-preserved c =
     let six : length files ≡ 6 = length-map c.args.files (λ x. x.now) ∙ omega arith in
     let rooms : length c.args.rooms ≡ 6 = omega (arith, c.well_formed) in
     let w = c.whole_of.ensures files (rw (← get_or-map (λ x. x.now) c.args.files 5 _)) in (
-      omega arith,
-      (
-        omega (arith, length-set c.loop-i.wholes c.loop-i.i c.whole_of.result, c.loop-i.invariant.1.0),
-        wholes_next files c.args.rooms c.loop-i.wholes c.loop-i.i c.loop-i.invariant.1.1 (omega arith) (omega arith) (omega (arith, c.loop-i.invariant.1.0)) _ (w ∙ ap (λ (s : List ℕ). whole_of files (c.loop-i.i + 1) s (get_or c.args.rooms c.loop-i.i 0)) (sym (get_or-map (λ x. x.now) c.args.files c.loop-i.i _))),
-      ),
+      omega (arith, length-set c.loop-i.wholes c.loop-i.i c.whole_of.result, c.loop-i.invariant.0),
+      wholes_next files c.args.rooms c.loop-i.wholes c.loop-i.i c.loop-i.invariant.1 (omega arith) (omega arith) (omega (arith, c.loop-i.invariant.0)) _ (w ∙ ap (λ (s : List ℕ). whole_of files (c.loop-i.i + 1) s (get_or c.args.rooms c.loop-i.i 0)) (sym (get_or-map (λ x. x.now) c.args.files c.loop-i.i _))),
     )
 
 pub returns : goal.returns
 returns c =
     let files = map (λ x. x.now) c.args.files in
     let six : length files ≡ 6 = length-map c.args.files (λ x. x.now) ∙ omega arith in
-    c.order.ensures ∙ ap (λ (ws : List (List Bool)). speaks (whole_claims ws)) (wholes_all files c.args.rooms c.loop-i.wholes c.loop-i.i c.loop-i.invariant.1.1 (omega arith) (omega (arith, c.loop-i.invariant.1.0)))
+    c.order.ensures ∙ ap (λ (ws : List (List Bool)). speaks (whole_claims ws)) (wholes_all files c.args.rooms c.loop-i.wholes c.loop-i.i c.loop-i.invariant.1 (omega arith) (omega (arith, c.loop-i.invariant.0)))

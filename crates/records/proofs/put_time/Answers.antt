@@ -33,7 +33,7 @@ pub put_waiting-requires : goal.put_waiting-requires
 put_waiting-requires c =
     let place = c.field_place-place.ensures.start_le_max_bytes in record {
       row_in_bounds = c.requires.lies.1;
-      trip_bound = (omega (arith, c.find_trip-trip.ensures.result_le_n, c.requires.a_count_le_max_lines.0), (omega (arith, c.find_stop-stop.ensures.result_le_n, c.requires.a_count_le_max_lines.1), (omega (arith, c.sequence-sequence.ensures.1), (omega (arith, c.choice_or_zero-pickup.ensures.1), (omega (arith, c.choice_or_zero-drop_off.ensures.1), (omega (arith, place.0), omega (arith, place.1)))))));
+      trip_bound = (omega (arith, c.find-trip.ensures.result_le_n, c.requires.a_count_le_max_lines.0), (omega (arith, c.find-stop.ensures.result_le_n, c.requires.a_count_le_max_lines.1), (omega (arith, c.sequence-sequence.ensures.1), (omega (arith, c.choice_or_zero-pickup.ensures.1), (omega (arith, c.choice_or_zero-drop_off.ensures.1), (omega (arith, place.0), omega (arith, place.1)))))));
     }
 
 pub returns : goal.returns
@@ -43,9 +43,9 @@ returns c =
     let place = c.field_place-place.ensures.start_value in record {
       t_after = (λ w ps loc trips stops. put_as _ _ _ _ _ (c.put_waiting.ensures _ m.1 (kept_is _ _ c.choice_or_minus-timepoint.type_inv c.choice_or_minus-timepoint.ensures ∙ sym m.0))
           (waiting_record ps s.l.now _ s.q.start s.q.end loc w _ _ _ _ _ _ _ _ _
-          (referred _ _ _ _ _ _ _ _ trips c.find_trip-trip.ensures.first c.raw.ensures)
-          (referred _ _ _ _ _ _ _ _ stops c.find_stop-stop.ensures.first c.raw-2.ensures)
+          (referred _ _ _ _ _ _ _ _ trips c.find-trip.ensures.first c.raw.ensures)
+          (referred _ _ _ _ _ _ _ _ stops c.find-stop.ensures.first c.raw-2.ensures)
           c.sequence-sequence.ensures.0 (kept_is _ _ c.clock-arrival.type_inv c.clock-arrival.ensures) (kept_is _ _ c.clock-departure.type_inv c.clock-departure.ensures)
           c.choice_or_zero-pickup.ensures.0 c.choice_or_zero-drop_off.ensures.0 place.0 place.1));
-      ready_2 = (c.find_trip-trip.ensures.ready, c.find_stop-stop.ensures.ready);
+      ready_2 = (c.find-trip.ensures.ready, c.find-stop.ensures.ready);
     }

@@ -22,7 +22,7 @@ pub put-requires : goal.put-requires
 put-requires c =
     let i = c.field_place-id.ensures.start_le_max_bytes in record {
       row_in_bounds = omega (arith, c.requires.lies.1);
-      start_bound = (omega (arith, i.0), (omega (arith, i.1), (omega (arith, c.find_route-route.ensures.result_le_n, c.requires.a_count_le_max_lines.0), (omega (arith, c.find_service-service.ensures.result_le_n, c.requires.a_count_le_max_lines.1), (omega (arith, c.choice_or_zero-wheelchair.ensures.1), omega (arith, c.choice_or_zero-bikes.ensures.1))))));
+      start_bound = (omega (arith, i.0), (omega (arith, i.1), (omega (arith, c.find-route.ensures.result_le_n, c.requires.a_count_le_max_lines.0), (omega (arith, c.find-service.ensures.result_le_n, c.requires.a_count_le_max_lines.1), (omega (arith, c.choice_or_zero-wheelchair.ensures.1), omega (arith, c.choice_or_zero-bikes.ensures.1))))));
     }
 
 pub returns : goal.returns
@@ -32,8 +32,8 @@ returns c =
       t_after = (λ w ps loc routes services dated.
           c.put.ensures
           ∙ (trip_record ps s.l.now _ s.q.start s.q.end loc w _ _ _ _ _ _ _ _ _ c.requires.lies.1 dated i.0 i.1
-          (referred _ _ _ _ _ _ _ _ routes c.find_route-route.ensures.first c.raw.ensures)
-          (referred _ _ _ _ _ _ _ _ services c.find_service-service.ensures.first c.raw-2.ensures)
+          (referred _ _ _ _ _ _ _ _ routes c.find-route.ensures.first c.raw.ensures)
+          (referred _ _ _ _ _ _ _ _ services c.find-service.ensures.first c.raw-2.ensures)
           (kept_is _ _ c.choice_or_minus-direction.type_inv c.choice_or_minus-direction.ensures) c.choice_or_zero-wheelchair.ensures.0 c.choice_or_zero-bikes.ensures.0));
-      ready_2 = (c.find_route-route.ensures.ready, c.find_service-service.ensures.ready);
+      ready_2 = (c.find-route.ensures.ready, c.find-service.ensures.ready);
     }

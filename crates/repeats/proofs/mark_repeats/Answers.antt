@@ -2,6 +2,7 @@
 use Rattle.ordering.proofs.Laws.{room_row, room_less}
 use Rattle.repeats.proofs.Laws.{walk_start, walk_on, walk_mark, walk_end}
 use mathlib.Core.Path.{sym, ◌∙◌}
+use Prim.Native.Nat.{◌+◌, ◌<◌}
 use native.Mathlib.Omega.{arith}
 use Rattle.repeats.proofs.mark_repeats.Goals as goal
 use Rattle.repeats.proofs.mark_repeats.Goals.{then-is_repeat, else-is_repeat}
@@ -32,3 +33,14 @@ loop-k-preserved c =
 
 pub returns : goal.returns
 returns c = walk_end _ _ _ _ _ _ c.requires.0 _ _ _ c.loop-k.k c.loop-k-test.false c.loop-k.invariant
+
+pub returns-after-is_repeat : goal.returns-after-is_repeat
+returns-after-is_repeat c =
+    let p = c.requires.0 in
+    let h = c.loop-k-test.true in
+    let e = c.is_repeat.ensures in
+    let last : c.args.n < c.loop-k.k + 1 = omega arith in
+    elim c.if-is_repeat.branch [
+      | then-is_repeat v ↦ rw v.m-is (walk_end _ _ _ _ _ _ p _ _ _ (c.loop-k.k + 1) last (walk_mark _ _ _ _ _ _ p _ _ _ c.loop-k.k c.loop-k.invariant h _ _ v.get.ensures.0 v.mark.ensures (sym v.if-is_repeat.true ∙ e)))
+      | else-is_repeat v ↦ rw v.m-is (walk_end _ _ _ _ _ _ p _ _ _ (c.loop-k.k + 1) last (walk_on _ _ _ _ _ _ p _ _ _ c.loop-k.k c.loop-k.invariant h (sym v.if-is_repeat.false ∙ e)))
+    ]

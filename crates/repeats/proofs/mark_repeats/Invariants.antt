@@ -1,10 +1,6 @@
 -- What the loop of `repeats::mark_repeats` keeps.
 use Rattle.repeats.proofs.Laws.{Walking}
-use Prim.Native.Nat.{◌-◌, ◌+◌}
 use Rattle.repeats.proofs.mark_repeats.Given as goal
 
 abbrev pub invariant-loop-k : goal.invariant-loop-k
 invariant-loop-k l = Walking l.by l.s l.o l.w l.n l.t l.f l.initial.m l.m l.k
-
-abbrev pub decreases-loop-k : goal.decreases-loop-k
-decreases-loop-k l = l.n + 1 - l.k

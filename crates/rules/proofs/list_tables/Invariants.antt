@@ -1,5 +1,5 @@
 -- What the loop of `rules::list_tables` keeps.
-use Prim.Native.Nat.{◌*◌, ◌-◌, ◌≤◌}
+use Prim.Native.Nat.{◌*◌, ◌≤◌}
 use mathlib.Core.Path.{◌≡◌}
 use mathlib.Core.List.{map}
 use lib.ListN.{length, drop}
@@ -15,8 +15,5 @@ use Rattle.rules.proofs.list_tables.Given as goal
 
 abbrev pub invariant-loop-i : goal.invariant-loop-i
 invariant-loop-i l =
-    (l.i ≤ 6) × ((l.k.total ≤ rule_sum l.i * max_lines) × ((length l.out ≡ length l.initial.out) × ((w : Feed) → Tabled w l.counts (map (λ x. x.now) l.tables) l.marks
+    (l.i ≤ 6) × ((l.k.total ≤ rule_sum l.i * max_lines) × ((length l.out ≡ length l.initial.out) × ((w : Feed) → Tabled w l.counts (map (λ x. x.now) l.fn.tables) l.marks
     → noting l.a.from (flat (map (bindings_of l.a.asked w) (drop l.i file_numbers))) (state l.out l.k) ≡ handed_out l.a.from (findings_of l.a.asked w) l.initial.out)))
-
-abbrev pub decreases-loop-i : goal.decreases-loop-i
-decreases-loop-i l = 6 - l.i

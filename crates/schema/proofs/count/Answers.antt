@@ -1,9 +1,12 @@
 -- `schema::count` meets its contract.
-use Rattle.schema.proofs.Laws.{few, lengths_at}
-use Rattle.meaning.specs.Columns as X
-use Rattle.meaning.specs.Columns.{schemas}
+use Rattle.schema.proofs.Laws.{count_told, count_le}
+use Rattle.meaning.specs.Columns.{count_of}
+use mathlib.Core.Path.{◌≡◌}
+use native.Mathlib.Omega.{arith}
+use lib.ListN.{length}
 use Rattle.schema.proofs.count.Goals as goal
 
 pub returns : goal.returns
-unfolding X.schemas X.stops_columns X.routes_columns X.calendar_columns X.trips_columns X.stop_times_columns X.calendar_dates_columns X.schema X.count_of
-returns c = (lengths_at schemas c.args.f, few c.args.f)
+returns c =
+    let e : length c.columns_of.result.now ≡ count_of c.args.f = count_told _ _ c.columns_of.ensures in
+    (e, omega (arith, count_le c.args.f))

@@ -14,69 +14,69 @@ use mathlib.Core.Path.{refl, sym, ◌∙◌}
 use native.Mathlib.Omega.{arith}
 use Rattle.tables.proofs.fill_lines.Goals as goal
 
-pub loop-start-init : goal.loop-start-init
-loop-start-init c = ((omega arith, c.requires.le_f.1.1.lines), (c.requires.heading.after, ((refl, (refl, refl)), (c.requires.sought, λ w lent refs parents e. e))))
+pub loop-line-init : goal.loop-line-init
+loop-line-init c = ((omega arith, c.requires.le_f.1.1.lines), (c.requires.heading.after, ((refl, (refl, refl)), (c.requires.sought, λ w lent refs parents e. e))))
 
 pub slice_bounds-put_record-count : goal.slice_bounds-put_record-count
-slice_bounds-put_record-count c = (line_found _ _ _ _ _ (sym c.next_line.ensures ∙ c.in-Line.is)).ordered
+slice_bounds-put_record-count c = (line_found _ _ _ _ _ (sym c.next_line.ensures ∙ c.in-Some.is)).ordered
 
 pub slice_bounds-put_record-start : goal.slice_bounds-put_record-start
-slice_bounds-put_record-start c = let h = line_found _ _ _ _ _ (sym c.next_line.ensures ∙ c.in-Line.is) in omega (arith, h.ordered)
+slice_bounds-put_record-start c = let h = line_found _ _ _ _ _ (sym c.next_line.ensures ∙ c.in-Some.is) in omega (arith, h.ordered)
 
 pub slice_bounds-put_record-end : goal.slice_bounds-put_record-end
-slice_bounds-put_record-end c = let h = line_found _ _ _ _ _ (sym c.next_line.ensures ∙ c.in-Line.is) in omega (arith, h.before, h.within)
+slice_bounds-put_record-end c = let h = line_found _ _ _ _ _ (sym c.next_line.ensures ∙ c.in-Some.is) in omega (arith, h.before, h.within)
 
 pub put_record-requires : goal.put_record-requires
 unfolding part
 put_record-requires c =
-    let h = line_found _ _ _ _ _ (sym c.next_line.ensures ∙ c.in-Line.is) in record {
-      le_f = (c.requires.le_f.0, (c.requires.le_f.1.0, walk_size c.args.s.now c.loop-start.here c.loop-start.r c.loop-start.invariant.1.0 _ _ _ h _ c.requires.le_f.1.1.size));
-      f_in_bounds = rw (← c.loop-start.invariant.1.1.0.0) at (walk_room c.args.s.now c.loop-start.here c.loop-start.r c.loop-start.invariant.1.0 _ _ _ h _ _ c.requires.le_f.1.1.room);
+    let h = line_found _ _ _ _ _ (sym c.next_line.ensures ∙ c.in-Some.is) in record {
+      le_f = (c.requires.le_f.0, (c.requires.le_f.1.0, walk_size c.args.s.now c.loop-line.here c.loop-line.r c.loop-line.invariant.1.0 _ _ _ h _ c.requires.le_f.1.1.size));
+      f_in_bounds = rw (← c.loop-line.invariant.1.1.0.0) at (walk_room c.args.s.now c.loop-line.here c.loop-line.r c.loop-line.invariant.1.0 _ _ _ h _ _ c.requires.le_f.1.1.room);
       a_count_le_max_lines = c.requires.a_count_le_max_lines;
-      sought = c.loop-start.invariant.1.1.1.0;
+      sought = c.loop-line.invariant.1.1.1.0;
     }
 
 pub overflow_add-r : goal.overflow_add-r
 overflow_add-r c =
-    let h = line_found _ _ _ _ _ (sym c.next_line.ensures ∙ c.in-Line.is) in
-    omega (arith, walk_count c.args.s.now c.loop-start.here c.loop-start.r c.loop-start.invariant.1.0 _ _ _ h (width_of c.args.f) _ (omega (arith, three_wide c.args.f c.requires.le_f.0 c.requires.le_f.1.0)) c.requires.le_f.1.1.room)
+    let h = line_found _ _ _ _ _ (sym c.next_line.ensures ∙ c.in-Some.is) in
+    omega (arith, walk_count c.args.s.now c.loop-line.here c.loop-line.r c.loop-line.invariant.1.0 _ _ _ h (width_of c.args.f) _ (omega (arith, three_wide c.args.f c.requires.le_f.0 c.requires.le_f.1.0)) c.requires.le_f.1.1.room)
 
-pub loop-start-smaller : goal.loop-start-smaller
-loop-start-smaller c = let h = line_found _ _ _ _ _ (sym c.next_line.ensures ∙ c.in-Line.is) in omega (arith, h.starts, h.ordered, h.before, h.within)
+pub loop-line-smaller : goal.loop-line-smaller
+loop-line-smaller c = let h = line_found _ _ _ _ _ (sym c.next_line.ensures ∙ c.in-Some.is) in omega (arith, h.starts, h.ordered, h.before, h.within)
 
-pub loop-start-preserved : goal.loop-start-preserved
+pub loop-line-preserved : goal.loop-line-preserved
 unfolding part
-loop-start-preserved c =
+loop-line-preserved c =
     let f = c.args.f in
     let text = c.args.s.now in
-    let h = line_found _ _ _ _ _ (sym c.next_line.ensures ∙ c.in-Line.is) in
-    let inside = walk_inside text c.loop-start.here c.loop-start.r c.loop-start.invariant.1.0 _ _ _ h in (
+    let h = line_found _ _ _ _ _ (sym c.next_line.ensures ∙ c.in-Some.is) in
+    let inside = walk_inside text c.loop-line.here c.loop-line.r c.loop-line.invariant.1.0 _ _ _ h in (
       (omega arith, omega (arith, inside)),
       (
-        line_next text _ c.loop-start.here c.loop-start.r c.loop-start.invariant.1.0 _ _ _ h,
+        line_next text _ c.loop-line.here c.loop-line.r c.loop-line.invariant.1.0 _ _ _ h,
         (
-          (omega arith, (c.put_record.auto.a_memo ∙ c.loop-start.invariant.1.1.0.1.0, c.put_record.auto.b_memo ∙ c.loop-start.invariant.1.1.0.1.1)),
+          (omega arith, (c.put_record.auto.a_memo ∙ c.loop-line.invariant.1.1.0.1.0, c.put_record.auto.b_memo ∙ c.loop-line.invariant.1.1.0.1.1)),
           (
             c.put_record.ensures.sought_2,
             λ w lent refs parents e.
-                let is = c.loop-start.invariant.1.1.1.1 w lent refs parents e in
-                let row = row_here f text c.loop-start.here c.loop-start.r c.loop-start.invariant.1.0 _ _ _ h c.loop-start.invariant.0.0 in
-                walk_turn text c.loop-start.here c.loop-start.r c.loop-start.invariant.1.0 _ _ _ h f (written_of f w (places f (header_of (lines_of text)))) (written_wide f c.requires.le_f.0 c.requires.le_f.1.0 w _) _ _ lent c.loop-start.invariant.0.0 is
-                (c.put_record.ensures.by_index w _ c.requires.heading.columns refs (settled_here f text c.requires.le_f.1.1.lines (written_of f w (places f (header_of (lines_of text)))) (written_wide f c.requires.le_f.0 c.requires.le_f.1.0 w _) w lent _ _ c.loop-start.r _ is e parents c.loop-start.invariant.0.0 inside row)),
+                let is = c.loop-line.invariant.1.1.1.1 w lent refs parents e in
+                let row = row_here f text c.loop-line.here c.loop-line.r c.loop-line.invariant.1.0 _ _ _ h c.loop-line.invariant.0.0 in
+                walk_turn text c.loop-line.here c.loop-line.r c.loop-line.invariant.1.0 _ _ _ h f (written_of f w (places f (header_of (lines_of text)))) (written_wide f c.requires.le_f.0 c.requires.le_f.1.0 w _) _ _ lent c.loop-line.invariant.0.0 is
+                (c.put_record.ensures.by_index w _ c.requires.heading.columns refs (settled_here f text c.requires.le_f.1.1.lines (written_of f w (places f (header_of (lines_of text)))) (written_wide f c.requires.le_f.0 c.requires.le_f.1.0 w _) w lent _ _ c.loop-line.r _ is e parents c.loop-line.invariant.0.0 inside row)),
           ),
         ),
       ),
     )
 
 pub overflow_sub-result : goal.overflow_sub-result
-overflow_sub-result c = omega (arith, c.loop-start.invariant.0.0)
+overflow_sub-result c = omega (arith, c.loop-line.invariant.0.0)
 
-pub returns-in-Done : goal.returns-in-Done
+pub returns : goal.returns
 unfolding written
-returns-in-Done c =
+returns c =
     let f = c.args.f in
-    let none = line_none _ _ (sym c.next_line.ensures ∙ c.in-Done.is) in record {
+    let none = line_none _ _ (sym c.next_line.ensures ∙ c.in_default.is) in record {
       t_after = (λ w lent refs parents e.
-          walk_end c.args.s.now c.loop-start.here c.loop-start.r c.loop-start.invariant.1.0 f (written_of f w (places f (header_of (lines_of c.args.s.now)))) (written_wide f c.requires.le_f.0 c.requires.le_f.1.0 w _) _ lent c.requires.le_f.1.1.lines none (c.loop-start.invariant.1.1.1.1 w lent refs parents e));
-      result_value = omega (arith, walk_past c.args.s.now c.loop-start.here c.loop-start.r c.loop-start.invariant.1.0 none, c.loop-start.invariant.0.0, c.loop-start.invariant.0.1);
+          walk_end c.args.s.now c.loop-line.here c.loop-line.r c.loop-line.invariant.1.0 f (written_of f w (places f (header_of (lines_of c.args.s.now)))) (written_wide f c.requires.le_f.0 c.requires.le_f.1.0 w _) _ lent c.requires.le_f.1.1.lines none (c.loop-line.invariant.1.1.1.1 w lent refs parents e));
+      result_value = omega (arith, walk_past c.args.s.now c.loop-line.here c.loop-line.r c.loop-line.invariant.1.0 none, c.loop-line.invariant.0.0, c.loop-line.invariant.0.1);
     }

@@ -1,22 +1,24 @@
 -- `text::body_start` meets its contract.
-use Rattle.text.proofs.Lines.{start_short, start_marked, start_first, start_second, start_third}
+use Rattle.std.proofs.Common.{rules}
+use Rattle.meaning.specs.Bytes.{start_of, leading_mark}
+use Rattle.text.proofs.Chains.{same_listed, same_turned}
+use lib.ListN.{take}
 use native.Mathlib.Omega.{arith}
+use mathlib.Core.Path.{◌≡◌, sym, ◌∙◌}
+use mathlib.Core.Bool.{true, false}
+use Rattle.meaning.specs.Lists.{same}
 use Rattle.text.proofs.body_start.Goals as goal
 
-pub returns-then-s-lt3 : goal.returns-then-s-lt3
-returns-then-s-lt3 c = (start_short _ c.if-s-lt3.true, omega arith)
-
-pub returns-then-s : goal.returns-then-s
-returns-then-s c = (start_first _ c.if-s-lt3.false c.if-s.true, omega arith)
-
-pub returns-then-s-2 : goal.returns-then-s-2
-returns-then-s-2 c =
-    (start_second _ c.if-s-lt3.false c.if-s.false c.if-s-2.true, omega arith)
-
-pub returns-then-s-3 : goal.returns-then-s-3
-returns-then-s-3 c =
-    (start_third _ c.if-s-lt3.false c.if-s.false c.if-s-2.false c.if-s-3.true, omega arith)
+pub returns-then-starts_with : goal.returns-then-starts_with
+unfolding start_of leading_mark
+returns-then-starts_with c =
+    let s = c.args.s.now in
+    let e : same (take 3 s) leading_mark ≡ true = same_turned (take 3 s) leading_mark ∙ same_listed leading_mark (take 3 s) ∙ sym c.starts_with.ensures.value ∙ c.if-starts_with.true in
+    (rw e, search rules)
 
 pub returns : goal.returns
+unfolding start_of leading_mark
 returns c =
-    (start_marked _ c.if-s-lt3.false c.if-s.false c.if-s-2.false c.if-s-3.false, omega arith)
+    let s = c.args.s.now in
+    let e : same (take 3 s) leading_mark ≡ false = same_turned (take 3 s) leading_mark ∙ same_listed leading_mark (take 3 s) ∙ sym c.starts_with.ensures.value ∙ c.if-starts_with.false in
+    (rw e, omega arith)

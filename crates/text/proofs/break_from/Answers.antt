@@ -1,20 +1,22 @@
 -- `text::break_from` meets its contract.
-use Rattle.text.proofs.Lines.{first_here, first_next, first_over}
+use Rattle.std.proofs.Common.{rules, tests}
+use Rattle.std.proofs.lemmas.Iterator.{YieldsList-from_slice}
+use Rattle.std.proofs.lemmas.Iterator.Search.{position_from_yields_List}
+use Rattle.text.proofs.Chains.{first_or, first_past}
 use Rattle.text.specs.Fields.{is_break}
-use mathlib.Core.Path.{refl, sym, ◌∙◌}
+use mathlib.Core.Path.{◌≡◌, ◌∙◌}
+use lib.ListN.{drop, length-drop}
+use Rattle.std.proofs.lemmas.List.{take_all}
 use native.Mathlib.Omega.{arith}
 use Rattle.text.proofs.break_from.Goals as goal
 
-pub loop-i-init : goal.loop-i-init
-loop-i-init c = (omega arith, refl)
-
-pub returns-then-is_break : goal.returns-then-is_break
-returns-then-is_break c =
-    (first_here is_break _ _ _ c.loop-i.invariant.1 c.loop-i-test.true (sym c.is_break.ensures ∙ c.if-is_break.true), omega arith)
-
-pub loop-i-preserved : goal.loop-i-preserved
-loop-i-preserved c =
-    (omega arith, first_next is_break _ _ _ c.loop-i.invariant.1 c.loop-i-test.true (sym c.is_break.ensures ∙ c.if-is_break.false))
+pub returns-in_default : goal.returns-in_default
+returns-in_default c = (first_past is_break _ _ (search rules), omega arith)
 
 pub returns : goal.returns
-returns c = (first_over is_break _ _ _ c.loop-i.invariant.1 c.loop-i-test.false, omega arith)
+returns c =
+    let r = c.in-Some.rest.now in
+    let d : r ≡ drop c.args.at c.args.l.now = c.in-Some.ensures.lookup.0.2 ∙ take_all _ _ (omega (arith, length-drop c.args.at c.args.l.now)) in
+    let e = position_from_yields_List is_break _ _ _ c.position.ensures.ran (YieldsList-from_slice _ c.iter.ensures.rest) (λ x b q k. search (rules, tests)) in
+    let z = c.unwrap_or.ensures ∙ first_or is_break r _ e in
+    (rw (← d) (omega arith), omega arith)

@@ -5,12 +5,12 @@ use mathlib.Core.Path.{refl}
 use native.Mathlib.Omega.{arith}
 use Rattle.text.proofs.has_mark.Goals as goal
 
-pub loop-i-init : goal.loop-i-init
-loop-i-init c = (omega arith, refl)
+pub loop-b-init : goal.loop-b-init
+loop-b-init c = (omega arith, refl)
 
-pub loop-i-preserved : goal.loop-i-preserved
-loop-i-preserved c =
-    (omega arith, any_turn is_mark _ _ c.loop-i-test.true c.loop-i.some _ _ c.either-some.ensures c.loop-i.invariant.1)
+pub loop-b-preserved : goal.loop-b-preserved
+loop-b-preserved c =
+    (omega arith, any_turn is_mark _ _ c.loop-b-test.true c.loop-b.some _ _ c.either-some.ensures c.loop-b.invariant.1)
 
 pub returns : goal.returns
-returns c = any_over is_mark _ _ c.loop-i-test.false c.loop-i.some _ c.loop-i.invariant.1
+returns c = any_over is_mark _ _ c.loop-b-test.false c.loop-b.some _ c.loop-b.invariant.1

@@ -3,12 +3,9 @@ use Rattle.text.specs.Fields.{is_mark}
 use Rattle.meaning.specs.Lists.{any}
 use mathlib.Core.Bool.{◌||◌}
 use mathlib.Core.Path.{◌≡◌}
-use Prim.Native.Nat.{◌≤◌, ◌-◌}
+use Prim.Native.Nat.{◌≤◌}
 use lib.ListN.{length, drop}
 use Rattle.text.proofs.has_mark.Given as goal
 
-abbrev pub invariant-loop-i : goal.invariant-loop-i
-invariant-loop-i l = (l.i ≤ length l.s) × ((l.some || any is_mark (drop l.i l.s)) ≡ any is_mark l.s)
-
-abbrev pub decreases-loop-i : goal.decreases-loop-i
-decreases-loop-i l = length l.s - l.i
+abbrev pub invariant-loop-b : goal.invariant-loop-b
+invariant-loop-b l = (l.b-index ≤ length l.s) × ((l.some || any is_mark (drop l.b-index l.s)) ≡ any is_mark l.s)

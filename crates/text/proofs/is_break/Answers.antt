@@ -1,10 +1,6 @@
 -- `text::is_break` meets its contract.
-use Rattle.text.proofs.Spans.{above_breaks}
 use borrow.Author.Tests.{eq-eqb, ne_eqb}
 use Rattle.text.proofs.is_break.Goals as goal
-
-pub returns-then-b-gt44 : goal.returns-then-b-gt44
-returns-then-b-gt44 c = above_breaks _ c.if-b-gt44.true
 
 pub returns-then-b-eq44 : goal.returns-then-b-eq44
 returns-then-b-eq44 c = rw (eq-eqb _ _ c.if-b-eq44.true)

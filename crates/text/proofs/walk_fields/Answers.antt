@@ -19,7 +19,7 @@ next_by-requires c = refl
 
 pub loop-n-preserved : goal.loop-n-preserved
 loop-n-preserved c =
-    let p = sym c.next_by.ensures ∙ c.in-Field.is in
+    let p = sym c.next_by.ensures ∙ c.in-Some.is in
     let s = field_found _ _ _ _ _ p in (
       note_length c.loop-n.starts _ (c.loop-n.n + 1) _ _ c.note.ensures c.loop-n.invariant.0,
       omega (arith, c.loop-n-test.true),
@@ -31,10 +31,10 @@ loop-n-preserved c =
 pub ends_good-requires : goal.ends_good-requires
 ends_good-requires c = c.loop-n.invariant.2.0
 
-pub returns-in-Done : goal.returns-in-Done
-returns-in-Done c =
+pub returns-in_default : goal.returns-in_default
+returns-in_default c =
     let l = c.args.l.now in
-    let o = field_none _ _ (sym c.next_by.ensures ∙ c.in-Done.is) in
+    let o = field_none _ _ (sym c.next_by.ensures ∙ c.in_default.is) in
     let k = count_last l _ _ _ o c.loop-n-test.true c.loop-n.invariant.3 in record {
       good_value = (told_last l _ c.loop-n.invariant.2 _ o c.ends_good.ensures, k, (up_some _ _ k).0, (up_some _ _ k).1);
       starts_after = note_last l _ c.loop-n.n _ _ c.loop-n.invariant.4 o;

@@ -2,8 +2,8 @@
 use Rattle.std.proofs.Common.{length, ◌-◌, ◌≤◌, ◌+◌}
 use Rattle.text_cases.proofs.fields.Given as goal
 
-abbrev pub invariant-loop-start : goal.invariant-loop-start
-invariant-loop-start g l = l.c.at ≤ length l.l + 1
+abbrev pub invariant-loop-bounds : goal.invariant-loop-bounds
+invariant-loop-bounds g l = l.c.at ≤ length l.l + 1
 
-abbrev pub decreases-loop-start : goal.decreases-loop-start
-decreases-loop-start g l = length l.l + 1 - l.c.at
+abbrev pub decreases-loop-bounds : goal.decreases-loop-bounds
+decreases-loop-bounds g l = length l.l + 1 - l.c.at

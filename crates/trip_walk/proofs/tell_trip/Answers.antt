@@ -7,4 +7,4 @@ pub tell-requires : goal.tell-requires
 tell-requires c = (omega arith, omega arith)
 
 pub returns : goal.returns
-returns c = trip_told _ _ _ _ _ _ _ _ _ c.line_at.ensures c.trip_at-r.ensures c.is_open-open.ensures c.tell.ensures
+returns c = trip_told _ _ _ _ _ _ _ _ _ c.line_at.ensures (rw c.new.ensures at c.trip_at-r.ensures) c.is_open-open.ensures c.tell.ensures

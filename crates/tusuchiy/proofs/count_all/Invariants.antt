@@ -8,6 +8,3 @@ use Rattle.tusuchiy.proofs.count_all.Given as goal
 
 abbrev pub invariant-loop-i : goal.invariant-loop-i
 invariant-loop-i l = (l.i ≤ 6) × ((length l.counts ≡ 6) × (take l.i l.counts ++ map count_lf (drop l.i (map (λ x. x.now) l.files)) ≡ map count_lf (map (λ x. x.now) l.files)))
-
-abbrev pub decreases-loop-i : goal.decreases-loop-i
-decreases-loop-i l = 6 - l.i

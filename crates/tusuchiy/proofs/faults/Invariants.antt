@@ -12,7 +12,4 @@ use Rattle.tusuchiy.proofs.faults.Given as goal
 abbrev pub invariant-loop-i : goal.invariant-loop-i
 invariant-loop-i l =
     (l.i ≤ 6) × ((l.k.total ≤ l.i * (max_bytes + 4)) × ((length l.list ≡ length l.initial.list)
-    × (adding quad l.from (faults_from (map (λ x. x.now) l.files) (l.i + 1) (drop l.i (map (λ x. x.now) l.files))) (state l.list l.k) ≡ told (map (λ x. x.now) l.files) l.from l.initial.list)))
-
-abbrev pub decreases-loop-i : goal.decreases-loop-i
-decreases-loop-i l = 6 - l.i
+    × (adding quad l.from (faults_from (map (λ x. x.now) l.fn.files) (l.i + 1) (drop l.i (map (λ x. x.now) l.fn.files))) (state l.list l.k) ≡ told (map (λ x. x.now) l.fn.files) l.from l.initial.list)))

@@ -12,8 +12,9 @@ refused-requires c = rw c.in-Refused.is at c.requires
 pub returns-in-Accepted : goal.returns-in-Accepted
 unfolding answer_numbers
 returns-in-Accepted c =
+    let d = c.default.ensures in
     rw c.in-Accepted.is
-    (record { verdict = refl; number = refl; file = refl; line = refl; column = refl; written = refl; total = refl })
+    (record { verdict = d.0; number = d.1.0; file = d.1.1.0; line = d.1.1.1.0; column = d.1.1.1.1.0; written = d.1.1.1.1.1.0; total = d.1.1.1.1.1.1 })
 
 pub returns-in-Findings : goal.returns-in-Findings
 returns-in-Findings c = rw c.in-Findings.is c.found.ensures

@@ -4,21 +4,14 @@ use Rattle.indexes.specs.Index.{index_numbers}
 use Rattle.tusuchiy_c.proofs.told_index.Goals as goal
 
 pub bare-requires : goal.bare-requires
-bare-requires c = (omega arith, rw c.in-Whole.is at c.requires)
+bare-requires c = (omega arith, rw c.in-Ok.is at c.requires)
 
-pub unread-requires : goal.unread-requires
-unread-requires c = rw c.in-Unread.is at c.requires
+pub told_refusal-requires : goal.told_refusal-requires
+told_refusal-requires c = rw c.in-Err.is at c.requires
 
-pub bare-requires-in-Barred : goal.bare-requires-in-Barred
-bare-requires-in-Barred c = (rw c.in-Barred.is at c.requires, omega arith)
-
-pub returns-in-Whole : goal.returns-in-Whole
+pub returns-in-Ok : goal.returns-in-Ok
 unfolding index_numbers
-returns-in-Whole c = rw c.in-Whole.is (record { number = c.bare.ensures.0; file = c.bare.ensures.1; line = c.bare.ensures.2; column = c.bare.ensures.3; length = c.bare.ensures.4 })
+returns-in-Ok c = rw c.in-Ok.is (record { number = c.bare.ensures.0; file = c.bare.ensures.1; line = c.bare.ensures.2; column = c.bare.ensures.3; length = c.bare.ensures.4 })
 
-pub returns-in-Unread : goal.returns-in-Unread
-returns-in-Unread c = rw c.in-Unread.is c.unread.ensures
-
-pub returns-in-Barred : goal.returns-in-Barred
-unfolding index_numbers
-returns-in-Barred c = rw c.in-Barred.is (record { number = c.bare-in-Barred.ensures.0; file = c.bare-in-Barred.ensures.1; line = c.bare-in-Barred.ensures.2; column = c.bare-in-Barred.ensures.3; length = c.bare-in-Barred.ensures.4 })
+pub returns-in-Err : goal.returns-in-Err
+returns-in-Err c = rw c.in-Err.is c.told_refusal.ensures

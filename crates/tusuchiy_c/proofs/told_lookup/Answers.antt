@@ -2,10 +2,10 @@
 use Rattle.lookups.specs.Lookup.{lookup_numbers}
 use Rattle.tusuchiy_c.proofs.told_lookup.Goals as goal
 
-pub returns-in-Found : goal.returns-in-Found
+pub returns-in-Ok : goal.returns-in-Ok
 unfolding lookup_numbers
-returns-in-Found c = rw c.in-Found.is c.told_record.ensures
+returns-in-Ok c = rw c.in-Ok.is c.told_record.ensures
 
-pub returns-in-Refused : goal.returns-in-Refused
+pub returns-in-Err : goal.returns-in-Err
 unfolding lookup_numbers
-returns-in-Refused c = rw c.in-Refused.is (record { number = c.looked_up.ensures.0; row = c.looked_up.ensures.1 })
+returns-in-Err c = rw c.in-Err.is (record { number = c.looked_up.ensures.0; row = c.looked_up.ensures.1 })

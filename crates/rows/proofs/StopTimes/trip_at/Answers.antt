@@ -4,4 +4,4 @@ use native.Mathlib.Nat.{add-zero}
 use Rattle.rows.proofs.StopTimes.trip_at.Goals as goal
 
 pub returns : goal.returns
-returns c = c.nat_of.ensures ∙ rw add-zero
+returns c = c.new.ensures ∙ c.nat_at.ensures ∙ rw add-zero

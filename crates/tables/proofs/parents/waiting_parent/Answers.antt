@@ -4,7 +4,7 @@ use Rattle.tables.proofs.parents.waiting_parent.Goals as goal
 pub returns : goal.returns
 returns c =
     let p = c.waiting_at-p.ensures in record {
-      first = rw (← p, ← c.part_of.ensures) c.find_stop.ensures.first;
-      result_le_n = c.find_stop.ensures.result_le_n;
-      ready = c.find_stop.ensures.ready;
+      first = rw (← p, ← c.part_of.ensures) c.find.ensures.first;
+      result_le_n = c.find.ensures.result_le_n;
+      ready = c.find.ensures.ready;
     }

@@ -1,8 +1,0 @@
--- `index_bytes::byte_at` meets its contract.
-use mathlib.Core.Path.{sym}
-use native.Mathlib.Omega.{arith}
-use lib.ListN.{get_or-eq_default}
-use Rattle.index_bytes.proofs.byte_at.Goals as goal
-
-pub returns : goal.returns
-returns c = (sym (get_or-eq_default c.args.b.now 0 c.if-at-b.false), omega arith)

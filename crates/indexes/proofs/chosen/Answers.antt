@@ -1,8 +1,0 @@
--- `indexes::chosen` meets its contract.
-use Rattle.indexes.proofs.chosen.Goals as goal
-
-pub returns-then-first : goal.returns-then-first
-returns-then-first c = rw c.if-first.true
-
-pub returns : goal.returns
-returns c = rw c.if-first.false

@@ -1,6 +1,0 @@
--- What is left.
-use Rattle.std.proofs.Common.{◌-◌}
-use Rattle.lookup_cases.proofs.first_index.Given as goal
-
-abbrev pub decreases-loop-i : goal.decreases-loop-i
-decreases-loop-i l = 131078 - l.i

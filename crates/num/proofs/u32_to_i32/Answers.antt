@@ -1,7 +1,0 @@
--- `num::u32_to_i32` meets its contract.
-use mir.Syntax.{w32}
-use mir.ValLaws.{to_z_pos}
-use Rattle.num.proofs.u32_to_i32.Goals as goal
-
-pub returns : goal.returns
-returns c = to_z_pos w32 _ c.requires

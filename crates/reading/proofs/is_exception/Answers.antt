@@ -1,8 +1,0 @@
--- `reading::is_exception` meets its contract.
-use Rattle.reading.proofs.is_exception.Goals as goal
-
-pub returns-in-Picked : goal.returns-in-Picked
-returns-in-Picked c = rw (← c.exception_of.ensures.0, c.in-Picked.is)
-
-pub returns-in-NoChoice : goal.returns-in-NoChoice
-returns-in-NoChoice c = rw (← c.exception_of.ensures.0, c.in-NoChoice.is)

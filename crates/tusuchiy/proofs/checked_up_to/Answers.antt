@@ -1,0 +1,16 @@
+-- `tusuchiy::checked_up_to` meets its contract.
+use native.Mathlib.Omega.{arith}
+use Rattle.tusuchiy.proofs.checked_up_to.Goals as goal
+
+pub checked_with-requires : goal.checked_with-requires
+checked_with-requires g c = record {
+  calendar_dates_table_value = c.requires.calendar_dates_table_value;
+  counts_value = c.requires.counts_value;
+  blank = (c.blank-marks.ensures, λ i h. omega (arith, c.requires.by_index i h));
+}
+
+pub returns : goal.returns
+returns g c = record {
+  asked_value = c.checked_with.ensures.asked_value;
+  small = c.checked_with.ensures.small;
+}
