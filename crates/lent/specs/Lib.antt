@@ -1,0 +1,2 @@
+-- What six lent tables hold.
+pub mod Lent
