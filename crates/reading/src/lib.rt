@@ -27,55 +27,6 @@ fn is_time(raw: &[u8]) -> bool
     !matches!(forms::time_of(raw), Time::NoTime)
 }
 
-// Is it a date?
-fn is_date(raw: &[u8]) -> bool
-    ensures { result ≡ is_some (date_of (value raw.now)) }
-{
-    forms::date_of(raw).is_some()
-}
-
-// Is it a latitude?
-fn is_latitude(raw: &[u8]) -> bool
-    ensures { result ≡ is_some (latitude_of (value raw.now)) }
-{
-    forms::latitude_of(raw).is_some()
-}
-
-// Is it a longitude?
-fn is_longitude(raw: &[u8]) -> bool
-    ensures { result ≡ is_some (longitude_of (value raw.now)) }
-{
-    forms::longitude_of(raw).is_some()
-}
-
-// Is it a stop_sequence?
-fn is_sequence(raw: &[u8]) -> bool
-    ensures { result ≡ is_some (sequence_of (value raw.now)) }
-{
-    forms::sequence_of(raw).is_some()
-}
-
-// Is it a choice from 0 to m?
-fn is_choice(raw: &[u8], m: u8) -> bool
-    ensures { result ≡ is_some (choice_of m (value raw.now)) }
-{
-    forms::choice_of(raw, m).is_some()
-}
-
-// Is it a route_type?
-fn is_route_type(raw: &[u8]) -> bool
-    ensures { result ≡ is_some (route_type_of (value raw.now)) }
-{
-    forms::route_type_of(raw).is_some()
-}
-
-// Is it an exception_type?
-fn is_exception(raw: &[u8]) -> bool
-    ensures { result ≡ is_some (exception_of (value raw.now)) }
-{
-    forms::exception_of(raw).is_some()
-}
-
 // Is it of this form?
 fn is_of_form(form: Form, raw: &[u8]) -> bool
     ensures { result ≡ shape form (value raw.now) }
@@ -83,13 +34,13 @@ fn is_of_form(form: Form, raw: &[u8]) -> bool
     match form {
         Form::Text => true,
         Form::Time => is_time(raw),
-        Form::Date => is_date(raw),
-        Form::Latitude => is_latitude(raw),
-        Form::Longitude => is_longitude(raw),
-        Form::Sequence => is_sequence(raw),
-        Form::Choice(highest) => is_choice(raw, highest),
-        Form::RouteType => is_route_type(raw),
-        Form::ExceptionType => is_exception(raw),
+        Form::Date => forms::date_of(raw).is_some(),
+        Form::Latitude => forms::latitude_of(raw).is_some(),
+        Form::Longitude => forms::longitude_of(raw).is_some(),
+        Form::Sequence => forms::sequence_of(raw).is_some(),
+        Form::Choice(highest) => forms::choice_of(raw, highest).is_some(),
+        Form::RouteType => forms::route_type_of(raw).is_some(),
+        Form::ExceptionType => forms::exception_of(raw).is_some(),
     }
 }
 
