@@ -1,5 +1,5 @@
 -- `noting::note_line` meets its contract. The loop's invariant: the first i rules are noted.
-use mathlib.Core.Path.{◌≡◌, refl, ◌∙◌}
+use mathlib.Core.Path.{refl, ◌∙◌}
 use native.Mathlib.Omega.{arith}
 use borrow.Author.Rules.{rules}
 use Rattle.noting.proofs.Laws.{none_noted, note_turn}
