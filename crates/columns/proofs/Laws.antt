@@ -11,11 +11,12 @@ use native.Mathlib.Numerals.{add-one}
 use native.Mathlib.Nat.{not-suc-le-zero}
 use lib.Dec.{eqb, ltb}
 use lib.ListN.{length, get_or, take, drop, set, replicate, length-take, length-drop, get_or-eq_default, get_or-map, length-map}
-use lib.Seq.{get_or-drop, get_or-take, drop-drop}
+use lib.Seq.{get_or-drop, get_or-take, drop-drop, get_or-set_same, get_or-set_other, ext_get_or}
+use Rattle.std.proofs.lemmas.List.{get_or-map as get_or-map-in}
 use borrow.Author.Tests.{eq-eqb, ne_eqb, eqb-true, eqb-false, lt-ltb, le-ltb, ltb-true, ltb-false}
 use Rattle.meaning.specs.declared.Bounds.{Bounds}
 use Rattle.meaning.specs.Lists.{some, find}
-use Rattle.meaning.specs.Bytes.{bounds, part, value, fields}
+use Rattle.meaning.specs.Bytes.{bounds, part, value, fields, values_of}
 use Rattle.meaning.specs.Columns.{schema, column_of, count_of, places, field_at, cell, row_of}
 use Rattle.meaning.specs.Refusals.{rule9}
 use Rattle.meaning.proofs.Columns.{row_at}
@@ -23,7 +24,7 @@ use Rattle.text.specs.Fields.{fields_from, past_ends, FieldStands, Inside}
 use Rattle.text.proofs.Fields.{from_over, from_start, field_inside, fields_begin, fields_adjoin}
 use Rattle.text.proofs.Spans.{past_length, past_before, past_at}
 use Rattle.schema.proofs.Laws.{count_le}
-use Rattle.columns.specs.Columns.{tab, places_of, lacking, noted, starts_of, ends_of, field_by, told, Noted, row_in}
+use Rattle.columns.specs.Columns.{tab, places_of, lacking, noted, fields_at, field_by, told, Noted}
 
 -- a loop over numbers, for a test that holds of some
 module _ (P : ℕ → Bool) (k n : ℕ) (r : Bool) (inv : some P k (n - k) ≡ r) where
@@ -58,23 +59,6 @@ pub some_same : (P Q : ℕ → Bool) → ((k : ℕ) → P k ≡ Q k) → (k n : 
 unfolding some
 some_same P Q e k zero = refl
 some_same P Q e k (suc n) = rw (e k, some_same P Q e (k + 1) n)
-
--- a table of ten, one place more
-tab_none : (g : ℕ → ℕ) (j i w : ℕ) → tab g j 0 w ≡ tab g i 0 w
-unfolding tab
-tab_none g j i zero = refl
-tab_none g j i (suc w) = ap (λ (l : List ℕ). 0 ∷ l) (tab_none g j i w)
-
-tab_suc : (g : ℕ → ℕ) (j k w : ℕ) → k < w → set (tab g j k w) k (g (j + k)) ≡ tab g j (suc k) w
-unfolding tab
-tab_suc g j k zero h = absurd (not-suc-le-zero h)
-tab_suc g j zero (suc w) h = let z : j + 0 ≡ j = omega arith in rw z (ap (λ (l : List ℕ). g j ∷ l) (tab_none g j (j + 1) w))
-tab_suc g j (suc k) (suc w) h =
-    let z : j + suc k ≡ j + 1 + k = omega arith in
-    rw z (ap (λ (l : List ℕ). g j ∷ l) (tab_suc g (j + 1) k w (omega arith)))
-
-pub tab_more : (g : ℕ → ℕ) (k w v : ℕ) → k < w → v ≡ g k → (l : List ℕ) → l ≡ tab g 0 k w → set l k v ≡ tab g 0 (k + 1) w
-tab_more g k w v h e l p = rw (p, e, add-one k) (let z : 0 + k ≡ k = omega arith in rw z at (tab_suc g 0 k w h))
 
 -- reading a table that is wide enough is reading what it is made from, where that is 0 from its end on
 tab_at : (g : ℕ → ℕ) (j n w k : ℕ) → n ≤ w → ((i : ℕ) → n ≤ i → g (j + i) ≡ 0) → get_or (tab g j n w) k 0 ≡ g (j + k)
@@ -135,61 +119,61 @@ told_none r e = go (ℕ_discrete r 0)
     go (no z) = let y : ◌≡◌ {A = Option ℕ} (Some r) None = rw (ne_eqb r 0 z) at e in absurd cc
 
 -- one known column more
-module _ (j v : ℕ) where
-  noted_yes : (ps : List ℕ) (k : ℕ) (xs : List ℕ) → k < length ps → get_or ps k 0 ≡ j → set (noted ps j v k xs) k v ≡ noted ps j v (suc k) xs
+module _ (j : ℕ) (v : Bounds) where
+  noted_yes : (ps : List ℕ) (k : ℕ) (xs : List Bounds) → k < length ps → get_or ps k 0 ≡ j → set (noted ps j v k xs) k v ≡ noted ps j v (suc k) xs
   unfolding noted
   noted_yes [] k xs h e = absurd (not-suc-le-zero h)
   noted_yes (p ∷ ps) zero [] h e = refl
   noted_yes (p ∷ ps) (suc k) [] h e = refl
   noted_yes (p ∷ ps) zero (x ∷ xs) h e = rw (eq-eqb p j e)
-  noted_yes (p ∷ ps) (suc k) (x ∷ xs) h e = ap (λ (l : List ℕ). cond (eqb p j) v x ∷ l) (noted_yes ps k xs (omega arith) e)
+  noted_yes (p ∷ ps) (suc k) (x ∷ xs) h e = ap (λ (l : List Bounds). cond (eqb p j) v x ∷ l) (noted_yes ps k xs (omega arith) e)
 
-  noted_no : (ps : List ℕ) (k : ℕ) (xs : List ℕ) → k < length ps → (get_or ps k 0 ≡ j → ⊥) → noted ps j v k xs ≡ noted ps j v (suc k) xs
+  noted_no : (ps : List ℕ) (k : ℕ) (xs : List Bounds) → k < length ps → (get_or ps k 0 ≡ j → ⊥) → noted ps j v k xs ≡ noted ps j v (suc k) xs
   unfolding noted
   noted_no [] k xs h e = absurd (not-suc-le-zero h)
   noted_no (p ∷ ps) zero [] h e = refl
   noted_no (p ∷ ps) (suc k) [] h e = refl
   noted_no (p ∷ ps) zero (x ∷ xs) h e = rw (ne_eqb p j e)
-  noted_no (p ∷ ps) (suc k) (x ∷ xs) h e = ap (λ (l : List ℕ). cond (eqb p j) v x ∷ l) (noted_no ps k xs (omega arith) e)
+  noted_no (p ∷ ps) (suc k) (x ∷ xs) h e = ap (λ (l : List Bounds). cond (eqb p j) v x ∷ l) (noted_no ps k xs (omega arith) e)
 
-  module _ (ps : List ℕ) (k : ℕ) (more : k < length ps) (xs r : List ℕ) (inv : r ≡ noted ps j v k xs) where
+  module _ (ps : List ℕ) (k : ℕ) (more : k < length ps) (xs r : List Bounds) (inv : r ≡ noted ps j v k xs) where
     pub note_yes : get_or ps k 0 ≡ j → set r k v ≡ noted ps j v (k + 1) xs
     note_yes e = rw (inv, add-one k) (noted_yes ps k xs more e)
 
     pub note_no : (get_or ps k 0 ≡ j → ⊥) → r ≡ noted ps j v (k + 1) xs
     note_no e = rw (inv, add-one k) (noted_no ps k xs more e)
 
--- what is known of a line's fields before field n: one part of each, and 0 for those to come
-unfoldable pub seen : (Bounds → ℕ) → List ℕ → ℕ → List ℕ → List ℕ
-seen g l n ps = map (λ p. cond (ltb p n) (g (field_at l p)) 0) ps
+-- what is known of a line's fields before field n, and no bounds for those to come
+unfoldable pub seen : List ℕ → ℕ → List ℕ → List Bounds
+seen l n ps = map (λ p. cond (ltb p n) (field_at l p) (bounds 0 0)) ps
 
-part_of : (g : Bounds → ℕ) → g (bounds 0 0) ≡ 0 → (l : List ℕ) → g (field_at l 0) ≡ 0
+none_at : (l : List ℕ) → field_at l 0 ≡ bounds 0 0
 unfolding field_at
-part_of g z l = z
+none_at l = refl
 
-pub seen_first : (g : Bounds → ℕ) → g (bounds 0 0) ≡ 0 → (l ps : List ℕ) (w : ℕ) → length ps ≡ w → replicate w 0 ≡ seen g l 1 ps
+pub seen_first : (l ps : List ℕ) (w : ℕ) → length ps ≡ w → replicate w (bounds 0 0) ≡ seen l 1 ps
 unfolding seen
-seen_first g z l [] w e = rw (← e)
-seen_first g z l (p ∷ ps) w e = rw (← e) (go p (seen_first g z l ps (length ps) refl))
+seen_first l [] w e = rw (← e)
+seen_first l (p ∷ ps) w e = rw (← e) (go p (seen_first l ps (length ps) refl))
   where
-    go : (p : ℕ) → replicate (length ps) 0 ≡ seen g l 1 ps → 0 ∷ replicate (length ps) 0 ≡ cond (ltb p 1) (g (field_at l p)) 0 ∷ seen g l 1 ps
-    go zero ih = rw (part_of g z l, ← ih)
+    go : (p : ℕ) → replicate (length ps) (bounds 0 0) ≡ seen l 1 ps → bounds 0 0 ∷ replicate (length ps) (bounds 0 0) ≡ cond (ltb p 1) (field_at l p) (bounds 0 0) ∷ seen l 1 ps
+    go zero ih = rw (none_at l, ← ih)
     go (suc p) ih = rw (le-ltb (suc p) 1 (omega arith), ← ih)
 
-pub seen_turn : (g : Bounds → ℕ) (l ps : List ℕ) (n w v : ℕ) → length ps ≤ w → v ≡ g (field_at l n) → noted ps n v w (seen g l n ps) ≡ seen g l (n + 1) ps
+pub seen_turn : (l ps : List ℕ) (n w : ℕ) (v : Bounds) → length ps ≤ w → v ≡ field_at l n → noted ps n v w (seen l n ps) ≡ seen l (n + 1) ps
 unfolding seen noted
-seen_turn g l [] n zero v h e = refl
-seen_turn g l [] n (suc w) v h e = refl
-seen_turn g l (p ∷ ps) n zero v h e = absurd (not-suc-le-zero h)
-seen_turn g l (p ∷ ps) n (suc w) v h e = rw (seen_turn g l ps n w v (omega arith) e) (go (eqb p n) refl)
+seen_turn l [] n zero v h e = refl
+seen_turn l [] n (suc w) v h e = refl
+seen_turn l (p ∷ ps) n zero v h e = absurd (not-suc-le-zero h)
+seen_turn l (p ∷ ps) n (suc w) v h e = rw (seen_turn l ps n w v (omega arith) e) (go (eqb p n) refl)
   where
-    go : (t : Bool) → eqb p n ≡ t → cond (eqb p n) v (cond (ltb p n) (g (field_at l p)) 0) ∷ seen g l (n + 1) ps
-        ≡ cond (ltb p (n + 1)) (g (field_at l p)) 0 ∷ seen g l (n + 1) ps
+    go : (t : Bool) → eqb p n ≡ t → cond (eqb p n) v (cond (ltb p n) (field_at l p) (bounds 0 0)) ∷ seen l (n + 1) ps
+        ≡ cond (ltb p (n + 1)) (field_at l p) (bounds 0 0) ∷ seen l (n + 1) ps
     go true t = let y : p ≡ n = eqb-true p n t in rw (t, y, lt-ltb n (n + 1) (omega arith), e)
     go false t = let y : p ≡ n → ⊥ = eqb-false p n t in rw t (step (ltb p n) refl y)
       where
-        step : (u : Bool) → ltb p n ≡ u → (p ≡ n → ⊥) → cond (ltb p n) (g (field_at l p)) 0 ∷ seen g l (n + 1) ps
-            ≡ cond (ltb p (n + 1)) (g (field_at l p)) 0 ∷ seen g l (n + 1) ps
+        step : (u : Bool) → ltb p n ≡ u → (p ≡ n → ⊥) → cond (ltb p n) (field_at l p) (bounds 0 0) ∷ seen l (n + 1) ps
+            ≡ cond (ltb p (n + 1)) (field_at l p) (bounds 0 0) ∷ seen l (n + 1) ps
         step true u y = let x : p < n = ltb-true p n u in rw (u, lt-ltb p (n + 1) (omega arith))
         step false u y = let x : n ≤ p = ltb-false p n u in rw (u, le-ltb p (n + 1) (omega arith))
 
@@ -199,14 +183,14 @@ field_over l p h =
     let z : p ≡ 0 → ⊥ = λ e. omega arith in
     rw (ne_eqb p 0 z) (get_or-eq_default (fields l) (bounds 0 0) {n = p - 1} (omega arith))
 
-pub seen_last : (g : Bounds → ℕ) → g (bounds 0 0) ≡ 0 → (l ps : List ℕ) (n : ℕ) → length (fields l) < n → seen g l n ps ≡ map (λ p. g (field_at l p)) ps
+pub seen_last : (l ps : List ℕ) (n : ℕ) → length (fields l) < n → seen l n ps ≡ map (field_at l) ps
 unfolding seen
-seen_last g z l [] n h = refl
-seen_last g z l (p ∷ ps) n h = rw (seen_last g z l ps n h) (go (ltb p n) refl)
+seen_last l [] n h = refl
+seen_last l (p ∷ ps) n h = rw (seen_last l ps n h) (go (ltb p n) refl)
   where
-    go : (t : Bool) → ltb p n ≡ t → cond (ltb p n) (g (field_at l p)) 0 ∷ map (λ p. g (field_at l p)) ps ≡ g (field_at l p) ∷ map (λ p. g (field_at l p)) ps
+    go : (t : Bool) → ltb p n ≡ t → cond (ltb p n) (field_at l p) (bounds 0 0) ∷ map (field_at l) ps ≡ field_at l p ∷ map (field_at l) ps
     go true t = rw t
-    go false t = let y : n ≤ p = ltb-false p n t in rw (t, field_over l p (omega arith), z)
+    go false t = let y : n ≤ p = ltb-false p n t in rw (t, field_over l p (omega arith))
 
 -- a turn along the fields of a line, of which n is the next
 module _ (l : List ℕ) (at n : ℕ) (first : 1 ≤ n) (left : drop (n - 1) (fields l) ≡ fields_from l at) where
@@ -234,26 +218,26 @@ field_absent l p n h none = go (ltb p n) refl
     go true t = rw (none (ltb-true p n t))
     go false t = let y : n ≤ p = ltb-false p n t in ap (λ (b : Bounds). b.start) (sym (field_over l p (omega arith)))
 
--- a table of ten made from a list of ten
-tab_all : (g f : ℕ → ℕ) (ps : List ℕ) (j : ℕ) → ((k : ℕ) → g (j + k) ≡ f (get_or ps k 0)) → tab g j (length ps) (length ps) ≡ map f ps
-unfolding tab
-tab_all g f [] j h = refl
-tab_all g f (p ∷ ps) j h =
-    let z : j + 0 ≡ j = omega arith in
-    let x : g j ≡ f p = rw z at (h 0) in
-    let y : tab g (j + 1) (length ps) (length ps) ≡ map f ps
-    = tab_all g f ps (j + 1) (λ k. let w : j + 1 + k ≡ j + suc k = omega arith in rw w (h (suc k))) in
-    rw (x, y)
+-- bounds put down one after the other, each from its column
+module _ (f : ℕ → Bounds) (ps : List ℕ) where
+  pub put_more :
+      (bs : List Bounds) (k : ℕ) (b : Bounds)
+      → k < length bs
+      → b ≡ f (get_or ps k 0)
+      → ((i : ℕ) → i < k → get_or bs i (bounds 0 0) ≡ f (get_or ps i 0))
+      → (i : ℕ)
+      → i < k + 1
+      → get_or (set bs k b) i (bounds 0 0) ≡ f (get_or ps i 0)
+  put_more bs k b h e inv i l = go (ℕ_discrete i k)
+    where
+      go : Dec (i ≡ k) → get_or (set bs k b) i (bounds 0 0) ≡ f (get_or ps i 0)
+      go (yes z) = rw z (get_or-set_same bs k b (bounds 0 0) h ∙ e)
+      go (no z) = get_or-set_other bs k i b (bounds 0 0) z ∙ inv i (omega arith)
 
-pub tab_map : (f : ℕ → ℕ) (ps : List ℕ) (k n : ℕ) → n ≤ k → k ≤ n → length ps ≡ n → (l : List ℕ) → l ≡ tab (λ k. f (get_or ps k 0)) 0 k n → l ≡ map f ps
-tab_map f ps k n a b e l p =
-    let z : k ≡ length ps = omega arith in
-    let y : n ≡ length ps = omega arith in
-    (rw (z, y) at p) ∙ tab_all (λ k. f (get_or ps k 0)) f ps 0 (λ k. let w : 0 + k ≡ k = omega arith in rw w)
-
-pub tab_none_yet : (g : ℕ → ℕ) → replicate 10 0 ≡ tab g 0 0 10
-unfolding tab
-tab_none_yet g = refl
+  pub put_all : (bs : List Bounds) (k : ℕ) → length bs ≡ length ps → length ps ≤ k → ((i : ℕ) → i < k → get_or bs i (bounds 0 0) ≡ f (get_or ps i 0)) → bs ≡ map f ps
+  put_all bs k e h inv =
+      ext_get_or (bounds 0 0) bs (map f ps) (rw length-map e)
+      (λ i l. inv i (omega arith) ∙ sym (get_or-map-in f ps i 0 (bounds 0 0) (omega arith)))
 
 -- a field by a table of starts, in the order of the code
 module _ (n : ℕ) (t : List ℕ) (p : ℕ) where
@@ -305,13 +289,13 @@ module _ (l t : List ℕ) (n : ℕ) (counted : n ≡ length (fields l)) (noted :
   inside_by p b e = subst (λ (x : Bounds). Inside (length l) x) (sym (e ∙ by_line_lem p)) (field_inside l p)
 
   -- so the cells by the table are the line's
-  cells_same : (g : Bounds → ℕ) (ps : List ℕ) → map (λ p. g (field_by n t p)) ps ≡ map (λ p. g (field_at l p)) ps
-  cells_same g [] = refl
-  cells_same g (p ∷ ps) = rw (by_line_lem p, cells_same g ps)
+  cells_same : (ps : List ℕ) → map (field_by n t) ps ≡ map (field_at l) ps
+  cells_same [] = refl
+  cells_same (p ∷ ps) = rw (by_line_lem p, cells_same ps)
 
-  pub cells_by : (ps ss es : List ℕ) → (ss ≡ map (λ p. (field_by n t p).start) ps) × (es ≡ map (λ p. (field_by n t p).end) ps) → (ss ≡ starts_of l ps) × (es ≡ ends_of l ps)
-  unfolding starts_of ends_of
-  cells_by ps ss es e = (e.0 ∙ cells_same (λ b. b.start) ps, e.1 ∙ cells_same (λ b. b.end) ps)
+  pub cells_by : (ps : List ℕ) (bs : List Bounds) → bs ≡ map (field_by n t) ps → bs ≡ fields_at l ps
+  unfolding fields_at
+  cells_by ps bs e = e ∙ cells_same ps
 
   -- and no place past an end is 0
   pub past_some : (k : ℕ) → 0 < k → k ≤ n → 0 < get_or t k 0
@@ -339,36 +323,32 @@ fields_first l at e = rw (e, from_start l)
 
 -- the bounds that `locate` gives at k are those of the field in the column at k, and the value there is the row's
 module _ (l ps : List ℕ) (k : ℕ) where
-  start_at : get_or (starts_of l ps) k 0 ≡ (field_at l (get_or ps k 0)).start
-  unfolding starts_of field_at
-  start_at = get_or-map (λ p. (field_at l p).start) ps k 0
+  pub cell_at : get_or (fields_at l ps) k (bounds 0 0) ≡ field_at l (get_or ps k 0)
+  unfolding fields_at field_at
+  cell_at = get_or-map (field_at l) ps k 0
 
-  end_at : get_or (ends_of l ps) k 0 ≡ (field_at l (get_or ps k 0)).end
-  unfolding ends_of field_at
-  end_at = get_or-map (λ p. (field_at l p).end) ps k 0
-
-  pub cells_inside : (get_or (starts_of l ps) k 0 ≤ get_or (ends_of l ps) k 0) × (get_or (ends_of l ps) k 0 ≤ length l)
-  cells_inside = rw (start_at, end_at) ((field_inside l (get_or ps k 0)).ordered, (field_inside l (get_or ps k 0)).within)
-
-  pub cell_of : value (part l (bounds (get_or (starts_of l ps) k 0) (get_or (ends_of l ps) k 0))) ≡ cell l (get_or ps k 0)
+  pub cell_of : value (part l (get_or (fields_at l ps) k (bounds 0 0))) ≡ cell l (get_or ps k 0)
   unfolding cell
-  cell_of = rw (start_at, end_at)
+  cell_of = rw cell_at
 
-pub row_in_lem : (l ps : List ℕ) → row_in l (starts_of l ps) (ends_of l ps) ≡ row_of ps l
-unfolding row_in starts_of ends_of row_of cell
+pub row_in_lem : (l ps : List ℕ) → values_of l (fields_at l ps) ≡ row_of ps l
+unfolding values_of fields_at row_of cell
 row_in_lem l [] = refl
 row_in_lem l (p ∷ ps) = rw (row_in_lem l ps)
 
--- the same by the tables that `locate` gave
-module _ (l ps ss es : List ℕ) (s : ss ≡ starts_of l ps) (e : es ≡ ends_of l ps) (k : ℕ) where
-  pub located_inside : (get_or ss k 0 ≤ get_or es k 0) × (get_or es k 0 ≤ length l)
-  located_inside = rw (s, e) (cells_inside l ps k)
+-- the same by the cells that `locate` gave
+module _ (l ps : List ℕ) (bs : List Bounds) (e : bs ≡ fields_at l ps) (k : ℕ) where
+  pub located_at : get_or bs k (bounds 0 0) ≡ field_at l (get_or ps k 0)
+  located_at = rw e (cell_at l ps k)
 
-  pub located_cell : value (part l (bounds (get_or ss k 0) (get_or es k 0))) ≡ cell l (get_or ps k 0)
-  located_cell = rw (s, e) (cell_of l ps k)
+  pub located_inside : Inside (length l) (get_or bs k (bounds 0 0))
+  located_inside = rw located_at (field_inside l (get_or ps k 0))
 
-  pub located_value : value (part l (bounds (get_or ss k 0) (get_or es k 0))) ≡ get_or (row_in l ss es) k []
-  located_value = rw (s, e, row_in_lem l ps, row_at ps l k) (cell_of l ps k)
+  pub located_cell : value (part l (get_or bs k (bounds 0 0))) ≡ cell l (get_or ps k 0)
+  located_cell = rw e (cell_of l ps k)
 
-  pub located_row : row_in l ss es ≡ row_of ps l
-  located_row = rw (s, e) (row_in_lem l ps)
+  pub located_value : value (part l (get_or bs k (bounds 0 0))) ≡ get_or (values_of l bs) k []
+  located_value = rw (e, row_in_lem l ps, row_at ps l k) (cell_of l ps k)
+
+  pub located_row : values_of l bs ≡ row_of ps l
+  located_row = rw e (row_in_lem l ps)

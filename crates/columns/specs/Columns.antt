@@ -1,9 +1,9 @@
 -- The columns of a header and the fields under them, as tables of ten.
 use Rattle.std.specs.Prelude.{ℕ, zero, suc, ◌+◌, ◌-◌, ◌≤◌, ◌<◌, ◌≡◌, List, [], ◌∷◌, map, Option, Some, None, Bool, cond, ◌&&◌, length, get_or, set, eqb, ltb}
 use Rattle.meaning.specs.declared.Bounds.{Bounds}
-use Rattle.meaning.specs.Bytes.{bounds, part, value, fields}
+use Rattle.meaning.specs.Bytes.{bounds, fields}
 use Rattle.meaning.specs.Lists.{some}
-use Rattle.meaning.specs.Columns.{Row, column_of, count_of, places, field_at}
+use Rattle.meaning.specs.Columns.{column_of, count_of, places, field_at}
 
 -- g from k on, n times, then zeros, w in all
 unfoldable pub tab : (ℕ → ℕ) → ℕ → ℕ → ℕ → List ℕ
@@ -31,19 +31,16 @@ told c = cond (eqb c 0) None (Some c)
 unfoldable pub lacking : ℕ → List ℕ → Bool
 lacking f ps = some (λ k. (column_of f k).must && eqb (get_or ps k 0) 0) 0 (count_of f)
 
--- v in place of each of the first n of xs whose column is j
-unfoldable pub noted : List ℕ → ℕ → ℕ → ℕ → List ℕ → List ℕ
+-- a field in place of each of the first n of xs whose column is j
+unfoldable pub noted : List ℕ → ℕ → Bounds → ℕ → List Bounds → List Bounds
 noted ps j v zero xs = xs
 noted [] j v (suc n) xs = xs
 noted (p ∷ ps) j v (suc n) [] = []
 noted (p ∷ ps) j v (suc n) (x ∷ xs) = cond (eqb p j) v x ∷ noted ps j v n xs
 
--- where the field in each of these columns starts, and where it ends
-unfoldable pub starts_of : List ℕ → List ℕ → List ℕ
-starts_of l ps = map (λ p. (field_at l p).start) ps
-
-unfoldable pub ends_of : List ℕ → List ℕ → List ℕ
-ends_of l ps = map (λ p. (field_at l p).end) ps
+-- where the field in each of these columns lies
+unfoldable pub fields_at : List ℕ → List ℕ → List Bounds
+fields_at l ps = map (field_at l) ps
 
 -- the field in column p of n fields, by a table of where they start: number 0 has the first, number k the one past field k
 unfoldable pub field_by : ℕ → List ℕ → ℕ → Bounds
@@ -54,9 +51,3 @@ pub record Noted (l t : List ℕ) : Type 0 where
   pub short : length t ≤ 33
   pub first : get_or t 0 0 ≡ 0
   pub past : (k : ℕ) → 0 < k → k ≤ length (fields l) → k < length t → get_or t k 0 ≡ (field_at l k).end + 1
-
--- what a line says in fields with these starts and ends
-unfoldable pub row_in : List ℕ → List ℕ → List ℕ → Row
-row_in l [] es = []
-row_in l (a ∷ ss) [] = []
-row_in l (a ∷ ss) (e ∷ es) = value (part l (bounds a e)) ∷ row_in l ss es

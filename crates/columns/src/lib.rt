@@ -7,7 +7,7 @@ ghost use Rattle.meaning.specs.Refusals.{rule8};
 ghost use Rattle.text.specs.Fields.{up_to33};
 ghost use Rattle.schema.specs.Named.{counted};
 ghost use Rattle.columns.specs.Heading.{Heading};
-ghost use Rattle.columns.specs.Columns.{places_of, firsts_with, again_with, lacking, noted, starts_of, ends_of, field_by, told, Noted};
+ghost use Rattle.columns.specs.Columns.{places_of, firsts_with, again_with, lacking, noted, fields_at, field_by, told, Noted};
 
 use meaning::Bounds;
 use text::Cursor;
@@ -75,41 +75,27 @@ pub fn lacks(f: usize, at: [usize; 10]) -> bool
     (0..schema::count(f)).any(|k| schema::known(f, k).must && at[k] == 0)
 }
 
-// Where the field under each known column lies in a line; start and end are 0 where there is none. Two arrays, since the clauses of
-// `values`, `records`, `tables` and `reading` name them (`Within`, `Located`).
-#[derive(Clone, Copy)]
-pub struct Cells {
-    pub start: [usize; 10],
-    pub end: [usize; 10],
-}
-
-// A field from a to e, noted at each known column that stands in its column j.
-fn note_field(c: Cells, at: [usize; 10], j: usize, a: usize, e: usize) -> Cells
-    ensures { (result.start ≡ noted at j a 10 c.start) × (result.end ≡ noted at j e 10 c.end) }
+// A field, noted in the cell of each known column that stands in its column j.
+fn note_field(cells: &mut [Bounds; 10], at: [usize; 10], j: usize, field: Bounds)
+    ensures { cells.new ≡ noted at j field 10 cells.old }
 {
-    let mut start = c.start;
-    let mut end = c.end;
     for (k, p) in at.iter().enumerate() {
         if *p == j {
-            start[k] = a;
-            end[k] = e;
+            cells[k] = field;
         }
     }
-    Cells { start, end }
 }
 
-// The fields of a line under columns, each noted where it is met: for lines of any number of fields.
-fn wide_cells(l: &[u8], at: [usize; 10]) -> Cells
-    ensures { (result.start ≡ starts_of l.now at) × (result.end ≡ ends_of l.now at) }
+// A line's cells are where the field under each known column lies in it, 0 to 0 where there is none: here each is noted where it is met,
+// for lines of any number of fields.
+fn wide_cells(l: &[u8], at: [usize; 10]) -> [Bounds; 10]
+    ensures { result ≡ fields_at l.now at }
 {
-    let mut cells = Cells {
-        start: [0usize; 10],
-        end: [0usize; 10],
-    };
+    let mut cells = [Bounds { start: 0, end: 0 }; 10];
     let mut c = Cursor::new();
     let mut n: usize = 1;
     while let Some((field, next)) = c.next(l) {
-        cells = note_field(cells, at, n, field.start, field.end);
+        note_field(&mut cells, at, n, field);
         n += 1;
         c = next;
     }
@@ -134,24 +120,21 @@ fn field_by(count: usize, starts: &[usize], p: usize) -> Bounds
 }
 
 // The fields under columns, one look-up each.
-fn near_cells(count: usize, starts: &[usize], at: [usize; 10]) -> Cells
+fn near_cells(count: usize, starts: &[usize], at: [usize; 10]) -> [Bounds; 10]
     requires { (count < length starts.now) × ((k : ℕ) → 0 < k → k ≤ count → 0 < get_or starts.now k 0) }
-    ensures { (result.start ≡ map (λ p. (field_by count starts.now p).start) at) × (result.end ≡ map (λ p. (field_by count starts.now p).end) at) }
+    ensures { result ≡ map (field_by count starts.now) at }
 {
-    let mut start = [0usize; 10];
-    let mut end = [0usize; 10];
+    let mut cells = [Bounds { start: 0, end: 0 }; 10];
     for (k, p) in at.iter().enumerate() {
-        let b = field_by(count, starts, *p);
-        start[k] = b.start;
-        end[k] = b.end;
+        cells[k] = field_by(count, starts, *p);
     }
-    Cells { start, end }
+    cells
 }
 
 // The fields of a line under columns, where a walk along it told how many fields it has and, as far as the table goes, where they start.
-pub fn cells_of(l: &[u8], count: usize, starts: &[usize], at: [usize; 10]) -> Cells
+pub fn cells_of(l: &[u8], count: usize, starts: &[usize], at: [usize; 10]) -> [Bounds; 10]
     requires { (count ≡ up_to33 (length (fields l.now))) × Noted l.now starts.now }
-    ensures { (result.start ≡ starts_of l.now at) × (result.end ≡ ends_of l.now at) }
+    ensures { result ≡ fields_at l.now at }
 {
     if count < starts.len() {
         return near_cells(count, starts, at);
@@ -228,8 +211,8 @@ pub fn read_header(f: usize, s: &[u8]) -> Header
 }
 
 // The fields of a line under columns, in one walk along the line.
-pub fn locate(l: &[u8], at: [usize; 10]) -> Cells
-    ensures { (result.start ≡ starts_of l.now at) × (result.end ≡ ends_of l.now at) }
+pub fn locate(l: &[u8], at: [usize; 10]) -> [Bounds; 10]
+    ensures { result ≡ fields_at l.now at }
 {
     let mut starts = blank_starts();
     let m = text::walk_fields(l, &mut starts);

@@ -7,6 +7,8 @@ ghost use Rattle.ordering.specs.Ids.{id_of};
 ghost use Rattle.seeking.specs.First.{First, id_is};
 ghost use Rattle.memo.specs.Memo.{Ready};
 
+use seeking::Records;
+
 // How many records a memo remembers: it may be any number up to RANGE.
 pub const SIZE: usize = 16384;
 
@@ -50,29 +52,29 @@ fn remember(memo: &mut [u32], h: usize, r: usize)
 }
 
 // Is it a record, and is its id the value of a raw field?
-fn is_hit(s: &[u8], t: &[i32], w: usize, r: usize, raw: &[u8]) -> bool
+fn is_hit(a: Records, w: usize, r: usize, raw: &[u8]) -> bool
     requires { (w ≤ 8) × (r < 2 ^ 32) }
-    ensures { result ≡ true → (0 < r) × (same (id_of s.now t.now w r) (value raw.now) ≡ true) }
+    ensures { result ≡ true → (0 < r) × (same (id_of a.entry.file.now a.entry.table.now w r) (value raw.now) ≡ true) }
 {
     if r == 0 {
         return false;
     }
-    ranking::same_values(ordering::raw_id(s, t, w, r), raw)
+    ranking::same_values(ordering::raw_id(a.file, a.table, w, r), raw)
 }
 
-// The first of n records that has the id of a raw field, 0 where there is none: from the memo, else by the search.
-pub fn first_record(s: &[u8], t: &[i32], w: usize, n: usize, raw: &[u8], memo: &mut [u32]) -> usize
-    requires { Ready s.now t.now w n memo.old }
-    ensures first { First (id_is s.now t.now w (value raw.now)) (n + 1) result }
-    ensures upper_bound { result ≤ n }
-    ensures ready { Ready s.now t.now w n memo.new }
+// The first of the records that has the id of a raw field, 0 where there is none: from the memo, else by the search.
+pub fn first_record(a: Records, w: usize, raw: &[u8], memo: &mut [u32]) -> usize
+    requires { Ready a.file.now a.table.now w a.count memo.old }
+    ensures first { First (id_is a.entry.file.now a.entry.table.now w (value raw.now)) (a.entry.count + 1) result }
+    ensures upper_bound { result ≤ a.entry.count }
+    ensures ready { Ready a.entry.file.now a.entry.table.now w a.entry.count memo.new }
 {
     let h = slot(raw);
     let r = recall(memo, h);
-    if is_hit(s, t, w, r, raw) {
+    if is_hit(a, w, r, raw) {
         return r;
     }
-    let q = seeking::first_record(s, t, w, n, raw);
+    let q = seeking::first_record(a, w, raw);
     remember(memo, h, q);
     q
 }

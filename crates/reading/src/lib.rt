@@ -10,15 +10,16 @@ ghost use Rattle.meaning.specs.Refusals.{text_tests, head_tests, value_tests, li
 ghost use Rattle.text.specs.Fields.{up_to33};
 ghost use Rattle.schema.specs.AllKnown.{AllKnown};
 ghost use Rattle.columns.specs.Columns.{Noted};
-ghost use Rattle.values.specs.Located.{Within, Located};
+ghost use Rattle.values.specs.Located.{Located};
 ghost use Rattle.reading.specs.Tests.{of_rule, first, byte_tests, column_tests, earlier_of};
 ghost use Rattle.reading.specs.Heads.{columns_under};
 ghost use Rattle.reading.specs.Wholes.{whole_of, wholes_of, rule_marks, first_true, whole_claims};
 
-use columns::{Cells, Columns};
+use columns::Columns;
 use meaning::{Column, Form, MAX_BYTES, MAX_LINES, Need, Refusal, Time};
 use rows::{Calendar, Dates, Stops, Table};
 use text::Measured;
+use values::LocatedLine;
 
 // Is the value of a raw field a time, or empty?
 fn is_time(raw: &[u8]) -> bool
@@ -60,17 +61,16 @@ pub struct Fault {
 }
 
 // Up to which need a line may leave values empty: one of type 3 or 4 its name; its place too, where it has no coordinate.
-fn slack_of(f: usize, l: &[u8], q: Cells) -> Need
-    requires { Within (length l.now) q.start q.end }
-    ensures { (ps : List ℕ) → Located l.now ps q.start q.end → result ≡ slack f (row_of ps l.now) }
+fn slack_of(f: usize, l: &LocatedLine) -> Need
+    ensures { (ps : List ℕ) → Located l.now.line.now ps l.now.cells → result ≡ slack f (row_of ps l.now.line.now) }
 {
     if f != Stops::FILE {
         return Need::Never;
     }
-    if values::location_type(l, q) <= 2 {
+    if l.location_type() <= 2 {
         return Need::Never;
     }
-    if values::has_place(l, q) {
+    if l.has_place() {
         return Need::AllButInner;
     }
     Need::AllButPlaceless
@@ -136,12 +136,11 @@ fn row_fault(
     ensures { result ≡ first (value_tests f at l.now) }
 {
     let cells = columns::cells_of(l, count, starts, at);
-    let slack = slack_of(f, l, cells);
-    let start = cells.start;
-    let end = cells.end;
+    let located = LocatedLine { line: l, cells };
+    let slack = slack_of(f, &located);
     let mut fault = None;
     for k in 0..schema::count(f) {
-        let raw = &l[start[k]..end[k]];
+        let raw = located.raw(k);
         fault = earlier(fault, value_fault(known[k], slack, at[k], raw));
     }
     fault

@@ -1,6 +1,7 @@
 -- The ids that a record's references are looked up among.
 use Rattle.std.specs.Prelude.{ℕ, ◌≡◌, List, ℤ, length}
 use Rattle.meaning.specs.Tables.{Feed, stop_ids, route_ids, service_ids, trip_ids}
+use Rattle.seeking.specs.declared.Records.{Records}
 use Rattle.seeking.specs.First.{Held}
 use Rattle.ordering.specs.Ids.{Placed, Arranged}
 use Rattle.memo.specs.Memo.{Ready}
@@ -10,23 +11,23 @@ pub record Lists (s : List ℕ) (t : List ℤ) (width n : ℕ) (ids : List (List
   pub held : Held s t width ids
   pub count : n ≡ length ids
 
--- what a file refers to: two files with their tables and their numbers of records
-pub record Refers (f : ℕ) (w : Feed) (a : List ℕ) (at : List ℤ) (an : ℕ) (b : List ℕ) (bt : List ℤ) (bn : ℕ) : Type 0 where
-  pub routes : f ≡ 4 → Lists a at 3 an (route_ids w)
-  pub services : f ≡ 4 → Lists b bt 5 bn (service_ids w)
-  pub trips : f ≡ 5 → Lists a at 8 an (trip_ids w)
-  pub stops : f ≡ 5 → Lists b bt 7 bn (stop_ids w)
+-- what a file refers to: the records of two files
+pub record Refers (f : ℕ) (w : Feed) (a b : Records) : Type 0 where
+  pub routes : f ≡ 4 → Lists a.file.now a.table.now 3 a.count (route_ids w)
+  pub services : f ≡ 4 → Lists b.file.now b.table.now 5 b.count (service_ids w)
+  pub trips : f ≡ 5 → Lists a.file.now a.table.now 8 a.count (trip_ids w)
+  pub stops : f ≡ 5 → Lists b.file.now b.table.now 7 b.count (stop_ids w)
 
 -- those tables keep the order of their ids
-pub record Indexed (f : ℕ) (a : List ℕ) (at : List ℤ) (an : ℕ) (b : List ℕ) (bt : List ℤ) (bn : ℕ) : Type 0 where
-  pub routes : f ≡ 4 → Placed a at 3 an × Arranged a 3 an at
-  pub services : f ≡ 4 → Placed b bt 5 bn × Arranged b 5 bn bt
-  pub trips : f ≡ 5 → Placed a at 8 an × Arranged a 8 an at
-  pub stops : f ≡ 5 → Placed b bt 7 bn × Arranged b 7 bn bt
+pub record Indexed (f : ℕ) (a b : Records) : Type 0 where
+  pub routes : f ≡ 4 → Placed a.file.now a.table.now 3 a.count × Arranged a.file.now 3 a.count a.table.now
+  pub services : f ≡ 4 → Placed b.file.now b.table.now 5 b.count × Arranged b.file.now 5 b.count b.table.now
+  pub trips : f ≡ 5 → Placed a.file.now a.table.now 8 a.count × Arranged a.file.now 8 a.count a.table.now
+  pub stops : f ≡ 5 → Placed b.file.now b.table.now 7 b.count × Arranged b.file.now 7 b.count b.table.now
 
 -- .. and are looked up in behind a memo each
-pub record Sought (f : ℕ) (a : List ℕ) (at : List ℤ) (an : ℕ) (am b : List ℕ) (bt : List ℤ) (bn : ℕ) (bm : List ℕ) : Type 0 where
-  pub routes : f ≡ 4 → Ready a at 3 an am
-  pub services : f ≡ 4 → Ready b bt 5 bn bm
-  pub trips : f ≡ 5 → Ready a at 8 an am
-  pub stops : f ≡ 5 → Ready b bt 7 bn bm
+pub record Sought (f : ℕ) (a : Records) (am : List ℕ) (b : Records) (bm : List ℕ) : Type 0 where
+  pub routes : f ≡ 4 → Ready a.file.now a.table.now 3 a.count am
+  pub services : f ≡ 4 → Ready b.file.now b.table.now 5 b.count bm
+  pub trips : f ≡ 5 → Ready a.file.now a.table.now 8 a.count am
+  pub stops : f ≡ 5 → Ready b.file.now b.table.now 7 b.count bm

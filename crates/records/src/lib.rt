@@ -17,6 +17,7 @@ use rows::{
     Calendar, DateRow, Dates, RouteRow, Routes, ServiceRow, StopRow, StopTimes, Stops, Table,
     TimeRow, TripRow, Trips,
 };
+use seeking::Records;
 
 // The place in the file of the field under known column k.
 pub fn field_place(l: &[u8], at: usize, q: Cells, k: usize) -> Bounds
@@ -73,33 +74,32 @@ fn put_service(l: &[u8], at: usize, q: Cells, t: &mut [i32], row: ServiceRow)
     Calendar::put(t, row, id, days, start, end);
 }
 
-// A trip, whose service's first exception is settled: a is routes.txt, b is calendar.txt.
+// A trip, whose service's first exception is settled.
 fn put_trip(
     l: &[u8],
     at: usize,
     q: Cells,
     t: &mut [i32],
     row: TripRow,
-    a: &[u8],
-    a_table: &[i32],
-    a_count: usize,
-    a_memo: &mut [u32],
-    b: &[u8],
-    b_table: &[i32],
-    b_count: usize,
-    b_memo: &mut [u32],
+    routes: Records,
+    routes_memo: &mut [u32],
+    services: Records,
+    services_memo: &mut [u32],
 )
     requires lies { Lies l.now at q.start q.end × (row.0 * 8 + 8 ≤ length t.old) }
-    requires a_count_le_max_lines { (a_count ≤ max_lines) × (b_count ≤ max_lines) }
-    requires ready { Ready a.now a_table.now 3 a_count a_memo.old × Ready b.now b_table.now 5 b_count b_memo.old }
+    requires count_le_max_lines { (routes.count ≤ max_lines) × (services.count ≤ max_lines) }
+    requires ready { Ready routes.file.now routes.table.now 3 routes.count routes_memo.old
+        × Ready services.file.now services.table.now 5 services.count services_memo.old }
     ensures t_after { (w : Feed) (ps : List ℕ) → Located l.now ps q.start q.end
-        → Lists a.now a_table.now 3 a_count (route_ids w) → Lists b.now b_table.now 5 b_count (service_ids w)
+        → Lists routes.entry.file.now routes.entry.table.now 3 routes.entry.count (route_ids w)
+        → Lists services.entry.file.now services.entry.table.now 5 services.entry.count (service_ids w)
         → get_or t.old (row.0 * 8 + 7) (pos 0) ≡ pos (refer (trip_service (row_of ps l.now)) (dated_ids w))
         → t.new ≡ put_at t.old (row.0 * 8) (record_of 4 w ps (line at l.now)) }
-    ensures ready_2 { Ready a.now a_table.now 3 a_count a_memo.new × Ready b.now b_table.now 5 b_count b_memo.new }
+    ensures ready_2 { Ready routes.entry.file.now routes.entry.table.now 3 routes.entry.count routes_memo.new
+        × Ready services.entry.file.now services.entry.table.now 5 services.entry.count services_memo.new }
 {
-    let route = resolve::find::<Routes>(a, a_table, a_count, values::raw(l, q, 0), a_memo);
-    let service = resolve::find::<Calendar>(b, b_table, b_count, values::raw(l, q, 1), b_memo);
+    let route = resolve::find::<Routes>(routes, values::raw(l, q, 0), routes_memo);
+    let service = resolve::find::<Calendar>(services, values::raw(l, q, 1), services_memo);
     let id = field_place(l, at, q, 2);
     let direction = values::choice_or_minus(l, q, 3, 1);
     let wheelchair = values::choice_or_zero(l, q, 4, 2);
@@ -107,32 +107,31 @@ fn put_trip(
     Trips::put(t, row, id, route, service, direction, wheelchair, bikes);
 }
 
-// A stop time, which waits: a is trips.txt, b is stops.txt.
+// A stop time, which waits.
 fn put_time(
     l: &[u8],
     at: usize,
     q: Cells,
     t: &mut [i32],
     row: TimeRow,
-    a: &[u8],
-    a_table: &[i32],
-    a_count: usize,
-    a_memo: &mut [u32],
-    b: &[u8],
-    b_table: &[i32],
-    b_count: usize,
-    b_memo: &mut [u32],
+    trips: Records,
+    trips_memo: &mut [u32],
+    stops: Records,
+    stops_memo: &mut [u32],
 )
     requires lies { Lies l.now at q.start q.end × (row.0 * 8 + 8 ≤ length t.old) }
-    requires a_count_le_max_lines { (a_count ≤ max_lines) × (b_count ≤ max_lines) }
-    requires ready { Ready a.now a_table.now 8 a_count a_memo.old × Ready b.now b_table.now 7 b_count b_memo.old }
+    requires count_le_max_lines { (trips.count ≤ max_lines) × (stops.count ≤ max_lines) }
+    requires ready { Ready trips.file.now trips.table.now 8 trips.count trips_memo.old
+        × Ready stops.file.now stops.table.now 7 stops.count stops_memo.old }
     ensures t_after { (w : Feed) (ps : List ℕ) → Located l.now ps q.start q.end
-        → Lists a.now a_table.now 8 a_count (trip_ids w) → Lists b.now b_table.now 7 b_count (stop_ids w)
+        → Lists trips.entry.file.now trips.entry.table.now 8 trips.entry.count (trip_ids w)
+        → Lists stops.entry.file.now stops.entry.table.now 7 stops.entry.count (stop_ids w)
         → t.new ≡ put_at t.old (row.0 * 8) (waiting_of w ps (line at l.now)) }
-    ensures ready_2 { Ready a.now a_table.now 8 a_count a_memo.new × Ready b.now b_table.now 7 b_count b_memo.new }
+    ensures ready_2 { Ready trips.entry.file.now trips.entry.table.now 8 trips.entry.count trips_memo.new
+        × Ready stops.entry.file.now stops.entry.table.now 7 stops.entry.count stops_memo.new }
 {
-    let trip = resolve::find::<Trips>(a, a_table, a_count, values::raw(l, q, 0), a_memo);
-    let stop = resolve::find::<Stops>(b, b_table, b_count, values::raw(l, q, 3), b_memo);
+    let trip = resolve::find::<Trips>(trips, values::raw(l, q, 0), trips_memo);
+    let stop = resolve::find::<Stops>(stops, values::raw(l, q, 3), stops_memo);
     let sequence = values::sequence(l, q, 4);
     let arrival = values::clock(l, q, 1);
     let departure = values::clock(l, q, 2);
@@ -157,7 +156,7 @@ fn put_date(l: &[u8], at: usize, q: Cells, t: &mut [i32], row: DateRow)
     Dates::put(t, row, id, date, kind);
 }
 
-// What the second walk writes for a line of file f, with known columns in the columns `places`; a and b are the files that it refers to.
+// What the second walk writes for a line of file f, with known columns in the columns `places`; a and b are the records that it refers to.
 pub fn put_record(
     f: usize,
     l: &[u8],
@@ -165,24 +164,20 @@ pub fn put_record(
     places: [usize; 10],
     t: &mut [i32],
     r: usize,
-    a: &[u8],
-    a_table: &[i32],
-    a_count: usize,
+    a: Records,
     a_memo: &mut [u32],
-    b: &[u8],
-    b_table: &[i32],
-    b_count: usize,
+    b: Records,
     b_memo: &mut [u32],
 )
     requires le_f { (1 ≤ f) × ((f ≤ 6) × (at + length l.now ≤ max_bytes)) }
     requires f_in_bounds { r * width_of f + width_of f ≤ length t.old }
-    requires a_count_le_max_lines { (a_count ≤ max_lines) × (b_count ≤ max_lines) }
-    requires sought { Sought f a.now a_table.now a_count a_memo.old b.now b_table.now b_count b_memo.old }
+    requires count_le_max_lines { (a.count ≤ max_lines) × (b.count ≤ max_lines) }
+    requires sought { Sought f a a_memo.old b b_memo.old }
     ensures by_index { (w : Feed) (ps : List ℕ) → ((k : ℕ) → get_or places k 0 ≡ get_or ps k 0)
-        → Refers f w a.now a_table.now a_count b.now b_table.now b_count
+        → Refers f w a.entry b.entry
         → (waits f ≡ true → get_or t.old (last_of f r) (pos 0) ≡ pos (named_of f w (row_of ps l.now)))
         → t.new ≡ put_at t.old (r * width_of f) (written_of f w ps (line at l.now)) }
-    ensures sought_2 { Sought f a.now a_table.now a_count a_memo.new b.now b_table.now b_count b_memo.new }
+    ensures sought_2 { Sought f a.entry a_memo.new b.entry b_memo.new }
 {
     let q = columns::locate(l, places);
     match f {
@@ -190,35 +185,7 @@ pub fn put_record(
         Routes::FILE => put_route(l, at, q, t, RouteRow::new(r)),
         Calendar::FILE => put_service(l, at, q, t, ServiceRow::new(r)),
         Dates::FILE => put_date(l, at, q, t, DateRow::new(r)),
-        Trips::FILE => put_trip(
-            l,
-            at,
-            q,
-            t,
-            TripRow::new(r),
-            a,
-            a_table,
-            a_count,
-            a_memo,
-            b,
-            b_table,
-            b_count,
-            b_memo,
-        ),
-        _ => put_time(
-            l,
-            at,
-            q,
-            t,
-            TimeRow::new(r),
-            a,
-            a_table,
-            a_count,
-            a_memo,
-            b,
-            b_table,
-            b_count,
-            b_memo,
-        ),
+        Trips::FILE => put_trip(l, at, q, t, TripRow::new(r), a, a_memo, b, b_memo),
+        _ => put_time(l, at, q, t, TimeRow::new(r), a, a_memo, b, b_memo),
     }
 }

@@ -10,6 +10,14 @@ ghost use Rattle.seeking.specs.Seek.{Lower};
 
 use ordering::By;
 
+// The records of a file: its bytes, its table, and how many there are.
+#[derive(Clone, Copy)]
+pub struct Records<'a> {
+    pub file: &'a [u8],
+    pub table: &'a [i32],
+    pub count: usize,
+}
+
 // The number of a record in which its file's order by id has a cell.
 pub const CELL: usize = 2;
 
@@ -23,25 +31,26 @@ pub fn arrange(s: &[u8], t: &mut [i32], w: usize, n: usize)
 }
 
 // Does the id in cell i come before the value of a raw field?
-fn is_before(s: &[u8], t: &[i32], w: usize, i: usize, raw: &[u8]) -> bool
-    requires { Room w i t.now }
-    ensures { result ≡ before (id_of s.now t.now w (cell t.now w i)) (value raw.now) }
+fn is_before(a: Records, w: usize, i: usize, raw: &[u8]) -> bool
+    requires { Room w i a.table.now }
+    ensures { result ≡ before (id_of a.entry.file.now a.entry.table.now w (cell a.entry.table.now w i)) (value raw.now) }
 {
-    ranking::compare_values(ordering::raw_id(s, t, w, ordering::get(t, w, CELL, i)), raw).is_lt()
+    let r = ordering::get(a.table, w, CELL, i);
+    ranking::compare_values(ordering::raw_id(a.file, a.table, w, r), raw).is_lt()
 }
 
-// The first cell whose id doesn't come before the value of a raw field; n + 1 where there is none.
-fn lower(s: &[u8], t: &[i32], w: usize, n: usize, raw: &[u8]) -> usize
-    requires room { Room w n t.now }
-    requires sorted { Sorted (no_later (id_of s.now t.now w)) (cell t.now w) n }
-    ensures { Lower (id_of s.now t.now w) (cell t.now w) n (value raw.now) result }
+// The first cell whose id doesn't come before the value of a raw field; the count + 1 where there is none.
+fn lower(a: Records, w: usize, raw: &[u8]) -> usize
+    requires room { Room w a.count a.table.now }
+    requires sorted { Sorted (no_later (id_of a.file.now a.table.now w)) (cell a.table.now w) a.count }
+    ensures { Lower (id_of a.entry.file.now a.entry.table.now w) (cell a.entry.table.now w) a.entry.count (value raw.now) result }
 {
     // by hand: cells are numbers of the records, so there is no slice for the library's partition_point
     let mut lo = 1;
-    let mut hi = n + 1;
+    let mut hi = a.count + 1;
     while lo < hi {
         let mid = lo + (hi - lo) / 2;
-        if is_before(s, t, w, mid, raw) {
+        if is_before(a, w, mid, raw) {
             lo = mid + 1;
         } else {
             hi = mid;
@@ -50,18 +59,18 @@ fn lower(s: &[u8], t: &[i32], w: usize, n: usize, raw: &[u8]) -> usize
     lo
 }
 
-// The first of n records that has the id of a raw field, 0 where there is none.
-pub fn first_record(s: &[u8], t: &[i32], w: usize, n: usize, raw: &[u8]) -> usize
-    requires { Placed s.now t.now w n × Arranged s.now w n t.now }
-    ensures first { First (id_is s.now t.now w (value raw.now)) (n + 1) result }
-    ensures upper_bound { result ≤ n }
+// The first of the records that has the id of a raw field, 0 where there is none.
+pub fn first_record(a: Records, w: usize, raw: &[u8]) -> usize
+    requires { Placed a.file.now a.table.now w a.count × Arranged a.file.now w a.count a.table.now }
+    ensures first { First (id_is a.entry.file.now a.entry.table.now w (value raw.now)) (a.entry.count + 1) result }
+    ensures upper_bound { result ≤ a.entry.count }
 {
-    let at = lower(s, t, w, n, raw);
-    if n < at {
+    let at = lower(a, w, raw);
+    if a.count < at {
         return 0;
     }
-    let r = ordering::get(t, w, CELL, at);
-    if ranking::same_values(ordering::raw_id(s, t, w, r), raw) {
+    let r = ordering::get(a.table, w, CELL, at);
+    if ranking::same_values(ordering::raw_id(a.file, a.table, w, r), raw) {
         return r;
     }
     0

@@ -4,18 +4,18 @@ use Rattle.meaning.specs.declared.Bounds.{Bounds}
 use Rattle.meaning.specs.Bytes.{bounds, part, value}
 use Rattle.meaning.specs.Columns.{field_at}
 
--- where the field under known column k lies, by lists of starts and of ends
-abbrev pub field_in : List ℕ → List ℕ → ℕ → Bounds
-field_in st en k = bounds (get_or st k 0) (get_or en k 0)
+-- where the field under known column k lies
+abbrev pub field_in : List Bounds → ℕ → Bounds
+field_in cells k = get_or cells k (bounds 0 0)
 
 -- the value under known column k
-abbrev pub value_in : List ℕ → List ℕ → List ℕ → ℕ → List ℕ
-value_in l st en k = value (part l (field_in st en k))
+abbrev pub value_in : List ℕ → List Bounds → ℕ → List ℕ
+value_in l cells k = value (part l (field_in cells k))
 
 -- the fields lie inside a line of n bytes
-abbrev pub Within : ℕ → List ℕ → List ℕ → Type 0
-Within n st en = (k : ℕ) → (get_or st k 0 ≤ get_or en k 0) × (get_or en k 0 ≤ n)
+abbrev pub Within : ℕ → List Bounds → Type 0
+Within n cells = (k : ℕ) → ((field_in cells k).start ≤ (field_in cells k).end) × ((field_in cells k).end ≤ n)
 
 -- they are those in the columns ps of a line
-abbrev pub Located : List ℕ → List ℕ → List ℕ → List ℕ → Type 0
-Located l ps st en = (k : ℕ) → field_in st en k ≡ field_at l (get_or ps k 0)
+abbrev pub Located : List ℕ → List ℕ → List Bounds → Type 0
+Located l ps cells = (k : ℕ) → field_in cells k ≡ field_at l (get_or ps k 0)

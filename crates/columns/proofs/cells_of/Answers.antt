@@ -12,4 +12,4 @@ near_cells-requires c =
 pub returns-then-count-starts : goal.returns-then-count-starts
 returns-then-count-starts c =
     let p = c.requires in
-    cells_by _ _ _ (up_exact _ _ p.0 (omega arith)) p.1 c.if-count-starts.true _ _ _ c.near_cells.ensures
+    cells_by _ _ _ (up_exact _ _ p.0 (omega arith)) p.1 c.if-count-starts.true _ _ c.near_cells.ensures

@@ -4,5 +4,4 @@ use mathlib.Core.Path.{◌≡◌}
 use Rattle.columns.proofs.note_field.Given as goal
 
 abbrev pub invariant-loop-k : goal.invariant-loop-k
-invariant-loop-k l =
-    (l.start ≡ noted l.fn.at l.j l.a l.k l.initial.start) × (l.end ≡ noted l.fn.at l.j l.e l.k l.initial.end)
+invariant-loop-k l = l.cells ≡ noted l.fn.at l.j l.field l.k l.fn.cells

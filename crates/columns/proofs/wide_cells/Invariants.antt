@@ -10,7 +10,7 @@ use Rattle.columns.proofs.wide_cells.Given as goal
 abbrev pub invariant-loop-field : goal.invariant-loop-field
 invariant-loop-field l =
     (l.c.at ≤ length l.l + 1) × (1 ≤ l.n) × (l.n ≤ l.c.at + 1) × (drop (l.n - 1) (fields l.l) ≡ fields_from l.l l.c.at)
-    × (l.cells.start ≡ seen (λ b. b.start) l.l l.n l.at) × (l.cells.end ≡ seen (λ b. b.end) l.l l.n l.at)
+    × (l.cells ≡ seen l.l l.n l.at)
 
 abbrev pub decreases-loop-field : goal.decreases-loop-field
 decreases-loop-field l = length l.l + 1 - l.c.at

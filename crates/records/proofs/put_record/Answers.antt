@@ -67,7 +67,7 @@ unfolding width_of widths
 put_trip-requires c =
     let k : c.args.f ≡ 4 = omega arith in record {
       lies = (lies _ _ _ _ c.locate-q.ensures.0 c.locate-q.ensures.1 _ c.requires.le_f.1.1, rw c.new-in-4.ensures (file_room _ 4 _ _ k c.requires.f_in_bounds));
-      a_count_le_max_lines = c.requires.a_count_le_max_lines;
+      count_le_max_lines = c.requires.count_le_max_lines;
       ready = (c.requires.sought.routes k, c.requires.sought.services k);
     }
 
@@ -76,7 +76,7 @@ unfolding width_of widths written_of waits named_of waiting_column sought_ids
 returns-in-4 c =
     let k : c.args.f ≡ 4 = omega arith in record {
       by_index = (λ w ps e refs settled. file_put _ 4 _ _ _ _ _ _ k (rw c.new-in-4.ensures at (c.put_trip.ensures.t_after w ps (located c.args.l.now c.args.places _ _ c.locate-q.ensures.0 c.locate-q.ensures.1 ps e) (refs.routes k) (refs.services k) (rw c.new-in-4.ensures (file_named _ 4 c.args.r w (row_of ps c.args.l.now) c.args.t.now k refl settled)))));
-      sought_2 = sought_trips _ _ _ _ _ _ _ _ _ k c.put_trip.ensures.ready_2.0 c.put_trip.ensures.ready_2.1;
+      sought_2 = sought_trips _ _ _ _ _ k c.put_trip.ensures.ready_2.0 c.put_trip.ensures.ready_2.1;
     }
 
 pub put_time-requires : goal.put_time-requires
@@ -84,7 +84,7 @@ unfolding width_of widths
 put_time-requires c =
     let k : c.args.f ≡ 5 = omega (arith, c.requires.le_f.0, c.requires.le_f.1.0) in record {
       lies = (lies _ _ _ _ c.locate-q.ensures.0 c.locate-q.ensures.1 _ c.requires.le_f.1.1, rw c.new-in_default.ensures (file_room _ 5 _ _ k c.requires.f_in_bounds));
-      a_count_le_max_lines = c.requires.a_count_le_max_lines;
+      count_le_max_lines = c.requires.count_le_max_lines;
       ready = (c.requires.sought.trips k, c.requires.sought.stops k);
     }
 
@@ -93,5 +93,5 @@ unfolding width_of widths written_of
 returns-in_default c =
     let k : c.args.f ≡ 5 = omega (arith, c.requires.le_f.0, c.requires.le_f.1.0) in record {
       by_index = (λ w ps e refs settled. file_put _ 5 _ _ _ _ _ _ k (rw c.new-in_default.ensures at (c.put_time.ensures.t_after w ps (located c.args.l.now c.args.places _ _ c.locate-q.ensures.0 c.locate-q.ensures.1 ps e) (refs.trips k) (refs.stops k))));
-      sought_2 = sought_times _ _ _ _ _ _ _ _ _ k c.put_time.ensures.ready_2.0 c.put_time.ensures.ready_2.1;
+      sought_2 = sought_times _ _ _ _ _ k c.put_time.ensures.ready_2.0 c.put_time.ensures.ready_2.1;
     }

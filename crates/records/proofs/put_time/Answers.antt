@@ -33,7 +33,7 @@ pub put_waiting-requires : goal.put_waiting-requires
 put_waiting-requires c =
     let place = c.field_place-place.ensures.start_le_max_bytes in record {
       row_in_bounds = c.requires.lies.1;
-      trip_bound = (omega (arith, c.find-trip.ensures.result_le_n, c.requires.a_count_le_max_lines.0), (omega (arith, c.find-stop.ensures.result_le_n, c.requires.a_count_le_max_lines.1), (omega (arith, c.sequence-sequence.ensures.1), (omega (arith, c.choice_or_zero-pickup.ensures.1), (omega (arith, c.choice_or_zero-drop_off.ensures.1), (omega (arith, place.0), omega (arith, place.1)))))));
+      trip_bound = (omega (arith, c.find-trip.ensures.result_le_n, c.requires.count_le_max_lines.0), (omega (arith, c.find-stop.ensures.result_le_n, c.requires.count_le_max_lines.1), (omega (arith, c.sequence-sequence.ensures.1), (omega (arith, c.choice_or_zero-pickup.ensures.1), (omega (arith, c.choice_or_zero-drop_off.ensures.1), (omega (arith, place.0), omega (arith, place.1)))))));
     }
 
 pub returns : goal.returns

@@ -22,7 +22,7 @@ pub put-requires : goal.put-requires
 put-requires c =
     let i = c.field_place-id.ensures.start_le_max_bytes in record {
       row_in_bounds = omega (arith, c.requires.lies.1);
-      start_bound = (omega (arith, i.0), (omega (arith, i.1), (omega (arith, c.find-route.ensures.result_le_n, c.requires.a_count_le_max_lines.0), (omega (arith, c.find-service.ensures.result_le_n, c.requires.a_count_le_max_lines.1), (omega (arith, c.choice_or_zero-wheelchair.ensures.1), omega (arith, c.choice_or_zero-bikes.ensures.1))))));
+      start_bound = (omega (arith, i.0), (omega (arith, i.1), (omega (arith, c.find-route.ensures.result_le_n, c.requires.count_le_max_lines.0), (omega (arith, c.find-service.ensures.result_le_n, c.requires.count_le_max_lines.1), (omega (arith, c.choice_or_zero-wheelchair.ensures.1), omega (arith, c.choice_or_zero-bikes.ensures.1))))));
     }
 
 pub returns : goal.returns

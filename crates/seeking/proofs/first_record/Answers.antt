@@ -10,23 +10,23 @@ pub lower-at-requires : goal.lower-at-requires
 unfolding in_order no_later
 lower-at-requires c = search rules
 
-pub returns-then-n-at : goal.returns-then-n-at
+pub returns-then-a-at : goal.returns-then-a-at
 unfolding in_order no_later
-returns-then-n-at c =
-    let p = c.requires in let every = seek_past _ _ _ _ _ p.0 p.1.whole p.1.sorted _ c.lower-at.ensures c.if-n-at.true in record {
+returns-then-a-at c =
+    let p = c.requires in let every = seek_past _ _ _ _ _ p.0 p.1.whole p.1.sorted _ c.lower-at.ensures c.if-a-at.true in record {
       first = every.0;
       upper_bound = every.1;
     }
 
 pub get-r-requires : goal.get-r-requires
-get-r-requires c = (c.requires.1.room.wide, room_row c.requires.1.room _ c.if-n-at.false)
+get-r-requires c = (c.requires.1.room.wide, room_row c.requires.1.room _ c.if-a-at.false)
 
 pub returns-then-same_values : goal.returns-then-same_values
 unfolding in_order no_later
 returns-then-same_values c =
     let p = c.requires in
     let e = same_cell _ _ c.args.w c.lower-at.result _ _ _ _ c.get-r.ensures.0 c.raw_id.ensures c.same_values.ensures ∙ c.if-same_values.true in
-    let every = seek_found _ _ _ _ _ p.0 p.1.whole p.1.sorted _ c.lower-at.ensures c.if-n-at.false e in record {
+    let every = seek_found _ _ _ _ _ p.0 p.1.whole p.1.sorted _ c.lower-at.ensures c.if-a-at.false e in record {
       first = rw c.get-r.ensures.0 every.0;
       upper_bound = rw c.get-r.ensures.0 every.1;
     }

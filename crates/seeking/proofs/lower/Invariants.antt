@@ -7,7 +7,7 @@ use Prim.Native.Nat.{◌-◌}
 use Rattle.seeking.proofs.lower.Given as goal
 
 abbrev pub invariant-loop-lo : goal.invariant-loop-lo
-invariant-loop-lo l = Halving (id_of l.s l.t l.w) (cell l.t l.w) l.n (value l.raw) l.lo l.hi
+invariant-loop-lo l = Halving (id_of l.a.file.now l.a.table.now l.w) (cell l.a.table.now l.w) l.a.count (value l.raw) l.lo l.hi
 
 abbrev pub decreases-loop-lo : goal.decreases-loop-lo
 decreases-loop-lo l = l.hi - l.lo

@@ -1,4 +1,4 @@
--- `values::choice_or_minus` meets its contract.
+-- `values::LocatedLine::choice_or_minus` meets its contract.
 use Rattle.meaning.specs.Tables.{or_minus}
 use Rattle.num.proofs.Laws.{kept_is}
 use Rattle.meaning.specs.Lists.{empty}
@@ -6,7 +6,7 @@ use Rattle.meaning.specs.Forms.{choice_of}
 use Rattle.values.proofs.Readings.{through, choice_empty, choice_given}
 use mathlib.Core.Path.{sym, ◌∙◌}
 use native.Mathlib.Omega.{arith}
-use Rattle.values.proofs.choice_or_minus.Goals as goal
+use Rattle.values.proofs.LocatedLine.choice_or_minus.Goals as goal
 
 pub returns-then-is_empty_value : goal.returns-then-is_empty_value
 unfolding or_minus

@@ -1,11 +1,11 @@
--- `values::choice_or_zero` meets its contract.
+-- `values::LocatedLine::choice_or_zero` meets its contract.
 use Rattle.meaning.specs.Tables.{or_zero}
 use Rattle.meaning.specs.Lists.{empty}
 use Rattle.meaning.specs.Forms.{choice_of}
 use Rattle.values.proofs.Readings.{through, choice_empty, choice_given}
 use mathlib.Core.Path.{sym, ◌∙◌}
 use native.Mathlib.Omega.{arith}
-use Rattle.values.proofs.choice_or_zero.Goals as goal
+use Rattle.values.proofs.LocatedLine.choice_or_zero.Goals as goal
 
 pub returns-then-is_empty_value : goal.returns-then-is_empty_value
 unfolding or_zero

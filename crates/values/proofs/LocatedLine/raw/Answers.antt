@@ -1,7 +1,7 @@
--- `values::raw` meets its contract.
+-- `values::LocatedLine::raw` meets its contract.
 use Rattle.meaning.specs.Bytes.{part}
 use Rattle.std.proofs.Common.{refl}
-use Rattle.values.proofs.raw.Goals as goal
+use Rattle.values.proofs.LocatedLine.raw.Goals as goal
 
 pub returns : goal.returns
 unfolding part

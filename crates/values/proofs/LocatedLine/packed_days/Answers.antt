@@ -1,7 +1,7 @@
--- `values::packed_days` meets its contract.
+-- `values::LocatedLine::packed_days` meets its contract.
 use Rattle.values.proofs.Readings.{pack_turn, bits_turn, bits_few, pack_first, pack_last}
 use Rattle.std.proofs.Common.{◌<◌, ◌≤◌, ◌-◌, refl, arith}
-use Rattle.values.proofs.packed_days.Goals as goal
+use Rattle.values.proofs.LocatedLine.packed_days.Goals as goal
 
 pub loop-d-init : goal.loop-d-init
 loop-d-init c = (omega arith, (omega arith, λ ps loc. pack_first ps _ 7 refl))
@@ -15,10 +15,10 @@ overflow_add-n c = omega (arith, bits_few c.loop-d.n (c.loop-d.d - 1) c.loop-d.i
 pub loop-d-preserved : goal.loop-d-preserved
 loop-d-preserved c =
     let d = c.loop-d.d - 1 in
-    let a = c.args in
+    let a = c.args.self.now in
     let some : 0 < d = omega arith in
     let week : d ≤ 7 = omega (arith, c.loop-d.auto.d) in
-    (omega arith, (bits_turn _ _ d some week c.mark.ensures.1 c.loop-d.invariant.1.0, λ ps loc. pack_turn _ _ d some week a.l.now a.q.start a.q.end ps loc c.mark.ensures.0 (c.loop-d.invariant.1.1 ps loc)))
+    (omega arith, (bits_turn _ _ d some week c.mark.ensures.1 c.loop-d.invariant.1.0, λ ps loc. pack_turn _ _ d some week a.line.now ps a.cells loc c.mark.ensures.0 (c.loop-d.invariant.1.1 ps loc)))
 
 pub returns : goal.returns
 returns c =

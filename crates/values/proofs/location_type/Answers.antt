@@ -1,9 +1,0 @@
--- `values::location_type` meets its contract.
-use Rattle.meaning.specs.Forms.{choice_of}
-use Rattle.values.proofs.Readings.{through, kind_in}
-use Rattle.values.proofs.location_type.Goals as goal
-
-pub returns : goal.returns
-returns c = λ ps loc.
-    let a = c.args in
-    kind_in ps a.l.now a.q.start a.q.end loc _ _ c.chosen.ensures.0 (through (choice_of 4) _ _ _ c.choice_of.ensures.0 c.raw.ensures)

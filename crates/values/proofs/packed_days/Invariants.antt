@@ -1,9 +1,0 @@
--- What the loop of `values::packed_days` keeps: the days behind d - 1 are packed.
-use Rattle.meaning.specs.Columns.{row_of}
-use Rattle.meaning.specs.Tables.{pack_from}
-use Rattle.values.specs.Located.{Located}
-use Rattle.std.proofs.Common.{◌≡◌, List, ℕ, ◌^◌, ◌≤◌, ◌<◌, ◌-◌}
-use Rattle.values.proofs.packed_days.Given as goal
-
-abbrev pub invariant-loop-d : goal.invariant-loop-d
-invariant-loop-d l = (1 ≤ l.d) × ((l.n < 2 ^ (7 - (l.d - 1))) × ((ps : List ℕ) → Located l.l ps l.q.start l.q.end → l.n ≡ pack_from (l.d - 1) (7 - (l.d - 1)) (row_of ps l.l)))
