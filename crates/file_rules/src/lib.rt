@@ -3,13 +3,13 @@
 ghost use Rattle.std.specs.Prelude.{◌≡◌, List, ℕ, ◌+◌, ◌*◌, ◌^◌, ◌<◌, ◌≤◌, ℤ};
 ghost use Rattle.meaning.specs.Tables.{Feed};
 ghost use Rattle.meaning.specs.Rules.{bindings_of};
-ghost use Rattle.listing.specs.Handing.{state, noting};
+ghost use Rattle.listing.specs.Handing.{state, noting, SameList};
 ghost use Rattle.judging.specs.Judging.{times_asked};
 ghost use Rattle.file_rules.specs.Lines.{rule_numbers, rule_count, Judges, Ready};
 
 use judging::MOST_RULES;
-use listing::Sink;
-use meaning::{Place, Profile};
+use listing::Listing;
+use meaning::Profile;
 use rows::{
     Calendar, Dates, Routes, ServiceRow, StopRow, StopTimes, Stops, Table, TimeRow, TripRow, Trips,
 };
@@ -164,22 +164,19 @@ pub fn list_file(
     t: &[i32],
     stops: &[i32],
     marks: &[u16],
-    out: &mut [i32],
-    k: Sink,
-    p: Place,
+    list: &mut Listing,
     asked: Profile,
-) -> Sink
-    requires { (1 ≤ f) × ((f ≤ 6) × ((n < 2 ^ 30) × (k.total ≤ 2 ^ 61))) }
+)
+    requires { (1 ≤ f) × ((f ≤ 6) × ((n < 2 ^ 30) × (list.old.sink.total ≤ 2 ^ 61))) }
+    ensures same_list { SameList list.old list.new }
     ensures result_after { (w : Feed) → Ready f n w t.now stops.now marks.now
-        → state out.new result ≡ noting p (bindings_of asked w f) (state out.old k) }
-    ensures total_bound { result.total ≤ k.total + rule_count Profile.Boards f * n }
+        → state list.new.out.now list.new.sink ≡ noting list.old.from (bindings_of asked w f) (state list.old.out.now list.old.sink) }
+    ensures total_bound { list.new.sink.total ≤ list.old.sink.total + rule_count Profile.Boards f * n }
 {
     let numbers = numbers_of(f);
     let rules = count_of(f, asked);
-    let mut sink = k;
     for i in 0..n {
         let broken = judge_line(f, t, stops, marks, i);
-        sink = noting::note_line(out, sink, p, f, i + 2, numbers, broken, rules);
+        noting::note_line(list, f, i + 2, numbers, broken, rules);
     }
-    sink
 }

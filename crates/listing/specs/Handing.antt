@@ -1,11 +1,12 @@
 -- A lent list as entries come in, and what it holds in the end. An entry is a row of numbers; a finding has three.
-use Rattle.std.specs.Prelude.{ℕ, ◌+◌, ◌*◌, List, [], ◌∷◌, cond, ◌&&◌, ℤ, length, ltb}
+use Rattle.std.specs.Prelude.{ℕ, ◌≡◌, ◌+◌, ◌*◌, List, [], ◌∷◌, cond, ◌&&◌, ℤ, length, ltb}
 use Rattle.meaning.specs.declared.Place.{Place}
 use Rattle.meaning.specs.Refusals.{Claim}
 use Rattle.meaning.specs.Pages.{place_in, behind, page_of, room_for, handed_of}
 use Rattle.meaning.specs.Findings.{Finding, finding, triple}
 use Rattle.rows.specs.Cells.{put_at}
 use Rattle.listing.specs.declared.Sink.{Sink}
+use Rattle.listing.specs.declared.Listing.{Listing}
 
 -- the list, how many entries are written into it, and how many there are
 pub record State : Type 0 where
@@ -15,6 +16,10 @@ pub record State : Type 0 where
 
 abbrev pub state : List ℤ → Sink → State
 state out k = record { out = out; written = k.written; total = k.total }
+
+-- it is still the same lent list, whatever it holds, and begins after the same place
+abbrev pub SameList : Listing → Listing → Type 0
+SameList a b = (b.out.ghost_name ≡ a.out.ghost_name) × (b.from ≡ a.from)
 
 -- one entry more, by its row: always in the total, and written if it comes after the place and there is room
 unfoldable pub added : Place → List ℤ → State → State

@@ -3,7 +3,7 @@
 ghost use Rattle.std.specs.Prelude.{◌≡◌, ◌+◌, ◌^◌, ◌<◌, ◌≤◌, length};
 ghost use Rattle.meaning.specs.Refusals.{claim};
 ghost use Rattle.meaning.specs.Pages.{behind, place_in};
-ghost use Rattle.listing.specs.Handing.{state, added, noted};
+ghost use Rattle.listing.specs.Handing.{state, added, noted, SameList};
 
 use meaning::Place;
 
@@ -12,6 +12,14 @@ use meaning::Place;
 pub struct Sink {
     pub written: usize,
     pub total: usize,
+}
+
+// A lent list of entries, after which place its entries begin, and how far it has come.
+#[derive(Drop)]
+pub struct Listing<'a> {
+    pub out: &'a mut [i32],
+    pub from: Place,
+    pub sink: Sink,
 }
 
 // Whether an entry, by its row, is strictly greater than the starting place.
@@ -27,43 +35,34 @@ fn comes_after(p: Place, e: &[i32]) -> bool
     p < here
 }
 
-// One entry more, by its row: file, line and rule, and whatever else it tells.
-pub fn hand_out(out: &mut [i32], k: Sink, p: Place, e: &[i32]) -> Sink
-    requires in_bounds { 3 ≤ length e.now }
-    requires total_bound { k.total < 2 ^ 62 }
-    ensures result_after { state out.new result ≡ added p e.now (state out.old k) }
-    ensures total_value { result.total ≡ k.total + 1 }
-{
-    let written = k.written;
-    let total = k.total + 1;
-    if comes_after(p, e) && written < out.len() / e.len() {
-        rows::cells::store(out, written * e.len(), e);
-        return Sink {
-            written: written + 1,
-            total,
-        };
+impl Listing<'_> {
+    // One entry more, by its row: file, line and rule, and whatever else it tells.
+    pub fn hand_out(&mut self, e: &[i32])
+        requires in_bounds { 3 ≤ length e.now }
+        requires total_bound { self.old.sink.total < 2 ^ 62 }
+        ensures same_list { SameList self.old self.new }
+        ensures result_after { state self.new.out.now self.new.sink ≡ added self.old.from e.now (state self.old.out.now self.old.sink) }
+        ensures total_value { self.new.sink.total ≡ self.old.sink.total + 1 }
+    {
+        let Sink { written, total } = self.sink;
+        self.sink.total = total + 1;
+        if comes_after(self.from, e) && written < self.out.len() / e.len() {
+            rows::cells::store(self.out, written * e.len(), e);
+            self.sink.written = written + 1;
+        }
     }
-    Sink { written, total }
-}
 
-// One claim more.
-pub fn note(
-    out: &mut [i32],
-    k: Sink,
-    p: Place,
-    broken: bool,
-    file: usize,
-    line: usize,
-    rule: usize,
-) -> Sink
-    requires file_bound { (file < 2 ^ 31) × ((line < 2 ^ 31) × (rule < 2 ^ 31)) }
-    requires total_bound { k.total < 2 ^ 62 }
-    ensures result_after { state out.new result ≡ noted p (claim rule file line broken) (state out.old k) }
-    ensures total_bound_2 { result.total ≤ k.total + 1 }
-{
-    if broken {
-        let d = [file as i32, line as i32, rule as i32];
-        return hand_out(out, k, p, &d);
+    // One claim more.
+    pub fn note(&mut self, broken: bool, file: usize, line: usize, rule: usize)
+        requires file_bound { (file < 2 ^ 31) × ((line < 2 ^ 31) × (rule < 2 ^ 31)) }
+        requires total_bound { self.old.sink.total < 2 ^ 62 }
+        ensures same_list { SameList self.old self.new }
+        ensures result_after { state self.new.out.now self.new.sink ≡ noted self.old.from (claim rule file line broken) (state self.old.out.now self.old.sink) }
+        ensures total_bound_2 { self.new.sink.total ≤ self.old.sink.total + 1 }
+    {
+        if broken {
+            let d = [file as i32, line as i32, rule as i32];
+            self.hand_out(&d);
+        }
     }
-    k
 }

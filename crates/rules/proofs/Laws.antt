@@ -1,6 +1,6 @@
 -- Laws: what the findings of each file rest on, and those of all files together.
-use Prim.Native.Nat.{ℕ, zero, suc, ◌+◌, ◌*◌, ◌-◌, ◌<◌, ◌≤◌}
-use mathlib.Core.Path.{◌≡◌, sym, ap, ◌∙◌}
+use Prim.Native.Nat.{ℕ, zero, suc, ◌+◌, ◌*◌, ◌-◌, ◌≤◌}
+use mathlib.Core.Path.{◌≡◌, refl, sym, ap, ◌∙◌}
 use mathlib.Core.List.{List, [], ◌∷◌, map}
 use native.Mathlib.Omega.{arith}
 use native.Mathlib.Nat.{mul-le-mul_left}
@@ -55,52 +55,68 @@ ready f low high w counts tables marks h =
       named = h.named;
     }
 
--- the same of file i + 1, by its table and that of stops
+-- the same by the file's table, that of stops and how many records there are
 pub ready_at :
-    (i : ℕ)
-    → i < 6
+    (f : ℕ)
+    → 1 ≤ f
+    → f ≤ 6
     → (w : Feed) (counts : List ℕ) (tables : List (List ℤ)) (marks : List ℕ)
     → Tabled w counts tables marks
-    → (t stops : List ℤ)
-    → get_or tables i [] ≡ t
+    → (n : ℕ) (t stops : List ℤ)
+    → n ≡ get_or counts (f - 1) 0 - 1
+    → t ≡ get_or tables (f - 1) []
     → get_or tables 0 [] ≡ stops
-    → Ready (i + 1) (get_or counts i 0 - 1) w t stops marks
+    → Ready f n w t stops marks
 unfolding table_of
-ready_at i h w counts tables marks k t stops e g = let z : i + 1 - 1 ≡ i = omega arith in rw (z, e, g) at (ready (i + 1) (omega arith) (omega arith) w counts tables marks k)
+ready_at f low high w counts tables marks k n t stops u e g = rw (u, e, ← g) (ready f low high w counts tables marks k)
 
--- file i + 1 comes after the first i
-number_next : (i : ℕ) → i < 6 → drop i file_numbers ≡ (i + 1) ∷ drop (i + 1) file_numbers
-number_next i h =
-    drop_next 0 file_numbers i h
-    ∙ ap (λ (f : ℕ). f ∷ drop (i + 1) file_numbers) (eqb→eq (get_or file_numbers i 0) (i + 1) (below_all 6 (λ i. eqb (get_or file_numbers i 0) (i + 1)) tt i h))
+-- file f comes after those before it
+number_next : (f : ℕ) → 1 ≤ f → f ≤ 6 → drop (f - 1) file_numbers ≡ f ∷ drop (f + 1 - 1) file_numbers
+number_next f low high =
+    let z : f - 1 + 1 ≡ f = omega arith in
+    let y : f + 1 - 1 ≡ f = omega arith in
+    let n : get_or file_numbers (f - 1) 0 ≡ f = eqb→eq (get_or file_numbers (f - 1) 0) (f - 1 + 1) (below_all 6 (λ i. eqb (get_or file_numbers i 0) (i + 1)) tt (f - 1) (omega arith)) ∙ z in
+    rw (y) (drop_next 0 file_numbers (f - 1) (omega arith) ∙ rw (n, z))
 
--- the findings of the files after the first i, noted: those of the next, and where none is left
-module _ (asked : Profile) (w : Feed) (p : Place) (i : ℕ) (x r : State) (inv : noting p (flat (map (bindings_of asked w) (drop i file_numbers))) x ≡ r) where
-  pub note_next : i < 6 → (y : State) → y ≡ noting p (bindings_of asked w (i + 1)) x → noting p (flat (map (bindings_of asked w) (drop (i + 1) file_numbers))) y ≡ r
+-- the findings of the files from f on, noted: those of the next, and where none is left
+module _ (asked : Profile) (w : Feed) (p : Place) (f : ℕ) (x r : State) (inv : noting p (flat (map (bindings_of asked w) (drop (f - 1) file_numbers))) x ≡ r) where
+  pub note_next : 1 ≤ f → f ≤ 6 → (y : State) → y ≡ noting p (bindings_of asked w f) x → noting p (flat (map (bindings_of asked w) (drop (f + 1 - 1) file_numbers))) y ≡ r
   unfolding flat
-  note_next h y e =
-      ap (noting p (flat (map (bindings_of asked w) (drop (i + 1) file_numbers)))) e
-      ∙ sym (noting_append p (bindings_of asked w (i + 1)) _ x)
-      ∙ sym (ap (λ (fs : List ℕ). noting p (flat (map (bindings_of asked w) fs)) x) (number_next i h))
+  note_next low high y e =
+      ap (noting p (flat (map (bindings_of asked w) (drop (f + 1 - 1) file_numbers)))) e
+      ∙ sym (noting_append p (bindings_of asked w f) _ x)
+      ∙ sym (ap (λ (fs : List ℕ). noting p (flat (map (bindings_of asked w) fs)) x) (number_next f low high))
       ∙ inv
 
-  pub note_over : 6 ≤ i → x ≡ r
+  pub note_over : 7 ≤ f → x ≡ r
   unfolding flat noting
-  note_over h = rw (drop_of_length-le file_numbers {i = i} h) at inv
+  note_over h = rw (drop_of_length-le file_numbers {i = f - 1} (omega arith)) at inv
 
--- the findings of all files
-pub all_noted : (asked : Profile) (w : Feed) (p : Place) (lent : List ℤ) → noting p (flat (map (bindings_of asked w) file_numbers)) (lent_only lent) ≡ handed_out p (findings_of asked w) lent
-unfolding findings_of bindings
-all_noted asked w p lent = noting_all p (bindings asked w) lent
+-- the findings of all files, before the first
+pub all_left : (asked : Profile) (w : Feed) (p : Place) (x : State) → noting p (flat (map (bindings_of asked w) (drop 0 file_numbers))) x ≡ noting p (bindings asked w) x
+unfolding bindings
+all_left asked w p x = refl
+
+-- .. into a list that has just been lent
+pub all_noted : (asked : Profile) (w : Feed) (p : Place) (lent : List ℤ) (x y : State) → y ≡ noting p (bindings asked w) x → x ≡ lent_only lent → y ≡ handed_out p (findings_of asked w) lent
+unfolding findings_of
+all_noted asked w p lent x y e g = e ∙ ap (noting p (bindings asked w)) g ∙ noting_all p (bindings asked w) lent
 
 -- how many findings one line of each of the first i files can have together
 unfoldable pub rule_sum : ℕ → ℕ
 rule_sum zero = 0
 rule_sum (suc i) = rule_sum i + rule_count Boards (i + 1)
 
-pub sum_next : (i k r : ℕ) → k ≤ rule_sum i * max_lines → r ≤ k + rule_count Boards (i + 1) * max_lines → r ≤ rule_sum (i + 1) * max_lines
+sum_next : (i m k r : ℕ) → k ≤ m + rule_sum i * max_lines → r ≤ k + rule_count Boards (i + 1) * max_lines → r ≤ m + rule_sum (i + 1) * max_lines
 unfolding rule_sum
-sum_next i k r a b = rw (add-one i) (omega arith)
+sum_next i m k r a b = rw (add-one i) (omega (arith, rw (add-one i) at b))
+
+-- from m on, with file f
+pub sum_after : (f m k r : ℕ) → 1 ≤ f → k ≤ m + rule_sum (f - 1) * max_lines → r ≤ k + rule_count Boards f * max_lines → r ≤ m + rule_sum (f + 1 - 1) * max_lines
+sum_after f m k r low a b =
+    let z : f - 1 + 1 ≡ f = omega arith in
+    let y : f + 1 - 1 ≡ f - 1 + 1 = omega arith in
+    rw y (sum_next (f - 1) m k r a (rw z b))
 
 pub sum_most : (i : ℕ) → i ≤ 6 → rule_sum i ≤ 21
 unfolding rule_sum rule_count
