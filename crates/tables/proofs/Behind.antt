@@ -21,6 +21,18 @@ none = record { ref_ptr = (0, 0); now = [] }
 abbrev pub behind : List (Bor (List ℕ)) → ℕ → List ℕ
 behind l i = (get_or l i none).now
 
+-- a file of the feed lies behind its element
+pub file_behind : (l : List (Bor (List ℕ))) (f i : ℕ) → f ≡ i + 1 → file_of (map (λ x. x.now) l) f ≡ behind l i
+unfolding file_of
+file_behind l f i e = let back : f - 1 ≡ i = omega (arith, e) in rw back (get_or-map (λ x. x.now) l i none)
+
+-- six files are those behind six elements
+pub six_behind :
+    (l : List (Bor (List ℕ)))
+    → length l ≡ 6
+    → map (λ x. x.now) l ≡ behind l 0 ∷ behind l 1 ∷ behind l 2 ∷ behind l 3 ∷ behind l 4 ∷ behind l 5 ∷ []
+six_behind l h = ap (map (λ x. x.now)) (six_are none l h)
+
 -- the marks have an entry for each line of each element
 pub cover_each : (l : List (Bor (List ℕ))) (m : List ℕ) → CoversAll m (map (λ x. x.now) l)
     → Covers m (behind l 0) × Covers m (behind l 1) × Covers m (behind l 2) × Covers m (behind l 3) × Covers m (behind l 4) × Covers m (behind l 5)
@@ -60,5 +72,4 @@ module _ (l : List (Bor (List ℕ))) (t₁ t₂ t₃ t₄ t₅ t₆ : List ℤ) 
       × (Noted (feed_of (map (λ x. x.now) l)) marks × TripsNoted (feed_of (map (λ x. x.now) l)) marks)
   unfolding filled_from
   all_filled h u₁ u₂ u₃ u₄ u₅ u₆ marks a b c d e g m n =
-      let z : map (λ x. x.now) l ≡ behind l 0 ∷ behind l 1 ∷ behind l 2 ∷ behind l 3 ∷ behind l 4 ∷ behind l 5 ∷ [] = ap (map (λ x. x.now)) (six_are none l h) in
-      rw z (rw (a, b, c, d, e, g), (m, n))
+      rw (six_behind l h) (rw (a, b, c, d, e, g), (m, n))

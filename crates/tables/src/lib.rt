@@ -11,9 +11,11 @@ ghost use Rattle.marks.specs.Noted.{Noted, TripsNoted};
 ghost use Rattle.ordering.specs.Ids.{Placed, Arranged};
 ghost use Rattle.records.specs.Refers.{Lists, Indexed, Refers, Sought};
 ghost use Rattle.columns.specs.Heading.{Heading};
-ghost use Rattle.tables.specs.Fill.{Room, Fits, Covers, CoversAll};
+ghost use Rattle.lent.specs.Lent.{held, Same};
+ghost use Rattle.tables.specs.Fill.{Room, Fits, CoversAll};
 ghost use Rattle.tables.specs.Walk.{written_all, written, Ordered, OrderedIf, IndexedIf, ListsIf, Settled};
 
+use lent::Tables;
 use rows::{Calendar, Dates, Routes, Stops, Table, Trips};
 use seeking::Records;
 
@@ -140,81 +142,59 @@ struct Counts {
 }
 
 // The ids of files 1 to 4 and 6 in their tables, and the records of each in their order; what only text and order tell is marked.
-fn order_all(
-    stops: &[u8],
-    routes: &[u8],
-    calendar: &[u8],
-    trips: &[u8],
-    dates: &[u8],
-    stops_table: &mut [i32],
-    routes_table: &mut [i32],
-    calendar_table: &mut [i32],
-    trips_table: &mut [i32],
-    dates_table: &mut [i32],
-    marks: &mut [u16],
-) -> Counts
-    requires room { Room 1 stops.now stops_table.old × (Room 2 routes.now routes_table.old × (Fits 3 calendar.now calendar_table.old
-        × (Room 4 trips.now trips_table.old × Fits 6 dates.now dates_table.old))) }
-    requires blank { Blank marks.old × (Covers marks.old stops.now × Covers marks.old routes.now × Covers marks.old calendar.now × Covers marks.old trips.now × Covers marks.old dates.now) }
-    ensures ordered { Ordered 1 stops.now result.stops stops_table.old stops_table.new }
-    ensures ordered_2 { Ordered 2 routes.now result.routes routes_table.old routes_table.new }
-    ensures ordered_if { OrderedIf 3 calendar.now result.services calendar_table.old calendar_table.new }
-    ensures ordered_3 { Ordered 4 trips.now result.trips trips_table.old trips_table.new }
-    ensures ordered_if_2 { OrderedIf 6 dates.now result.dates dates_table.old dates_table.new }
-    ensures by_index { (e : List ℕ) → Noted (feed_of (stops.now ∷ routes.now ∷ calendar.now ∷ trips.now ∷ e ∷ dates.now ∷ [])) marks.new }
-    ensures by_index_2 { (k i : ℕ) → 9 ≤ k → marked marks.new k i ≡ false }
+fn order_all(files: [&[u8]; 6], tables: &mut Tables, marks: &mut [u16]) -> Counts
+    requires room { Room 1 (file_of (map (λ x. x.now) files) 1) tables.old.stops.now }
+    requires room_2 { Room 2 (file_of (map (λ x. x.now) files) 2) tables.old.routes.now }
+    requires fits { Fits 3 (file_of (map (λ x. x.now) files) 3) tables.old.calendar.now }
+    requires room_3 { Room 4 (file_of (map (λ x. x.now) files) 4) tables.old.trips.now }
+    requires fits_2 { Fits 6 (file_of (map (λ x. x.now) files) 6) tables.old.dates.now }
+    requires blank { Blank marks.old × CoversAll marks.old (map (λ x. x.now) files) }
+    ensures same { Same tables.old tables.new }
+    ensures stop_times_after { tables.new.stop_times.now ≡ tables.old.stop_times.now }
+    ensures ordered { Ordered 1 (file_of (map (λ x. x.now) files.entry) 1) result.stops tables.old.stops.now tables.new.stops.now }
+    ensures ordered_2 { Ordered 2 (file_of (map (λ x. x.now) files.entry) 2) result.routes tables.old.routes.now tables.new.routes.now }
+    ensures ordered_if { OrderedIf 3 (file_of (map (λ x. x.now) files.entry) 3) result.services tables.old.calendar.now tables.new.calendar.now }
+    ensures ordered_3 { Ordered 4 (file_of (map (λ x. x.now) files.entry) 4) result.trips tables.old.trips.now tables.new.trips.now }
+    ensures ordered_if_2 { OrderedIf 6 (file_of (map (λ x. x.now) files.entry) 6) result.dates tables.old.dates.now tables.new.dates.now }
+    ensures noted { Noted (feed_of (map (λ x. x.now) files.entry)) marks.new }
+    ensures by_index { (k i : ℕ) → 9 ≤ k → marked marks.new k i ≡ false }
 {
     Counts {
-        stops: placing::order_file(Stops::FILE, stops, stops_table, marks),
-        routes: placing::order_file(Routes::FILE, routes, routes_table, marks),
-        services: placing::order_services(calendar, calendar_table, marks),
-        trips: placing::order_file(Trips::FILE, trips, trips_table, marks),
-        dates: placing::order_dates(dates, dates_table, marks),
+        stops: placing::order_file(Stops::FILE, files[0], tables.stops, marks),
+        routes: placing::order_file(Routes::FILE, files[1], tables.routes, marks),
+        services: placing::order_services(files[2], tables.calendar, marks),
+        trips: placing::order_file(Trips::FILE, files[3], tables.trips, marks),
+        dates: placing::order_dates(files[5], tables.dates, marks),
     }
 }
 
 // The six tables of six files: ids and their orders first, by which references are found, then every record; and the marks.
-pub fn fill_all(
-    files: [&[u8]; 6],
-    stops_table: &mut [i32],
-    routes_table: &mut [i32],
-    calendar_table: &mut [i32],
-    trips_table: &mut [i32],
-    stop_times_table: &mut [i32],
-    dates_table: &mut [i32],
-    marks: &mut [u16],
-)
-    requires room { Room 1 (file_of (map (λ x. x.now) files) 1) stops_table.old }
-    requires room_2 { Room 2 (file_of (map (λ x. x.now) files) 2) routes_table.old }
-    requires fits { Fits 3 (file_of (map (λ x. x.now) files) 3) calendar_table.old }
-    requires room_3 { Room 4 (file_of (map (λ x. x.now) files) 4) trips_table.old }
-    requires room_4 { Room 5 (file_of (map (λ x. x.now) files) 5) stop_times_table.old }
-    requires fits_2 { Fits 6 (file_of (map (λ x. x.now) files) 6) dates_table.old }
+pub fn fill_all(files: [&[u8]; 6], tables: &mut Tables, marks: &mut [u16])
+    requires room { Room 1 (file_of (map (λ x. x.now) files) 1) tables.old.stops.now }
+    requires room_2 { Room 2 (file_of (map (λ x. x.now) files) 2) tables.old.routes.now }
+    requires fits { Fits 3 (file_of (map (λ x. x.now) files) 3) tables.old.calendar.now }
+    requires room_3 { Room 4 (file_of (map (λ x. x.now) files) 4) tables.old.trips.now }
+    requires room_4 { Room 5 (file_of (map (λ x. x.now) files) 5) tables.old.stop_times.now }
+    requires fits_2 { Fits 6 (file_of (map (λ x. x.now) files) 6) tables.old.dates.now }
     requires blank { Blank marks.old × CoversAll marks.old (map (λ x. x.now) files) }
-    ensures dates_table_after { stops_table.new ∷ routes_table.new ∷ calendar_table.new ∷ trips_table.new ∷ stop_times_table.new ∷ dates_table.new ∷ []
-        ≡ filled_from 1 (feed_of (map (λ x. x.now) files.entry)) (map (λ x. x.now) files.entry)
-        (stops_table.old ∷ routes_table.old ∷ calendar_table.old ∷ trips_table.old ∷ stop_times_table.old ∷ dates_table.old ∷ []) }
+    ensures same { Same tables.old tables.new }
+    ensures tables_after { held tables.new ≡ filled_from 1 (feed_of (map (λ x. x.now) files.entry)) (map (λ x. x.now) files.entry) (held tables.old) }
     ensures noted { Noted (feed_of (map (λ x. x.now) files.entry)) marks.new × TripsNoted (feed_of (map (λ x. x.now) files.entry)) marks.new }
 {
+    let n = order_all(files, tables, marks);
     let stops = files[0];
     let routes = files[1];
     let calendar = files[2];
     let trips = files[3];
     let stop_times = files[4];
     let dates = files[5];
-    let n = order_all(
-        stops,
-        routes,
-        calendar,
-        trips,
-        dates,
-        stops_table,
-        routes_table,
-        calendar_table,
-        trips_table,
-        dates_table,
-        marks,
-    );
+    // each by itself: two fields of `tables` lent to one call are not covered yet
+    let stops_table = &mut *tables.stops;
+    let routes_table = &mut *tables.routes;
+    let calendar_table = &mut *tables.calendar;
+    let trips_table = &mut *tables.trips;
+    let stop_times_table = &mut *tables.stop_times;
+    let dates_table = &mut *tables.dates;
     parents::settle_parents(stops, n.stops, stops_table);
     let exceptions = Records {
         file: dates,

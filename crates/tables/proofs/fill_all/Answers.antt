@@ -3,99 +3,103 @@ use Rattle.meaning.specs.Tables.{widths, width_of, stop_ids, dated_ids}
 use Rattle.records.specs.Waiting.{waits, sought_ids}
 use Rattle.records.proofs.References.{indexed_times, refers_times}
 use Rattle.tables.proofs.Feeds.{six, ordered_index, ordered_lists, ordered_room, settled_index, settled_lists, settled_room, settled_past, settled_named, settled_none, lacked_index, lacked_lists, lacked_count, lacked_fits, lacked_filled, room_fits, stop_ids_lem, route_ids_lem, service_ids_lem, trip_ids_lem, dated_ids_lem, feed_times}
-use Rattle.tables.proofs.Behind.{behind, fit_each, cover_each, all_filled}
+use Rattle.tables.proofs.Behind.{behind, file_behind, six_behind, fit_each, cover_each, all_filled}
 use Rattle.tables.proofs.SecondWalk.{filled_beyond}
 use Rattle.tables.proofs.TripLines.{noted_kept}
 use mathlib.Core.Path.{refl, ◌∙◌}
 use native.Mathlib.Omega.{arith}
 use Rattle.tables.proofs.fill_all.Goals as goal
 
-pub order_all-n-requires : goal.order_all-n-requires
-order_all-n-requires c =
-    let s = fit_each c.args.files _ _ _ _ _ _ (c.requires.room, (c.requires.room_2, (c.requires.fits, (c.requires.room_3, (c.requires.room_4, (c.requires.fits_2, c.requires.blank)))))) in
-    let k = cover_each c.args.files c.args.marks.now s.1.1.1.1.1.1.1 in record {
-      room = (s.0, (s.1.0, (s.1.1.0, (s.1.1.1.0, s.1.1.1.1.1.0))));
-      blank = (s.1.1.1.1.1.1.0, (k.0, k.1, k.2, k.3, k.5));
-    }
-
 pub settle_parents-requires : goal.settle_parents-requires
 unfolding width_of widths
 settle_parents-requires c =
-    let o = c.order_all-n.ensures.ordered in
-    let i = ordered_index 1 _ _ _ _ o in
+    let stops_order = rw (file_behind c.args.files 1 0 refl) at c.order_all-n.ensures.ordered in
+    let i = ordered_index 1 _ _ _ _ stops_order in
     let s = fit_each c.args.files _ _ _ _ _ _ (c.requires.room, (c.requires.room_2, (c.requires.fits, (c.requires.room_3, (c.requires.room_4, (c.requires.fits_2, c.requires.blank)))))) in
-    (i.0, (i.1, omega (arith, o.count, s.0.few)))
+    (i.0, (i.1, omega (arith, stops_order.count, s.0.few)))
 
 pub settle_services-requires : goal.settle_services-requires
 unfolding width_of widths
 settle_services-requires c =
-    let s = fit_each c.args.files _ _ _ _ _ _ (c.requires.room, (c.requires.room_2, (c.requires.fits, (c.requires.room_3, (c.requires.room_4, (c.requires.fits_2, c.requires.blank)))))) in
-    let trips = c.order_all-n.ensures.ordered_3 in
-    let dates = c.order_all-n.ensures.ordered_if_2 in record {
-      indexed_if = lacked_index 6 _ _ _ _ dates;
-      n_in_bounds = ((ordered_index 4 _ _ _ _ trips).0.room, (omega (arith, trips.count, s.1.1.1.0.few), omega (arith, lacked_count 6 _ _ _ _ dates, s.1.1.1.1.1.0.few)));
+    let trips_order = rw (file_behind c.args.files 4 3 refl) at c.order_all-n.ensures.ordered_3 in
+    let dates_order = rw (file_behind c.args.files 6 5 refl) at c.order_all-n.ensures.ordered_if_2 in
+    let s = fit_each c.args.files _ _ _ _ _ _ (c.requires.room, (c.requires.room_2, (c.requires.fits, (c.requires.room_3, (c.requires.room_4, (c.requires.fits_2, c.requires.blank)))))) in record {
+      indexed_if = lacked_index 6 _ _ _ _ dates_order;
+      n_in_bounds = ((ordered_index 4 _ _ _ _ trips_order).0.room, (omega (arith, trips_order.count, s.1.1.1.0.few), omega (arith, lacked_count 6 _ _ _ _ dates_order, s.1.1.1.1.1.0.few)));
     }
 
 pub fill_times-requires : goal.fill_times-requires
 unfolding width_of widths
 fill_times-requires c =
+    let stops_order = rw (file_behind c.args.files 1 0 refl) at c.order_all-n.ensures.ordered in
+    let trips_order = rw (file_behind c.args.files 4 3 refl) at c.order_all-n.ensures.ordered_3 in
     let s = fit_each c.args.files _ _ _ _ _ _ (c.requires.room, (c.requires.room_2, (c.requires.fits, (c.requires.room_3, (c.requires.room_4, (c.requires.fits_2, c.requires.blank)))))) in
-    let trips = c.order_all-n.ensures.ordered_3 in
     let long = cover_each c.args.files c.args.marks.now s.1.1.1.1.1.1.1 in
     let size = c.order_all-n.auto.marks in record {
-      room = (s.1.1.1.1.0, (omega (arith, trips.count, s.1.1.1.0.few), omega (arith, c.order_all-n.ensures.ordered.count, s.0.few)));
+      room = (rw c.order_all-n.ensures.stop_times_after s.1.1.1.1.0, (omega (arith, trips_order.count, s.1.1.1.0.few), omega (arith, stops_order.count, s.0.few)));
       indexed = indexed_times _ _
-          (settled_index 4 (omega arith) _ _ _ _ _ trips c.settle_services.ensures.kept_at)
-          (settled_index 1 (omega arith) _ _ _ _ _ c.order_all-n.ensures.ordered c.settle_parents.ensures.kept_at);
-      s_in_bounds = (omega (arith, long.4, size), omega (arith, trips.count, long.3, size));
-      by_index = c.order_all-n.ensures.by_index_2;
+          (settled_index 4 (omega arith) _ _ _ _ _ trips_order c.settle_services.ensures.kept_at)
+          (settled_index 1 (omega arith) _ _ _ _ _ stops_order c.settle_parents.ensures.kept_at);
+      s_in_bounds = (omega (arith, long.4, size), omega (arith, trips_order.count, long.3, size));
+      by_index = c.order_all-n.ensures.by_index;
     }
 
 pub fill_trips-requires : goal.fill_trips-requires
 unfolding width_of widths
 fill_trips-requires c =
-    let s = fit_each c.args.files _ _ _ _ _ _ (c.requires.room, (c.requires.room_2, (c.requires.fits, (c.requires.room_3, (c.requires.room_4, (c.requires.fits_2, c.requires.blank)))))) in
-    let calendar = c.order_all-n.ensures.ordered_if in record {
+    let routes_order = rw (file_behind c.args.files 2 1 refl) at c.order_all-n.ensures.ordered_2 in
+    let services_order = rw (file_behind c.args.files 3 2 refl) at c.order_all-n.ensures.ordered_if in
+    let trips_order = rw (file_behind c.args.files 4 3 refl) at c.order_all-n.ensures.ordered_3 in
+    let s = fit_each c.args.files _ _ _ _ _ _ (c.requires.room, (c.requires.room_2, (c.requires.fits, (c.requires.room_3, (c.requires.room_4, (c.requires.fits_2, c.requires.blank)))))) in record {
       room = (
-        settled_room 4 (omega arith) _ _ _ _ _ c.order_all-n.ensures.ordered_3 c.settle_services.ensures.kept_at s.1.1.1.0,
-        (omega (arith, c.order_all-n.ensures.ordered_2.count, s.1.0.few), omega (arith, lacked_count 3 _ _ _ _ calendar, s.1.1.0.few)),
+        settled_room 4 (omega arith) _ _ _ _ _ trips_order c.settle_services.ensures.kept_at s.1.1.1.0,
+        (omega (arith, routes_order.count, s.1.0.few), omega (arith, lacked_count 3 _ _ _ _ services_order, s.1.1.0.few)),
       );
-      placed = ordered_index 2 _ _ _ _ c.order_all-n.ensures.ordered_2;
-      indexed_if = lacked_index 3 _ _ _ _ calendar;
+      placed = ordered_index 2 _ _ _ _ routes_order;
+      indexed_if = lacked_index 3 _ _ _ _ services_order;
     }
 
 pub fill_alone-requires : goal.fill_alone-requires
 fill_alone-requires c =
+    let dates_order = rw (file_behind c.args.files 6 5 refl) at c.order_all-n.ensures.ordered_if_2 in
     let s = fit_each c.args.files _ _ _ _ _ _ (c.requires.room, (c.requires.room_2, (c.requires.fits, (c.requires.room_3, (c.requires.room_4, (c.requires.fits_2, c.requires.blank)))))) in record {
       le_f = ((omega arith, omega arith), (λ e. omega arith, λ e. omega arith));
-      fits = lacked_fits 6 _ _ _ _ c.order_all-n.ensures.ordered_if_2 s.1.1.1.1.1.0;
+      fits = lacked_fits 6 _ _ _ _ dates_order s.1.1.1.1.1.0;
     }
 
 pub fill_alone-requires-2 : goal.fill_alone-requires-2
 fill_alone-requires-2 c =
+    let services_order = rw (file_behind c.args.files 3 2 refl) at c.order_all-n.ensures.ordered_if in
     let s = fit_each c.args.files _ _ _ _ _ _ (c.requires.room, (c.requires.room_2, (c.requires.fits, (c.requires.room_3, (c.requires.room_4, (c.requires.fits_2, c.requires.blank)))))) in record {
       le_f = ((omega arith, omega arith), (λ e. omega arith, λ e. omega arith));
-      fits = lacked_fits 3 _ _ _ _ c.order_all-n.ensures.ordered_if s.1.1.0;
+      fits = lacked_fits 3 _ _ _ _ services_order s.1.1.0;
     }
 
 pub fill_alone-requires-3 : goal.fill_alone-requires-3
 fill_alone-requires-3 c =
+    let routes_order = rw (file_behind c.args.files 2 1 refl) at c.order_all-n.ensures.ordered_2 in
     let s = fit_each c.args.files _ _ _ _ _ _ (c.requires.room, (c.requires.room_2, (c.requires.fits, (c.requires.room_3, (c.requires.room_4, (c.requires.fits_2, c.requires.blank)))))) in record {
       le_f = ((omega arith, omega arith), (λ e. omega arith, λ e. omega arith));
-      fits = room_fits 2 _ _ (ordered_room 2 _ _ _ _ c.order_all-n.ensures.ordered_2 s.1.0);
+      fits = room_fits 2 _ _ (ordered_room 2 _ _ _ _ routes_order s.1.0);
     }
 
 pub fill_alone-requires-4 : goal.fill_alone-requires-4
 unfolding width_of widths
 fill_alone-requires-4 c =
+    let stops_order = rw (file_behind c.args.files 1 0 refl) at c.order_all-n.ensures.ordered in
     let s = fit_each c.args.files _ _ _ _ _ _ (c.requires.room, (c.requires.room_2, (c.requires.fits, (c.requires.room_3, (c.requires.room_4, (c.requires.fits_2, c.requires.blank)))))) in record {
       le_f = ((omega arith, omega arith), (λ e. omega arith, λ e. omega arith));
-      fits = room_fits 1 _ _ (settled_room 1 (omega arith) _ _ _ _ _ c.order_all-n.ensures.ordered c.settle_parents.ensures.kept_at s.0);
+      fits = room_fits 1 _ _ (settled_room 1 (omega arith) _ _ _ _ _ stops_order c.settle_parents.ensures.kept_at s.0);
     }
 
 pub returns : goal.returns
 unfolding width_of widths waits sought_ids
 returns c =
+    let stops_order = rw (file_behind c.args.files 1 0 refl) at c.order_all-n.ensures.ordered in
+    let routes_order = rw (file_behind c.args.files 2 1 refl) at c.order_all-n.ensures.ordered_2 in
+    let services_order = rw (file_behind c.args.files 3 2 refl) at c.order_all-n.ensures.ordered_if in
+    let trips_order = rw (file_behind c.args.files 4 3 refl) at c.order_all-n.ensures.ordered_3 in
+    let dates_order = rw (file_behind c.args.files 6 5 refl) at c.order_all-n.ensures.ordered_if_2 in
     let a = c.args in
     let b₁ = behind a.files 0 in
     let b₂ = behind a.files 1 in
@@ -111,15 +115,17 @@ returns c =
     let e4 = trip_ids_lem b₁ b₂ b₃ b₄ b₅ b₆ in
     let e6 = dated_ids_lem b₁ b₂ b₃ b₄ b₅ b₆ in
     let times = c.fill_times.ensures.t_after w (feed_times b₁ b₂ b₃ b₄ b₅ b₆)
-    (refers_times w _ _ (settled_lists 4 (omega arith) _ _ _ _ _ c.order_all-n.ensures.ordered_3 c.settle_services.ensures.kept_at _ e4) (settled_lists 1 (omega arith) _ _ _ _ _ c.order_all-n.ensures.ordered c.settle_parents.ensures.kept_at _ e1)) in
-    let trips = c.fill_trips.ensures w (ordered_lists 2 _ _ _ _ c.order_all-n.ensures.ordered_2 _ e2) (lacked_lists 3 _ _ _ _ c.order_all-n.ensures.ordered_if _ e3)
-    (settled_named 4 (omega arith) _ _ _ _ _ c.order_all-n.ensures.ordered_3 c.settle_services.ensures.kept_at w (c.settle_services.ensures.by_index (dated_ids w) (lacked_lists 6 _ _ _ _ c.order_all-n.ensures.ordered_if_2 _ e6)))
-    ∙ filled_beyond 4 (omega arith) (omega arith) w _ pre.1.1.1.0.lines _ _ (settled_past 4 (omega arith) _ _ _ _ _ c.order_all-n.ensures.ordered_3 c.settle_services.ensures.kept_at) in
-    let dates = c.fill_alone.ensures w (settled_none 6 w _ _ refl) ∙ lacked_filled 6 _ _ _ _ c.order_all-n.ensures.ordered_if_2 (omega arith) (omega arith) pre.1.1.1.1.1.0 w in
-    let calendar = c.fill_alone-2.ensures w (settled_none 3 w _ _ refl) ∙ lacked_filled 3 _ _ _ _ c.order_all-n.ensures.ordered_if (omega arith) (omega arith) pre.1.1.0 w in
-    let routes = c.fill_alone-3.ensures w (settled_none 2 w _ _ refl) ∙ filled_beyond 2 (omega arith) (omega arith) w _ pre.1.0.lines _ _ c.order_all-n.ensures.ordered_2.beyond in
-    let stops = c.fill_alone-4.ensures w (settled_named 1 (omega arith) _ _ _ _ _ c.order_all-n.ensures.ordered c.settle_parents.ensures.kept_at w (c.settle_parents.ensures.by_index (stop_ids w) (ordered_lists 1 _ _ _ _ c.order_all-n.ensures.ordered _ e1)))
-    ∙ filled_beyond 1 (omega arith) (omega arith) w _ pre.0.lines _ _ (settled_past 1 (omega arith) _ _ _ _ _ c.order_all-n.ensures.ordered c.settle_parents.ensures.kept_at) in let every = all_filled a.files _ _ _ _ _ _ (omega arith) _ _ _ _ _ _ _ stops routes calendar trips times.0 dates (noted_kept w _ _ c.fill_times.ensures.by_index_2 (c.order_all-n.ensures.by_index b₅)) times.1 in record {
-      dates_table_after = every.0;
+    (refers_times w _ _ (settled_lists 4 (omega arith) _ _ _ _ _ trips_order c.settle_services.ensures.kept_at _ e4) (settled_lists 1 (omega arith) _ _ _ _ _ stops_order c.settle_parents.ensures.kept_at _ e1)) in
+    let trips = c.fill_trips.ensures w (ordered_lists 2 _ _ _ _ routes_order _ e2) (lacked_lists 3 _ _ _ _ services_order _ e3)
+    (settled_named 4 (omega arith) _ _ _ _ _ trips_order c.settle_services.ensures.kept_at w (c.settle_services.ensures.by_index (dated_ids w) (lacked_lists 6 _ _ _ _ dates_order _ e6)))
+    ∙ filled_beyond 4 (omega arith) (omega arith) w _ pre.1.1.1.0.lines _ _ (settled_past 4 (omega arith) _ _ _ _ _ trips_order c.settle_services.ensures.kept_at) in
+    let dates = c.fill_alone.ensures w (settled_none 6 w _ _ refl) ∙ lacked_filled 6 _ _ _ _ dates_order (omega arith) (omega arith) pre.1.1.1.1.1.0 w in
+    let calendar = c.fill_alone-2.ensures w (settled_none 3 w _ _ refl) ∙ lacked_filled 3 _ _ _ _ services_order (omega arith) (omega arith) pre.1.1.0 w in
+    let routes = c.fill_alone-3.ensures w (settled_none 2 w _ _ refl) ∙ filled_beyond 2 (omega arith) (omega arith) w _ pre.1.0.lines _ _ routes_order.beyond in
+    let stops = c.fill_alone-4.ensures w (settled_named 1 (omega arith) _ _ _ _ _ stops_order c.settle_parents.ensures.kept_at w (c.settle_parents.ensures.by_index (stop_ids w) (ordered_lists 1 _ _ _ _ stops_order _ e1)))
+    ∙ filled_beyond 1 (omega arith) (omega arith) w _ pre.0.lines _ _ (settled_past 1 (omega arith) _ _ _ _ _ stops_order c.settle_parents.ensures.kept_at) in
+    let every = all_filled a.files _ _ _ _ _ _ (omega arith) _ _ _ _ _ _ _ stops routes calendar trips (rw c.order_all-n.ensures.stop_times_after at times.0) dates (noted_kept w _ _ c.fill_times.ensures.by_index_2 (rw (six_behind a.files (omega arith)) at c.order_all-n.ensures.noted)) times.1 in record {
+      same = c.order_all-n.ensures.same;
+      tables_after = every.0;
       noted = every.1;
     }
