@@ -15,8 +15,10 @@ ghost use Rattle.tables.specs.Fill.{Room, Fits, Covers, CoversAll};
 ghost use Rattle.tables.specs.Walk.{written_all, written, Ordered, OrderedIf, IndexedIf, ListsIf, Settled};
 
 use rows::{Calendar, Dates, Routes, Stops, Table, Trips};
+use seeking::Records;
 
 mod placing; // placing.rt: the first walk along files 1 to 4 and 6, and the order of their ids
+mod waiting; // waiting.rt: the record that a field which waits names
 mod parents; // parents.rt: the parents of stops, once every stop's id is in the table
 mod services; // services.rt: the first exceptions of trips' services, once those of file 6 are in the table
 mod times; // times.rt: the lines of stop_times, which wait in their table while they are put in trip order
@@ -28,21 +30,17 @@ fn fill_lines(
     at: usize,
     known: [usize; 10],
     t: &mut [i32],
-    a: &[u8],
-    a_table: &[i32],
-    a_count: usize,
+    a: Records,
     a_memo: &mut [u32],
-    b: &[u8],
-    b_table: &[i32],
-    b_count: usize,
+    b: Records,
     b_memo: &mut [u32],
 ) -> usize
     requires le_f { (1 ≤ f) × ((f ≤ 6) × Room f s.now t.old) }
     requires heading { Heading f s.now known at }
-    requires a_count_le_max_lines { (a_count ≤ max_lines) × (b_count ≤ max_lines) }
-    requires sought { Sought f a.now a_table.now a_count a_memo.old b.now b_table.now b_count b_memo.old }
+    requires count_le_max_lines { (a.count ≤ max_lines) × (b.count ≤ max_lines) }
+    requires sought { Sought f a a_memo.old b b_memo.old }
     ensures t_after { (w : Feed) (lent : List ℤ)
-        → Refers f w a.now a_table.now a_count b.now b_table.now b_count
+        → Refers f w a.entry b.entry
         → Settled f w s.now t.old
         → t.old ≡ laid (flat (take 1 (written_all f w s.now))) lent
         → t.new ≡ written f w s.now lent }
@@ -59,12 +57,8 @@ fn fill_lines(
             t,
             r,
             a,
-            a_table,
-            a_count,
             a_memo,
             b,
-            b_table,
-            b_count,
             b_memo,
         );
         here = next;
@@ -73,23 +67,13 @@ fn fill_lines(
     r - 1
 }
 
-// The records of a file as the second walk writes them, record 0 first; references go to those of files a and b. How many there are.
-fn fill(
-    f: usize,
-    s: &[u8],
-    t: &mut [i32],
-    a: &[u8],
-    a_table: &[i32],
-    a_count: usize,
-    b: &[u8],
-    b_table: &[i32],
-    b_count: usize,
-) -> usize
+// The records of a file as the second walk writes them, record 0 first; references go to the records a and b. How many there are.
+fn fill(f: usize, s: &[u8], t: &mut [i32], a: Records, b: Records) -> usize
     requires le_f { (1 ≤ f) × ((f ≤ 6) × Room f s.now t.old) }
-    requires a_count_le_max_lines { (a_count ≤ max_lines) × (b_count ≤ max_lines) }
-    requires indexed { Indexed f a.now a_table.now a_count b.now b_table.now b_count }
+    requires count_le_max_lines { (a.count ≤ max_lines) × (b.count ≤ max_lines) }
+    requires indexed { Indexed f a b }
     ensures t_after { (w : Feed)
-        → Refers f w a.now a_table.now a_count b.now b_table.now b_count
+        → Refers f w a.entry b.entry
         → Settled f w s.now t.old
         → t.new ≡ written f w s.now t.old }
     ensures result_value { result + 1 ≡ count_lf s.now }
@@ -100,21 +84,7 @@ fn fill(
     let next = h.next;
     let mut a_memo = memo::blank();
     let mut b_memo = memo::blank();
-    fill_lines(
-        f,
-        s,
-        next,
-        known,
-        t,
-        a,
-        a_table,
-        a_count,
-        &mut a_memo,
-        b,
-        b_table,
-        b_count,
-        &mut b_memo,
-    )
+    fill_lines(f, s, next, known, t, a, &mut a_memo, b, &mut b_memo)
 }
 
 // A table that refers to no other, of a file that may be not supplied.
@@ -126,36 +96,37 @@ fn fill_alone(f: usize, s: &[u8], t: &mut [i32])
     if s.len() == 0 {
         return;
     }
-    let none = [0i32; 1];
-    fill(f, s, t, s, &none, 0, s, &none, 0);
+    let blank = [0i32; 1];
+    let none = Records {
+        file: s,
+        table: &blank,
+        count: 0,
+    };
+    fill(f, s, t, none, none);
 }
 
-// The table of trips: a is routes.txt, b is calendar.txt, which may be not supplied.
-fn fill_trips(
-    s: &[u8],
-    t: &mut [i32],
-    a: &[u8],
-    a_table: &[i32],
-    a_count: usize,
-    b: &[u8],
-    b_table: &[i32],
-    b_count: usize,
-)
-    requires room { Room 4 s.now t.old × ((a_count ≤ max_lines) × (b_count ≤ max_lines)) }
-    requires placed { Placed a.now a_table.now 3 a_count × Arranged a.now 3 a_count a_table.now }
-    requires indexed_if { IndexedIf b.now b_table.now 5 b_count }
+// The table of trips; calendar.txt may be not supplied.
+fn fill_trips(s: &[u8], t: &mut [i32], routes: Records, services: Records)
+    requires room { Room 4 s.now t.old × ((routes.count ≤ max_lines) × (services.count ≤ max_lines)) }
+    requires placed { Placed routes.file.now routes.table.now 3 routes.count × Arranged routes.file.now 3 routes.count routes.table.now }
+    requires indexed_if { IndexedIf services.file.now services.table.now 5 services.count }
     ensures { (w : Feed)
-        → Lists a.now a_table.now 3 a_count (route_ids w)
-        → ListsIf b.now b_table.now 5 b_count (service_ids w)
+        → Lists routes.entry.file.now routes.entry.table.now 3 routes.entry.count (route_ids w)
+        → ListsIf services.entry.file.now services.entry.table.now 5 services.entry.count (service_ids w)
         → Settled 4 w s.now t.old
         → t.new ≡ filled 4 w s.now t.old }
 {
-    if b.len() == 0 {
-        let none = [0i32; 5];
-        fill(Trips::FILE, s, t, a, a_table, a_count, b, &none, 0);
+    if services.file.len() == 0 {
+        let blank = [0i32; 5];
+        let none = Records {
+            file: services.file,
+            table: &blank,
+            count: 0,
+        };
+        fill(Trips::FILE, s, t, routes, none);
         return;
     }
-    fill(Trips::FILE, s, t, a, a_table, a_count, b, b_table, b_count);
+    fill(Trips::FILE, s, t, routes, services);
 }
 
 // How many records files 1 to 4 and 6 have.
@@ -245,28 +216,40 @@ pub fn fill_all(
         marks,
     );
     parents::settle_parents(stops, n.stops, stops_table);
-    services::settle_services(trips, n.trips, trips_table, dates, dates_table, n.dates);
+    let exceptions = Records {
+        file: dates,
+        table: dates_table,
+        count: n.dates,
+    };
+    services::settle_services(trips, n.trips, trips_table, exceptions);
+    let trip_records = Records {
+        file: trips,
+        table: trips_table,
+        count: n.trips,
+    };
+    let stop_records = Records {
+        file: stops,
+        table: stops_table,
+        count: n.stops,
+    };
     times::fill_times(
         stop_times,
         stop_times_table,
-        trips,
-        trips_table,
-        n.trips,
-        stops,
-        stops_table,
-        n.stops,
+        trip_records,
+        stop_records,
         marks,
     );
-    fill_trips(
-        trips,
-        trips_table,
-        routes,
-        routes_table,
-        n.routes,
-        calendar,
-        calendar_table,
-        n.services,
-    );
+    let route_records = Records {
+        file: routes,
+        table: routes_table,
+        count: n.routes,
+    };
+    let service_records = Records {
+        file: calendar,
+        table: calendar_table,
+        count: n.services,
+    };
+    fill_trips(trips, trips_table, route_records, service_records);
     fill_alone(Dates::FILE, dates, dates_table);
     fill_alone(Calendar::FILE, calendar, calendar_table);
     fill_alone(Routes::FILE, routes, routes_table);

@@ -12,6 +12,7 @@ ghost use Rattle.tables.specs.Fill.{Room};
 ghost use Rattle.tables.specs.Walk.{written};
 
 use rows::{StopTimes, Table, TimeRow};
+use seeking::Records;
 
 // Records 1 to n, which wait, in their last form.
 fn settle_times(t: &mut [i32], n: usize)
@@ -26,37 +27,17 @@ fn settle_times(t: &mut [i32], n: usize)
 }
 
 // The records of stop_times, and the marks that trip order tells.
-pub fn fill_times(
-    s: &[u8],
-    t: &mut [i32],
-    trips: &[u8],
-    trips_table: &[i32],
-    trip_count: usize,
-    stops: &[u8],
-    stops_table: &[i32],
-    stop_count: usize,
-    m: &mut [u16],
-)
-    requires room { Room 5 s.now t.old × ((trip_count ≤ max_lines) × (stop_count ≤ max_lines)) }
-    requires indexed { Indexed 5 trips.now trips_table.now trip_count stops.now stops_table.now stop_count }
-    requires s_in_bounds { (count_lf s.now ≤ length m.old) × (trip_count < length m.old) }
+pub fn fill_times(s: &[u8], t: &mut [i32], trips: Records, stops: Records, m: &mut [u16])
+    requires room { Room 5 s.now t.old × ((trips.count ≤ max_lines) × (stops.count ≤ max_lines)) }
+    requires indexed { Indexed 5 trips stops }
+    requires s_in_bounds { (count_lf s.now ≤ length m.old) × (trips.count < length m.old) }
     requires by_index { (k i : ℕ) → 9 ≤ k → marked m.old k i ≡ false }
     ensures t_after { (w : Feed) → w.stop_times ≡ rows_of 5 s.now
-        → Refers 5 w trips.now trips_table.now trip_count stops.now stops_table.now stop_count
+        → Refers 5 w trips.entry stops.entry
         → (t.new ≡ filled 5 w s.now t.old) × TripsNoted w m.new }
     ensures by_index_2 { (k i : ℕ) → k < 9 → marked m.new k i ≡ marked m.old k i }
 {
-    let n = crate::fill(
-        StopTimes::FILE,
-        s,
-        t,
-        trips,
-        trips_table,
-        trip_count,
-        stops,
-        stops_table,
-        stop_count,
-    );
+    let n = crate::fill(StopTimes::FILE, s, t, trips, stops);
     trip_walk::mark_times(s, t, n, m);
     settle_times(t, n);
 }

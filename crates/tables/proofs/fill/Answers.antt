@@ -16,8 +16,8 @@ fill_lines-requires c =
     let r = c.requires.le_f.1.1 in record {
       le_f = (c.requires.le_f.0, (c.requires.le_f.1.0, record { lines = r.lines; few = r.few; size = r.size; room = omega (arith, r.room) }));
       heading = c.read_header-h.ensures;
-      a_count_le_max_lines = c.requires.a_count_le_max_lines;
-      sought = sought_blank _ _ _ _ _ _ _ _ _ c.requires.indexed c.blank-a_memo.ensures c.blank-b_memo.ensures;
+      count_le_max_lines = c.requires.count_le_max_lines;
+      sought = sought_blank _ _ _ _ _ c.requires.indexed c.blank-a_memo.ensures c.blank-b_memo.ensures;
     }
 
 pub returns : goal.returns

@@ -44,7 +44,7 @@ fill_times-requires c =
     let long = cover_each c.args.files c.args.marks.now s.1.1.1.1.1.1.1 in
     let size = c.order_all-n.auto.marks in record {
       room = (s.1.1.1.1.0, (omega (arith, trips.count, s.1.1.1.0.few), omega (arith, c.order_all-n.ensures.ordered.count, s.0.few)));
-      indexed = indexed_times _ _ _ _ _ _
+      indexed = indexed_times _ _
           (settled_index 4 (omega arith) _ _ _ _ _ trips c.settle_services.ensures.kept_at)
           (settled_index 1 (omega arith) _ _ _ _ _ c.order_all-n.ensures.ordered c.settle_parents.ensures.kept_at);
       s_in_bounds = (omega (arith, long.4, size), omega (arith, trips.count, long.3, size));
@@ -111,7 +111,7 @@ returns c =
     let e4 = trip_ids_lem b₁ b₂ b₃ b₄ b₅ b₆ in
     let e6 = dated_ids_lem b₁ b₂ b₃ b₄ b₅ b₆ in
     let times = c.fill_times.ensures.t_after w (feed_times b₁ b₂ b₃ b₄ b₅ b₆)
-    (refers_times w _ _ _ _ _ _ (settled_lists 4 (omega arith) _ _ _ _ _ c.order_all-n.ensures.ordered_3 c.settle_services.ensures.kept_at _ e4) (settled_lists 1 (omega arith) _ _ _ _ _ c.order_all-n.ensures.ordered c.settle_parents.ensures.kept_at _ e1)) in
+    (refers_times w _ _ (settled_lists 4 (omega arith) _ _ _ _ _ c.order_all-n.ensures.ordered_3 c.settle_services.ensures.kept_at _ e4) (settled_lists 1 (omega arith) _ _ _ _ _ c.order_all-n.ensures.ordered c.settle_parents.ensures.kept_at _ e1)) in
     let trips = c.fill_trips.ensures w (ordered_lists 2 _ _ _ _ c.order_all-n.ensures.ordered_2 _ e2) (lacked_lists 3 _ _ _ _ c.order_all-n.ensures.ordered_if _ e3)
     (settled_named 4 (omega arith) _ _ _ _ _ c.order_all-n.ensures.ordered_3 c.settle_services.ensures.kept_at w (c.settle_services.ensures.by_index (dated_ids w) (lacked_lists 6 _ _ _ _ c.order_all-n.ensures.ordered_if_2 _ e6)))
     ∙ filled_beyond 4 (omega arith) (omega arith) w _ pre.1.1.1.0.lines _ _ (settled_past 4 (omega arith) _ _ _ _ _ c.order_all-n.ensures.ordered_3 c.settle_services.ensures.kept_at) in

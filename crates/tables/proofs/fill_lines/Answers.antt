@@ -32,7 +32,7 @@ put_record-requires c =
     let h = line_found _ _ _ _ _ (sym c.next_line.ensures ∙ c.in-Some.is) in record {
       le_f = (c.requires.le_f.0, (c.requires.le_f.1.0, walk_size c.args.s.now c.loop-line.here c.loop-line.r c.loop-line.invariant.1.0 _ _ _ h _ c.requires.le_f.1.1.size));
       f_in_bounds = rw (← c.loop-line.invariant.1.1.0.0) at (walk_room c.args.s.now c.loop-line.here c.loop-line.r c.loop-line.invariant.1.0 _ _ _ h _ _ c.requires.le_f.1.1.room);
-      a_count_le_max_lines = c.requires.a_count_le_max_lines;
+      count_le_max_lines = c.requires.count_le_max_lines;
       sought = c.loop-line.invariant.1.1.1.0;
     }
 

@@ -14,14 +14,14 @@ loop-r-init c = record {
   named = λ ids l. named_start _ _ ids _ _;
 }
 
-pub waiting_parent-parent-requires : goal.waiting_parent-parent-requires
-waiting_parent-parent-requires c = c.loop-r.invariant.ready
+pub named_by-parent-requires : goal.named_by-parent-requires
+named_by-parent-requires c = c.loop-r.invariant.ready
 
 pub settle-requires : goal.settle-requires
 settle-requires c =
     let below : c.loop-r.r ≤ c.args.n = omega (arith, c.loop-r-test.true) in
     let row = room_row c.loop-r.invariant.ready.arranged.room c.loop-r.r below in
-    (omega (arith, row, c.new-row.ensures), omega (arith, c.waiting_parent-parent.ensures.result_le_n, c.requires.1))
+    (omega (arith, row, c.new-row.ensures), omega (arith, c.named_by-parent.ensures.upper_bound, c.requires.1))
 
 pub loop-r-preserved : goal.loop-r-preserved
 loop-r-preserved c =
@@ -30,10 +30,10 @@ loop-r-preserved c =
     let kept = c.loop-r.invariant.kept in
     let row = room_row c.loop-r.invariant.ready.arranged.room c.loop-r.r below in record {
       kept = settle_kept 7 _ _ (omega arith) above below _ _ _ (rw c.new-row.ensures at c.settle.ensures) _ kept;
-      ready = settle_ready 7 _ _ (omega arith) above below c.loop-r.t _ _ (rw c.new-row.ensures at c.settle.ensures) _ _ c.waiting_parent-parent.ensures.ready;
+      ready = settle_ready 7 _ _ (omega arith) above below c.loop-r.t _ _ (rw c.new-row.ensures at c.settle.ensures) _ _ c.named_by-parent.ensures.ready;
       named = λ ids lists.
           settle_turn 7 _ _ (omega arith) above below _ _ _ (rw c.new-row.ensures at c.settle.ensures) _ ids _ kept row (c.loop-r.invariant.named ids lists)
-          (referred _ c.loop-r.t 7 _ ids _ _ _ (lists_as _ 7 _ _ c.loop-r.t ids kept.size (kept_three 7 _ _ c.loop-r.t (omega arith) kept) lists) (rw c.new-row.ensures at c.waiting_parent-parent.ensures.first) refl);
+          (referred _ c.loop-r.t 7 _ ids _ _ _ (lists_as _ 7 _ _ c.loop-r.t ids kept.size (kept_three 7 _ _ c.loop-r.t (omega arith) kept) lists) (rw c.new-row.ensures at c.named_by-parent.ensures.first) refl);
     }
 
 pub returns : goal.returns

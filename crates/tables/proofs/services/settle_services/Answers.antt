@@ -10,20 +10,20 @@ settle_among-requires c =
       n_in_bounds = (s.0, (s.1.0, omega arith));
     }
 
-pub returns-then-a-eq0 : goal.returns-then-a-eq0
-returns-then-a-eq0 c = record {
+pub returns-then-dates-eq0 : goal.returns-then-dates-eq0
+returns-then-dates-eq0 c = record {
   kept_at = c.settle_among.ensures.kept_at;
-  by_index = λ ids lists. c.settle_among.ensures.by_index ids (none_lists _ _ 4 (omega arith) (omega arith) (omega arith) ids (lists.1 c.if-a-eq0.true));
+  by_index = λ ids lists. c.settle_among.ensures.by_index ids (none_lists _ _ 4 (omega arith) (omega arith) (omega arith) ids (lists.1 c.if-dates-eq0.true));
 }
 
 pub settle_among-requires-2 : goal.settle_among-requires-2
 settle_among-requires-2 c = record {
-  placed = c.requires.indexed_if (omega (arith, c.if-a-eq0.false));
+  placed = c.requires.indexed_if (omega (arith, c.if-dates-eq0.false));
   n_in_bounds = c.requires.n_in_bounds;
 }
 
 pub returns : goal.returns
 returns c = record {
   kept_at = c.settle_among-2.ensures.kept_at;
-  by_index = λ ids lists. c.settle_among-2.ensures.by_index ids (lists.0 (omega (arith, c.if-a-eq0.false)));
+  by_index = λ ids lists. c.settle_among-2.ensures.by_index ids (lists.0 (omega (arith, c.if-dates-eq0.false)));
 }

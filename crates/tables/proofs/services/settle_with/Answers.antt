@@ -15,15 +15,15 @@ loop-r-init c = record {
   named = λ ids l. named_start _ _ ids _ _;
 }
 
-pub waiting_service-dated-requires : goal.waiting_service-dated-requires
-waiting_service-dated-requires c = c.loop-r.invariant.ready
+pub named_by-dated-requires : goal.named_by-dated-requires
+named_by-dated-requires c = c.loop-r.invariant.ready
 
 pub settle-requires : goal.settle-requires
 settle-requires c =
     let s = c.requires.n_in_bounds in
     let below : c.loop-r.r ≤ c.args.n = omega (arith, c.loop-r-test.true) in
     let row = row_fits c.loop-r.r _ 8 _ below s.0 in
-    (omega (arith, row, c.loop-r.invariant.kept.size, c.new-row.ensures), omega (arith, c.waiting_service-dated.ensures.result_le_k, s.1.1))
+    (omega (arith, row, c.loop-r.invariant.kept.size, c.new-row.ensures), omega (arith, c.named_by-dated.ensures.upper_bound, s.1.1))
 
 pub loop-r-preserved : goal.loop-r-preserved
 loop-r-preserved c =
@@ -32,10 +32,10 @@ loop-r-preserved c =
     let kept = c.loop-r.invariant.kept in
     let row : (c.loop-r.r + 1) * 8 ≤ length c.loop-r.t = rw kept.size (row_fits c.loop-r.r _ 8 _ below c.requires.n_in_bounds.0) in record {
       kept = settle_kept 8 _ _ (omega arith) above below _ _ _ (rw c.new-row.ensures at c.settle.ensures) _ kept;
-      ready = c.waiting_service-dated.ensures.ready;
+      ready = c.named_by-dated.ensures.ready;
       named = λ ids lists.
           settle_turn 8 _ _ (omega arith) above below _ _ _ (rw c.new-row.ensures at c.settle.ensures) _ ids _ kept row (c.loop-r.invariant.named ids lists)
-          (referred _ _ 4 _ ids _ _ _ lists (rw c.new-row.ensures at c.waiting_service-dated.ensures.first) refl);
+          (referred _ _ 4 _ ids _ _ _ lists (rw c.new-row.ensures at c.named_by-dated.ensures.first) refl);
     }
 
 pub returns : goal.returns

@@ -10,6 +10,6 @@ use Rattle.tables.proofs.services.settle_with.Given as goal
 abbrev pub invariant-loop-r : goal.invariant-loop-r
 invariant-loop-r l = record {
   kept : KeptAt 7 8 l.n l.initial.t l.t;
-  ready : Ready l.a l.a_table 4 l.k l.memo;
-  named : (ids : List (List ℕ)) → Lists l.a l.a_table 4 l.k ids → Named 8 l.s l.r ids l.initial.t l.t;
+  ready : Ready l.dates.file.now l.dates.table.now 4 l.dates.count l.memo;
+  named : (ids : List (List ℕ)) → Lists l.dates.file.now l.dates.table.now 4 l.dates.count ids → Named 8 l.s l.r ids l.initial.t l.t;
 }

@@ -10,7 +10,7 @@ use Rattle.tables.proofs.times.fill_times.Goals as goal
 pub fill-n-requires : goal.fill-n-requires
 fill-n-requires c = record {
   le_f = (omega arith, (omega arith, c.requires.room.0));
-  a_count_le_max_lines = c.requires.room.1;
+  count_le_max_lines = c.requires.room.1;
   indexed = c.requires.indexed;
 }
 
