@@ -6,79 +6,85 @@ ghost use Rattle.meaning.specs.Tables.{Feed, width_of, record_of, refer, parent_
 ghost use Rattle.meaning.specs.Refusals.{max_bytes, max_lines};
 ghost use Rattle.rows.specs.Cells.{put_at};
 ghost use Rattle.memo.specs.Memo.{Ready};
-ghost use Rattle.values.specs.Located.{Located};
-ghost use Rattle.records.specs.Line.{line, Lies};
+ghost use Rattle.values.specs.Located.{field_in, Located};
+ghost use Rattle.records.specs.Line.{line};
 ghost use Rattle.records.specs.Refers.{Lists, Refers, Sought};
 ghost use Rattle.records.specs.Waiting.{waits, last_of, named_of, waiting_of, written_of};
 
-use columns::Cells;
 use meaning::Bounds;
 use rows::{
     Calendar, DateRow, Dates, RouteRow, Routes, ServiceRow, StopRow, StopTimes, Stops, Table,
     TimeRow, TripRow, Trips,
 };
 use seeking::Records;
+use values::LocatedLine;
 
-// The place in the file of the field under known column k.
-pub fn field_place(l: &[u8], at: usize, q: Cells, k: usize) -> Bounds
-    requires { (k < 10) × Lies l.now at q.start q.end }
-    ensures start_value { (result.start ≡ at + get_or q.start k 0) × (result.end ≡ at + get_or q.end k 0) }
-    ensures start_le_max_bytes { (result.start ≤ max_bytes) × (result.end ≤ max_bytes) }
-{
-    let starts = q.start;
-    let ends = q.end;
-    let a = starts[k];
-    let e = ends[k];
-    Bounds {
-        start: at + a,
-        end: at + e,
+// A located line of a file, and where it starts, counted from the file's first byte.
+#[derive(Clone, Copy)]
+pub struct FileLine<'a> {
+    pub located: LocatedLine<'a>,
+    pub start: usize,
+    ghost lies: { start + length located.line.now ≤ max_bytes },
+}
+
+impl<'a> FileLine<'a> {
+    // The place in the file of the field under known column k.
+    pub fn field_place(&self, k: usize) -> Bounds
+        requires { k < 10 }
+        ensures start_value { (result.start ≡ self.now.start + (field_in self.now.located.cells k).start)
+            × (result.end ≡ self.now.start + (field_in self.now.located.cells k).end) }
+        ensures start_le_max_bytes { (result.start ≤ max_bytes) × (result.end ≤ max_bytes) }
+    {
+        let Bounds { start, end } = self.located.cells[k];
+        Bounds {
+            start: self.start + start,
+            end: self.start + end,
+        }
     }
 }
 
 // A stop, whose parent is settled.
-fn put_stop(l: &[u8], at: usize, q: Cells, t: &mut [i32], row: StopRow)
-    requires { Lies l.now at q.start q.end × (row.0 * 7 + 7 ≤ length t.old) }
-    ensures { (w : Feed) (ps : List ℕ) → Located l.now ps q.start q.end
-        → get_or t.old (row.0 * 7 + 6) (pos 0) ≡ pos (refer (parent_station (row_of ps l.now)) (stop_ids w))
-        → t.new ≡ put_at t.old (row.0 * 7) (record_of 1 w ps (line at l.now)) }
+fn put_stop(l: &FileLine, t: &mut [i32], row: StopRow)
+    requires { row.0 * 7 + 7 ≤ length t.old }
+    ensures { (w : Feed) (ps : List ℕ) → Located l.now.located.line.now ps l.now.located.cells
+        → get_or t.old (row.0 * 7 + 6) (pos 0) ≡ pos (refer (parent_station (row_of ps l.now.located.line.now)) (stop_ids w))
+        → t.new ≡ put_at t.old (row.0 * 7) (record_of 1 w ps (line l.now.start l.now.located.line.now)) }
 {
-    let id = field_place(l, at, q, 0);
-    let latitude = values::latitude(l, q, 2);
-    let longitude = values::longitude(l, q, 3);
-    let kind = values::choice_or_zero(l, q, 4, 4);
-    let placed = values::place_mark(l, q);
+    let id = l.field_place(0);
+    let latitude = l.located.latitude(2);
+    let longitude = l.located.longitude(3);
+    let kind = l.located.choice_or_zero(4, 4);
+    let placed = l.located.place_mark();
     Stops::put(t, row, id, latitude, longitude, kind, placed);
 }
 
 // A route.
-fn put_route(l: &[u8], at: usize, q: Cells, t: &mut [i32], row: RouteRow)
-    requires { Lies l.now at q.start q.end × (row.0 * 3 + 3 ≤ length t.old) }
-    ensures { (w : Feed) (ps : List ℕ) → Located l.now ps q.start q.end
-        → t.new ≡ put_at t.old (row.0 * 3) (record_of 2 w ps (line at l.now)) }
+fn put_route(l: &FileLine, t: &mut [i32], row: RouteRow)
+    requires { row.0 * 3 + 3 ≤ length t.old }
+    ensures { (w : Feed) (ps : List ℕ) → Located l.now.located.line.now ps l.now.located.cells
+        → t.new ≡ put_at t.old (row.0 * 3) (record_of 2 w ps (line l.now.start l.now.located.line.now)) }
 {
-    let id = field_place(l, at, q, 0);
-    let kind = values::route_type(l, q, 1);
+    let id = l.field_place(0);
+    let kind = l.located.route_type(1);
     Routes::put(t, row, id, kind);
 }
 
 // A service.
-fn put_service(l: &[u8], at: usize, q: Cells, t: &mut [i32], row: ServiceRow)
-    requires { Lies l.now at q.start q.end × (row.0 * 5 + 5 ≤ length t.old) }
-    ensures { (w : Feed) (ps : List ℕ) → Located l.now ps q.start q.end
-        → t.new ≡ put_at t.old (row.0 * 5) (record_of 3 w ps (line at l.now)) }
+fn put_service(l: &FileLine, t: &mut [i32], row: ServiceRow)
+    requires { row.0 * 5 + 5 ≤ length t.old }
+    ensures { (w : Feed) (ps : List ℕ) → Located l.now.located.line.now ps l.now.located.cells
+        → t.new ≡ put_at t.old (row.0 * 5) (record_of 3 w ps (line l.now.start l.now.located.line.now)) }
 {
-    let id = field_place(l, at, q, 0);
-    let days = values::packed_days(l, q);
-    let start = values::date(l, q, 8);
-    let end = values::date(l, q, 9);
+    let id = l.field_place(0);
+    let days = l.located.packed_days();
+    let start = l.located.date(8);
+    let end = l.located.date(9);
     Calendar::put(t, row, id, days, start, end);
 }
 
 // A trip, whose service's first exception is settled.
 fn put_trip(
-    l: &[u8],
-    at: usize,
-    q: Cells,
+    l: &FileLine,
     t: &mut [i32],
     row: TripRow,
     routes: Records,
@@ -86,32 +92,30 @@ fn put_trip(
     services: Records,
     services_memo: &mut [u32],
 )
-    requires lies { Lies l.now at q.start q.end × (row.0 * 8 + 8 ≤ length t.old) }
+    requires row_in_bounds { row.0 * 8 + 8 ≤ length t.old }
     requires count_le_max_lines { (routes.count ≤ max_lines) × (services.count ≤ max_lines) }
     requires ready { Ready routes.file.now routes.table.now 3 routes.count routes_memo.old
         × Ready services.file.now services.table.now 5 services.count services_memo.old }
-    ensures t_after { (w : Feed) (ps : List ℕ) → Located l.now ps q.start q.end
+    ensures t_after { (w : Feed) (ps : List ℕ) → Located l.now.located.line.now ps l.now.located.cells
         → Lists routes.entry.file.now routes.entry.table.now 3 routes.entry.count (route_ids w)
         → Lists services.entry.file.now services.entry.table.now 5 services.entry.count (service_ids w)
-        → get_or t.old (row.0 * 8 + 7) (pos 0) ≡ pos (refer (trip_service (row_of ps l.now)) (dated_ids w))
-        → t.new ≡ put_at t.old (row.0 * 8) (record_of 4 w ps (line at l.now)) }
+        → get_or t.old (row.0 * 8 + 7) (pos 0) ≡ pos (refer (trip_service (row_of ps l.now.located.line.now)) (dated_ids w))
+        → t.new ≡ put_at t.old (row.0 * 8) (record_of 4 w ps (line l.now.start l.now.located.line.now)) }
     ensures ready_2 { Ready routes.entry.file.now routes.entry.table.now 3 routes.entry.count routes_memo.new
         × Ready services.entry.file.now services.entry.table.now 5 services.entry.count services_memo.new }
 {
-    let route = resolve::find::<Routes>(routes, values::raw(l, q, 0), routes_memo);
-    let service = resolve::find::<Calendar>(services, values::raw(l, q, 1), services_memo);
-    let id = field_place(l, at, q, 2);
-    let direction = values::choice_or_minus(l, q, 3, 1);
-    let wheelchair = values::choice_or_zero(l, q, 4, 2);
-    let bikes = values::choice_or_zero(l, q, 5, 2);
+    let route = resolve::find::<Routes>(routes, l.located.raw(0), routes_memo);
+    let service = resolve::find::<Calendar>(services, l.located.raw(1), services_memo);
+    let id = l.field_place(2);
+    let direction = l.located.choice_or_minus(3, 1);
+    let wheelchair = l.located.choice_or_zero(4, 2);
+    let bikes = l.located.choice_or_zero(5, 2);
     Trips::put(t, row, id, route, service, direction, wheelchair, bikes);
 }
 
 // A stop time, which waits.
 fn put_time(
-    l: &[u8],
-    at: usize,
-    q: Cells,
+    l: &FileLine,
     t: &mut [i32],
     row: TimeRow,
     trips: Records,
@@ -119,40 +123,40 @@ fn put_time(
     stops: Records,
     stops_memo: &mut [u32],
 )
-    requires lies { Lies l.now at q.start q.end × (row.0 * 8 + 8 ≤ length t.old) }
+    requires row_in_bounds { row.0 * 8 + 8 ≤ length t.old }
     requires count_le_max_lines { (trips.count ≤ max_lines) × (stops.count ≤ max_lines) }
     requires ready { Ready trips.file.now trips.table.now 8 trips.count trips_memo.old
         × Ready stops.file.now stops.table.now 7 stops.count stops_memo.old }
-    ensures t_after { (w : Feed) (ps : List ℕ) → Located l.now ps q.start q.end
+    ensures t_after { (w : Feed) (ps : List ℕ) → Located l.now.located.line.now ps l.now.located.cells
         → Lists trips.entry.file.now trips.entry.table.now 8 trips.entry.count (trip_ids w)
         → Lists stops.entry.file.now stops.entry.table.now 7 stops.entry.count (stop_ids w)
-        → t.new ≡ put_at t.old (row.0 * 8) (waiting_of w ps (line at l.now)) }
+        → t.new ≡ put_at t.old (row.0 * 8) (waiting_of w ps (line l.now.start l.now.located.line.now)) }
     ensures ready_2 { Ready trips.entry.file.now trips.entry.table.now 8 trips.entry.count trips_memo.new
         × Ready stops.entry.file.now stops.entry.table.now 7 stops.entry.count stops_memo.new }
 {
-    let trip = resolve::find::<Trips>(trips, values::raw(l, q, 0), trips_memo);
-    let stop = resolve::find::<Stops>(stops, values::raw(l, q, 3), stops_memo);
-    let sequence = values::sequence(l, q, 4);
-    let arrival = values::clock(l, q, 1);
-    let departure = values::clock(l, q, 2);
-    let pickup = values::choice_or_zero(l, q, 5, 3);
-    let drop_off = values::choice_or_zero(l, q, 6, 3);
-    let timepoint = values::choice_or_minus(l, q, 7, 1);
-    let place = field_place(l, at, q, 0);
+    let trip = resolve::find::<Trips>(trips, l.located.raw(0), trips_memo);
+    let stop = resolve::find::<Stops>(stops, l.located.raw(3), stops_memo);
+    let sequence = l.located.sequence(4);
+    let arrival = l.located.clock(1);
+    let departure = l.located.clock(2);
+    let pickup = l.located.choice_or_zero(5, 3);
+    let drop_off = l.located.choice_or_zero(6, 3);
+    let timepoint = l.located.choice_or_minus(7, 1);
+    let place = l.field_place(0);
     StopTimes::put_waiting(
         t, row, trip, stop, sequence, arrival, departure, pickup, drop_off, timepoint, place,
     );
 }
 
 // An exception: a service on a date.
-fn put_date(l: &[u8], at: usize, q: Cells, t: &mut [i32], row: DateRow)
-    requires { Lies l.now at q.start q.end × (row.0 * 4 + 4 ≤ length t.old) }
-    ensures { (w : Feed) (ps : List ℕ) → Located l.now ps q.start q.end
-        → t.new ≡ put_at t.old (row.0 * 4) (record_of 6 w ps (line at l.now)) }
+fn put_date(l: &FileLine, t: &mut [i32], row: DateRow)
+    requires { row.0 * 4 + 4 ≤ length t.old }
+    ensures { (w : Feed) (ps : List ℕ) → Located l.now.located.line.now ps l.now.located.cells
+        → t.new ≡ put_at t.old (row.0 * 4) (record_of 6 w ps (line l.now.start l.now.located.line.now)) }
 {
-    let id = field_place(l, at, q, 0);
-    let date = values::date(l, q, 1);
-    let kind = values::exception(l, q, 2);
+    let id = l.field_place(0);
+    let date = l.located.date(1);
+    let kind = l.located.exception(2);
     Dates::put(t, row, id, date, kind);
 }
 
@@ -179,13 +183,15 @@ pub fn put_record(
         → t.new ≡ put_at t.old (r * width_of f) (written_of f w ps (line at l.now)) }
     ensures sought_2 { Sought f a.entry a_memo.new b.entry b_memo.new }
 {
-    let q = columns::locate(l, places);
+    let cells = columns::locate(l, places);
+    let located = LocatedLine { line: l, cells };
+    let line = FileLine { located, start: at };
     match f {
-        Stops::FILE => put_stop(l, at, q, t, StopRow::new(r)),
-        Routes::FILE => put_route(l, at, q, t, RouteRow::new(r)),
-        Calendar::FILE => put_service(l, at, q, t, ServiceRow::new(r)),
-        Dates::FILE => put_date(l, at, q, t, DateRow::new(r)),
-        Trips::FILE => put_trip(l, at, q, t, TripRow::new(r), a, a_memo, b, b_memo),
-        _ => put_time(l, at, q, t, TimeRow::new(r), a, a_memo, b, b_memo),
+        Stops::FILE => put_stop(&line, t, StopRow::new(r)),
+        Routes::FILE => put_route(&line, t, RouteRow::new(r)),
+        Calendar::FILE => put_service(&line, t, ServiceRow::new(r)),
+        Dates::FILE => put_date(&line, t, DateRow::new(r)),
+        Trips::FILE => put_trip(&line, t, TripRow::new(r), a, a_memo, b, b_memo),
+        _ => put_time(&line, t, TimeRow::new(r), a, a_memo, b, b_memo),
     }
 }

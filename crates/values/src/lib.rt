@@ -7,7 +7,6 @@ ghost use Rattle.meaning.specs.Forms.{latitude_of, longitude_of, time_of, date_o
 ghost use Rattle.meaning.specs.Tables.{degrees, day, number, seconds, picked, one_if, or_zero, or_minus, packed_days, kind_of, placed};
 ghost use Rattle.forms.specs.Bounds.{ChoiceFits};
 ghost use Rattle.std.proofs.Props.{props};
-ghost use Rattle.columns.specs.Columns.{fields_at};
 ghost use Rattle.values.specs.Located.{field_in, value_in, Within, Located};
 
 use meaning::{Bounds, Time};
@@ -155,12 +154,4 @@ impl<'a> LocatedLine<'a> {
         }
         n
     }
-}
-
-// A line with its cells under columns.
-pub fn locate(line: &[u8], at: [usize; 10]) -> LocatedLine
-    ensures { (result.line.now ≡ line.now) × (result.cells ≡ fields_at line.now at) }
-{
-    let cells = columns::locate(line, at);
-    LocatedLine { line, cells }
 }

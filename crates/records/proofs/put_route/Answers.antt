@@ -8,4 +8,4 @@ returns c =
     let s = c.args in
     let i = c.field_place-id.ensures.start_value in
     λ w ps loc. put_as _ _ _ _ _ c.put.ensures
-    (route_record ps s.l.now _ s.q.start s.q.end loc w _ _ _ i.0 i.1 c.route_type-kind.ensures.0)
+    (route_record ps s.l.now.located.line.now _ s.l.now.located.cells loc w _ _ _ i.0 i.1 c.route_type-kind.ensures.0)

@@ -8,4 +8,4 @@ returns c =
     let s = c.args in
     let i = c.field_place-id.ensures.start_value in
     λ w ps loc. put_as _ _ _ _ _ c.put.ensures
-    (service_record ps s.l.now _ s.q.start s.q.end loc w _ _ _ _ _ i.0 i.1 (c.packed_days-days.ensures.0 ps loc) c.date-start.ensures.0 c.date-end.ensures.0)
+    (service_record ps s.l.now.located.line.now _ s.l.now.located.cells loc w _ _ _ _ _ i.0 i.1 (c.packed_days-days.ensures.0 ps loc) c.date-start.ensures.0 c.date-end.ensures.0)

@@ -10,4 +10,4 @@ returns c =
     let i = c.field_place-id.ensures.start_value in
     λ w ps loc parent.
     put_as _ _ _ _ _ c.put.ensures
-    (stop_record ps s.l.now _ s.q.start s.q.end loc w _ _ _ _ _ _ _ parent i.0 i.1 (kept_is _ _ c.latitude-latitude.type_inv c.latitude-latitude.ensures) (kept_is _ _ c.longitude-longitude.type_inv c.longitude-longitude.ensures) c.choice_or_zero-kind.ensures.0 (c.place_mark-placed.ensures.0 ps loc))
+    (stop_record ps s.l.now.located.line.now _ s.l.now.located.cells loc w _ _ _ _ _ _ _ parent i.0 i.1 (kept_is _ _ c.latitude-latitude.type_inv c.latitude-latitude.ensures) (kept_is _ _ c.longitude-longitude.type_inv c.longitude-longitude.ensures) c.choice_or_zero-kind.ensures.0 (c.place_mark-placed.ensures.0 ps loc))
