@@ -6,11 +6,12 @@ use native.Mathlib.Omega.{arith}
 use lib.IntN.{ℤ, pos}
 use lib.ListN.{length, get_or, take, replicate}
 use lib.Seq.{get_or-take, length-take-le}
+use Rattle.meaning.specs.declared.Bounds.{Bounds}
 use Rattle.meaning.specs.Bytes.{Line, count_lf, lines_of}
 use Rattle.meaning.specs.Columns.{places, header_of, row_of}
 use Rattle.meaning.specs.Tables.{Feed, width_of, id_place, id_column, record_of, zeroth, records_of, filled}
 use Rattle.text.proofs.Lines.{lines_all}
-use Rattle.values.specs.Located.{Located}
+use Rattle.values.specs.Located.{field_in, Located}
 use Rattle.records.specs.Line.{line}
 use Rattle.records.specs.Waiting.{waiting_column}
 use Rattle.records.proofs.LineRecords.{id_in}
@@ -58,18 +59,18 @@ placing_id f h ps x = (placing_at f ps x 0 (omega arith), placing_at f ps x 1 h)
 
 -- .. from located fields
 pub places_record :
-    (ps l : List ℕ) (at : ℕ) (st en : List ℕ)
-    → Located l ps st en
+    (ps l : List ℕ) (at : ℕ) (cells : List Bounds)
+    → Located l ps cells
     → (f a e key from to : ℕ)
-    → a ≡ at + get_or st (id_column f) 0
-    → e ≡ at + get_or en (id_column f) 0
+    → a ≡ at + (field_in cells (id_column f)).start
+    → e ≡ at + (field_in cells (id_column f)).end
     → pos key ≡ date_key f (row_of ps l)
-    → from ≡ at + get_or st (waiting_column f) 0
-    → to ≡ at + get_or en (waiting_column f) 0
+    → from ≡ at + (field_in cells (waiting_column f)).start
+    → to ≡ at + (field_in cells (waiting_column f)).end
     → take (width_of f) (pos a ∷ pos e ∷ pos key ∷ pos from ∷ pos to ∷ pos 0 ∷ pos 0 ∷ pos 0 ∷ []) ≡ placing f ps (line at l)
 unfolding placing
-places_record ps l at st en loc f a e key from to p q k g h =
-    rw (id_in ps l at st en loc (id_column f) a e p q, ← loc (waiting_column f), g, h, k)
+places_record ps l at cells loc f a e key from to p q k g h =
+    rw (id_in ps l at cells loc (id_column f) a e p q, ← loc (waiting_column f), g, h, k)
 
 -- a file that has a line has record 0 and a record for each line after the header
 pub records_are :

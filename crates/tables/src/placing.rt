@@ -11,17 +11,18 @@ ghost use Rattle.ordering.specs.Cells.{KeptAt, RoomAt};
 ghost use Rattle.ordering.specs.Ids.{ArrangedBy};
 ghost use Rattle.ordering.specs.declared.By.TheVariants.{IdAndDate};
 ghost use Rattle.repeats.specs.Repeats.{Marking as Repeated};
-ghost use Rattle.values.specs.Located.{Within, Located};
-ghost use Rattle.records.specs.Line.{line, Lies};
+ghost use Rattle.values.specs.Located.{Located};
+ghost use Rattle.records.specs.Line.{line};
 ghost use Rattle.records.specs.Waiting.{waiting_column};
 ghost use Rattle.columns.specs.Heading.{Heading};
 ghost use Rattle.tables.specs.Fill.{Room, Fits};
 ghost use Rattle.tables.specs.Noting.{noted, note_mark, Telling, Marking};
 ghost use Rattle.tables.specs.Walk.{date_key, placing, placed_of, Ordered, OrderedIf};
 
-use columns::Cells;
 use ordering::By;
+use records::FileLine;
 use rows::{Calendar, Dates, Routes, Stops, Table, Trips};
+use values::LocatedLine;
 
 // Where in the schema the field stands that waits: a trip's service, a stop's parent.
 fn waiting_column(f: usize) -> usize
@@ -34,49 +35,47 @@ fn waiting_column(f: usize) -> usize
 }
 
 // The date of a line of file 6, which goes with its service.
-fn date_key(f: usize, l: &[u8], q: Cells) -> u32
-    requires { Within (length l.now) q.start q.end }
-    ensures by_index { (ps : List ℕ) → Located l.now ps q.start q.end → pos result ≡ date_key f (row_of ps l.now) }
+fn date_key(f: usize, l: &LocatedLine) -> u32
+    ensures by_index { (ps : List ℕ) → Located l.now.line.now ps l.now.cells → pos result ≡ date_key f (row_of ps l.now.line.now) }
     ensures upper_bound { result < 2 ^ 31 }
 {
     if f == Dates::FILE {
-        return values::date(l, q, 1);
+        return l.date(1);
     }
     0
 }
 
 // The places of a line's id and of the field that waits, and the date.
-fn put_places(f: usize, l: &[u8], at: usize, q: Cells, t: &mut [i32], r: usize)
-    requires f_bound { (f ≤ 6) × Lies l.now at q.start q.end }
+fn put_places(f: usize, l: &FileLine, t: &mut [i32], r: usize)
+    requires f_bound { f ≤ 6 }
     requires f_in_bounds { r * width_of f + width_of f ≤ length t.old }
-    ensures { (ps : List ℕ) → Located l.now ps q.start q.end
-        → t.new ≡ put_at t.old (r * width_of f) (placing f ps (line at l.now)) }
+    ensures { (ps : List ℕ) → Located l.now.located.line.now ps l.now.located.cells
+        → t.new ≡ put_at t.old (r * width_of f) (placing f ps (line l.now.start l.now.located.line.now)) }
 {
-    let id = records::field_place(l, at, q, rows::id_column(f));
-    let key = date_key(f, l, q);
-    let other = records::field_place(l, at, q, waiting_column(f));
+    let id = l.field_place(rows::id_column(f));
+    let key = date_key(f, &l.located);
+    let other = l.field_place(waiting_column(f));
     rows::cells::put_places(t, r, rows::width_of(f), id, key, other);
 }
 
 // Is the value under known column k empty?
-fn is_bare(l: &[u8], q: Cells, k: usize) -> bool
-    requires { (k < 10) × Within (length l.now) q.start q.end }
-    ensures { (ps : List ℕ) → Located l.now ps q.start q.end → result ≡ empty (under k (row_of ps l.now)) }
+fn is_bare(l: &LocatedLine, k: usize) -> bool
+    requires { k < 10 }
+    ensures { (ps : List ℕ) → Located l.now.line.now ps l.now.cells → result ≡ empty (under k (row_of ps l.now.line.now)) }
 {
-    text::is_empty_value(values::raw(l, q, k))
+    text::is_empty_value(l.raw(k))
 }
 
 // Has a stop a parent, a route no name?
-fn is_noted(f: usize, l: &[u8], q: Cells) -> bool
-    requires { Within (length l.now) q.start q.end }
-    ensures { (ps : List ℕ) → Located l.now ps q.start q.end → result ≡ noted f (row_of ps l.now) }
+fn is_noted(f: usize, l: &LocatedLine) -> bool
+    ensures { (ps : List ℕ) → Located l.now.line.now ps l.now.cells → result ≡ noted f (row_of ps l.now.line.now) }
 {
     if f == Stops::FILE {
-        return !is_bare(l, q, 5);
+        return !is_bare(l, 5);
     }
     if f == Routes::FILE {
-        if is_bare(l, q, 2) {
-            return is_bare(l, q, 3);
+        if is_bare(l, 2) {
+            return is_bare(l, 3);
         }
     }
     false
@@ -97,9 +96,11 @@ fn place_line(
         → (t.new ≡ put_at t.old (r * width_of f) (placing f ps (line at l.now)))
         × MarkedIf (noted f (row_of ps l.now)) m.old m.new (note_mark f) r }
 {
-    let q = columns::locate(l, places);
-    put_places(f, l, at, q, t, r);
-    let noted = is_noted(f, l, q);
+    let cells = columns::locate(l, places);
+    let located = LocatedLine { line: l, cells };
+    let line = FileLine { located, start: at };
+    put_places(f, &line, t, r);
+    let noted = is_noted(f, &line.located);
     marks::mark_if(m, f + 6, r, noted);
 }
 

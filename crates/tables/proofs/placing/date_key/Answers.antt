@@ -15,7 +15,7 @@ unfolding date_key
 returns-then-f-eq-FILE c =
     let s = c.args in
     let d = c.date.ensures in record {
-      by_index = (λ ps loc. rw (eq-eqb _ 6 c.if-f-eq-FILE.true) (d.0 ∙ sym (ap (λ (v : List ℕ). day (date_of v)) (in_row ps s.l.now s.q.start s.q.end loc 1))));
+      by_index = (λ ps loc. rw (eq-eqb _ 6 c.if-f-eq-FILE.true) (d.0 ∙ sym (ap (λ (v : List ℕ). day (date_of v)) (in_row ps s.l.now.line.now s.l.now.cells loc 1))));
       upper_bound = d.1;
     }
 

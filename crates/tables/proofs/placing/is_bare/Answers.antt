@@ -10,4 +10,4 @@ use Rattle.tables.proofs.placing.is_bare.Goals as goal
 pub returns : goal.returns
 returns c =
     let s = c.args in
-    λ ps loc. c.is_empty_value.ensures ∙ ap (λ (v : List ℕ). empty (value v)) c.raw.ensures ∙ sym (ap empty (in_row ps s.l.now s.q.start s.q.end loc s.k))
+    λ ps loc. c.is_empty_value.ensures ∙ ap (λ (v : List ℕ). empty (value v)) c.raw.ensures ∙ sym (ap empty (in_row ps s.l.now.line.now s.l.now.cells loc s.k))

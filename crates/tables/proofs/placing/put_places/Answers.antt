@@ -5,12 +5,6 @@ use Rattle.tables.proofs.Turns.{eight_wide}
 use native.Mathlib.Omega.{arith}
 use Rattle.tables.proofs.placing.put_places.Goals as goal
 
-pub date_key-key-requires : goal.date_key-key-requires
-date_key-key-requires c = c.requires.f_bound.1.0
-
-pub field_place-other-requires : goal.field_place-other-requires
-field_place-other-requires c = (c.waiting_column.ensures.1, c.requires.f_bound.1)
-
 pub put_places-requires : goal.put_places-requires
 put_places-requires c =
     let a = c.field_place-id.ensures.start_le_max_bytes in
@@ -29,4 +23,4 @@ returns c =
     λ ps loc.
     rw (← c.width_of.ensures)
     (put_as _ _ _ _ _ c.put_places.ensures
-    (rw c.width_of.ensures (places_record ps s.l.now _ s.q.start s.q.end loc s.f _ _ _ _ _ (rw e at a.0) (rw e at a.1) (c.date_key-key.ensures.by_index ps loc) (rw k at b.0) (rw k at b.1))))
+    (rw c.width_of.ensures (places_record ps s.l.now.located.line.now _ s.l.now.located.cells loc s.f _ _ _ _ _ (rw e at a.0) (rw e at a.1) (c.date_key-key.ensures.by_index ps loc) (rw k at b.0) (rw k at b.1))))
