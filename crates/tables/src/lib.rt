@@ -182,12 +182,7 @@ pub fn fill_all(files: [&[u8]; 6], tables: &mut Tables, marks: &mut [u16])
     ensures noted { Noted (feed_of (map (λ x. x.now) files.entry)) marks.new × TripsNoted (feed_of (map (λ x. x.now) files.entry)) marks.new }
 {
     let n = order_all(files, tables, marks);
-    let stops = files[0];
-    let routes = files[1];
-    let calendar = files[2];
-    let trips = files[3];
-    let stop_times = files[4];
-    let dates = files[5];
+    let [stops, routes, calendar, trips, stop_times, dates] = files;
     // each by itself: two fields of `tables` lent to one call are not covered yet
     let stops_table = &mut *tables.stops;
     let routes_table = &mut *tables.routes;
