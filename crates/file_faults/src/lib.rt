@@ -4,7 +4,6 @@ ghost use Rattle.std.specs.Prelude.{◌≡◌, not, IfSome, List, [], ◌∷◌,
 ghost use Rattle.meaning.specs.Lists.{empty};
 ghost use Rattle.meaning.specs.Tables.{file_of};
 ghost use Rattle.meaning.specs.Refusals.{max_bytes, test};
-ghost use Rattle.schema.specs.AllKnown.{AllKnown};
 ghost use Rattle.reading.specs.Tests.{first};
 ghost use Rattle.listing.specs.Handing.{state, adding, SameList};
 ghost use Rattle.faults.specs.List.{texts_from, texts_of, fault_at, head_said, tests_under, later_faults, line_faults, file_faults};
@@ -13,8 +12,9 @@ ghost use Rattle.file_faults.specs.Walk.{any_at, fault_of, tests_by, Heads, Head
 
 use columns::Columns;
 use listing::Listing;
-use meaning::{Bounds, Column};
+use meaning::Bounds;
 use reading::Fault;
+use schema::KnownColumns;
 
 // Where the line that begins at `at` lies, and where the next one starts; bytes that no LF ends are a line here.
 fn any_line(s: &[u8], at: usize) -> Option<(Bounds, usize)>
@@ -61,33 +61,30 @@ fn list_whole(f: usize, whole: [bool; 4], list: &mut Listing)
 }
 
 // The first rule that a line after the header breaks: of all its rules where the header is good, else of those that don't look at it.
-fn later_fault(f: usize, known: [Column; 10], header: Option<Columns>, l: &[u8]) -> Option<Fault>
-    requires { (f < 7) × AllKnown f known }
-    ensures { result ≡ first (tests_by f header l.now) }
+fn later_fault(known: &KnownColumns, header: Option<Columns>, l: &[u8]) -> Option<Fault>
+    ensures { result ≡ first (tests_by known.now.file header l.now) }
 {
     match header {
-        Some(c) => reading::line_fault(f, known, c, l),
+        Some(c) => reading::line_fault(known, c, l),
         None => reading::text_rule(l, text::measure(l)).map(|rule| Fault { rule, column: 0 }),
     }
 }
 
 // The fault of line n, after the header.
 fn list_line(
-    f: usize,
-    known: [Column; 10],
+    known: &KnownColumns,
     header: Option<Columns>,
     l: &[u8],
     n: usize,
     list: &mut Listing,
 )
-    requires f_bound { (f < 7) × ((n < 2 ^ 31) × (list.old.sink.total < 2 ^ 62)) }
-    requires all_known { AllKnown f known }
-    requires header { Header f header }
+    requires n_bound { (n < 2 ^ 31) × (list.old.sink.total < 2 ^ 62) }
+    requires header { Header known.now.file header }
     ensures same_list { SameList list.old list.new }
-    ensures by_index { (h : List ℕ) → Heads f h header → state list.new.out.now list.new.sink ≡ adding quad list.old.from (fault_at f n (tests_under (head_said f h) f h l.now)) (state list.old.out.now list.old.sink) }
+    ensures by_index { (h : List ℕ) → Heads known.now.file h header → state list.new.out.now list.new.sink ≡ adding quad list.old.from (fault_at known.now.file n (tests_under (head_said known.now.file h) known.now.file h l.now)) (state list.old.out.now list.old.sink) }
     ensures total_bound { list.new.sink.total ≤ list.old.sink.total + 1 }
 {
-    note_fault(list, f, n, later_fault(f, known, header, l));
+    note_fault(list, known.file, n, later_fault(known, header, l));
 }
 
 // The faults of the lines after the header, from byte `from` on, counted from 2.
@@ -102,7 +99,7 @@ fn list_later(f: usize, header: Option<Columns>, s: &[u8], from: usize, list: &m
     let mut at = from;
     let mut n: usize = 2;
     while let Some((line, next)) = any_line(s, at) {
-        list_line(f, known, header, &s[line.start..line.end], n, list);
+        list_line(&known, header, &s[line.start..line.end], n, list);
         n += 1;
         at = next;
     }

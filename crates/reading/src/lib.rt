@@ -8,7 +8,6 @@ ghost use Rattle.meaning.specs.Forms.{time_of, date_of, latitude_of, longitude_o
 ghost use Rattle.meaning.specs.Tables.{file_of, width_of};
 ghost use Rattle.meaning.specs.Refusals.{text_tests, head_tests, value_tests, line_tests, on_lines, in_file, may_lack, rule4, slack, speaks, verdict_of};
 ghost use Rattle.text.specs.Fields.{up_to33};
-ghost use Rattle.schema.specs.AllKnown.{AllKnown};
 ghost use Rattle.columns.specs.Columns.{Noted};
 ghost use Rattle.values.specs.Located.{Located};
 ghost use Rattle.reading.specs.Tests.{of_rule, first, byte_tests, column_tests, earlier_of};
@@ -18,6 +17,7 @@ ghost use Rattle.reading.specs.Wholes.{whole_of, wholes_of, rule_marks, first_tr
 use columns::Columns;
 use meaning::{Column, Form, MAX_BYTES, MAX_LINES, Need, Refusal, Time};
 use rows::{Calendar, Dates, Stops, Table};
+use schema::KnownColumns;
 use text::Measured;
 use values::LocatedLine;
 
@@ -124,24 +124,22 @@ fn earlier(a: Option<Fault>, b: Option<Fault>) -> Option<Fault>
 
 // The first of rules 11 to 13 that the values of a line break, whose known columns stand at `at`, and the leftmost column that breaks it.
 fn row_fault(
-    f: usize,
-    known: [Column; 10],
+    known: &KnownColumns,
     at: [usize; 10],
     l: &[u8],
     count: usize,
     starts: &[usize],
 ) -> Option<Fault>
-    requires f_bound { (f < 7) × AllKnown f known }
-    requires count_value { (count ≡ up_to33 (length (fields l.now))) × Noted l.now starts.now }
-    ensures { result ≡ first (value_tests f at l.now) }
+    requires { (count ≡ up_to33 (length (fields l.now))) × Noted l.now starts.now }
+    ensures { result ≡ first (value_tests known.now.file at l.now) }
 {
     let cells = columns::cells_of(l, count, starts, at);
     let located = LocatedLine { line: l, cells };
-    let slack = slack_of(f, &located);
+    let slack = slack_of(known.file, &located);
     let mut fault = None;
-    for k in 0..schema::count(f) {
+    for k in 0..schema::count(known.file) {
         let raw = located.raw(k);
-        fault = earlier(fault, value_fault(known[k], slack, at[k], raw));
+        fault = earlier(fault, value_fault(known.columns[k], slack, at[k], raw));
     }
     fault
 }
@@ -206,9 +204,8 @@ pub fn judge_header(f: usize, h: &[u8]) -> Result<Columns, Fault>
 }
 
 // The first rule that a line after the header breaks, and its column.
-pub fn line_fault(f: usize, known: [Column; 10], c: Columns, l: &[u8]) -> Option<Fault>
-    requires { (f < 7) × AllKnown f known }
-    ensures { result ≡ first (line_tests f c.at c.count l.now) }
+pub fn line_fault(known: &KnownColumns, c: Columns, l: &[u8]) -> Option<Fault>
+    ensures { result ≡ first (line_tests known.now.file c.at c.count l.now) }
 {
     let mut starts = columns::blank_starts();
     let m = text::walk_fields(l, &mut starts);
@@ -222,7 +219,7 @@ pub fn line_fault(f: usize, known: [Column; 10], c: Columns, l: &[u8]) -> Option
         });
     }
     let at = c.at;
-    row_fault(f, known, at, l, m.fields, &starts)
+    row_fault(known, at, l, m.fields, &starts)
 }
 
 // The refusal of a fault at a place.
@@ -246,7 +243,7 @@ fn read_lines(f: usize, c: Columns, s: &[u8], from: usize) -> Result<(), Refusal
     let mut at = from;
     let mut n: usize = 2;
     while let Some((line, next)) = text::next_line(s, at) {
-        if let Some(t) = line_fault(f, known, c, &s[line.start..line.end]) {
+        if let Some(t) = line_fault(&known, c, &s[line.start..line.end]) {
             return Err(refusal(t, f, n));
         }
         n += 1;

@@ -3,6 +3,7 @@
 ghost use Rattle.std.specs.Prelude.{◌≡◌, ◌<◌, ◌≤◌, map, IfSome};
 ghost use Rattle.meaning.specs.Bytes.{value};
 ghost use Rattle.meaning.specs.Columns.{schema, column_of, count_of};
+ghost use Rattle.std.proofs.Props.{props};
 ghost use Rattle.schema.specs.AllKnown.{AllKnown};
 ghost use Rattle.schema.specs.Named.{counted, named_by};
 ghost use Rattle.schema.specs.Shown.{shown};
@@ -206,12 +207,22 @@ pub fn known(f: usize, k: usize) -> Column
     }
 }
 
+// What the known columns of a file ask, each at its place: asked once a file, for all its lines.
+#[derive(Clone, Copy)]
+pub struct KnownColumns {
+    pub file: usize,
+    pub columns: [Column; 10],
+    ghost in_range: { file < 7 },
+    ghost known: { AllKnown file columns } by { Prim.hlevel props },
+}
+
 // What the known columns of file f ask.
-pub fn all_known(f: usize) -> [Column; 10]
+pub fn all_known(f: usize) -> KnownColumns
     requires { f < 7 }
-    ensures { AllKnown f result }
+    ensures { result.file ≡ f }
 {
-    std::array::from_fn(|k| known(f, k))
+    let columns = std::array::from_fn(|k| known(f, k));
+    KnownColumns { file: f, columns }
 }
 
 // Which known column of file f the value of a raw field names, counted from 0.

@@ -28,9 +28,8 @@ pub list_line-requires : goal.list_line-requires
 list_line-requires c =
     let s = any_found _ _ _ _ _ (sym c.any_line.ensures ∙ c.in-Some.is) in
     let l = c.loop-line.invariant.1.1 in record {
-      f_bound = (c.requires.f_bound.0, (omega (arith, l.1.0, s.further, s.inside, c.requires.f_bound.1.0), omega (arith, l.1.1.0, l.1.1.1, c.requires.f_bound.1.0, c.requires.f_bound.1.1)));
-      all_known = c.all_known-known.ensures;
-      header = c.requires.header;
+      n_bound = (omega (arith, l.1.0, s.further, s.inside, c.requires.f_bound.1.0), omega (arith, l.1.1.0, l.1.1.1, c.requires.f_bound.1.0, c.requires.f_bound.1.1));
+      header = rw c.all_known-known.ensures c.requires.header;
     }
 
 pub overflow_add-n : goal.overflow_add-n

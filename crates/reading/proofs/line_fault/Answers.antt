@@ -16,8 +16,8 @@ returns-then-m-c c =
     first_then (text_tests _) _ _ c.in_default.ensures.result_value
     (first_yes _ _ _ (other_yes _ _ (c.in_default.ensures.fields_value refl) _ c.if-m-c.true))
 
-pub row_fault-requires-clause-count_value : goal.row_fault-requires-clause-count_value
-row_fault-requires-clause-count_value c = (c.walk_fields-m.ensures.good_value.1, noted_by _ _ _ c.blank_starts-starts.ensures c.walk_fields-m.ensures.starts_after)
+pub row_fault-requires : goal.row_fault-requires
+row_fault-requires c = (c.walk_fields-m.ensures.good_value.1, noted_by _ _ _ c.blank_starts-starts.ensures c.walk_fields-m.ensures.starts_after)
 
 pub returns : goal.returns
 unfolding line_tests

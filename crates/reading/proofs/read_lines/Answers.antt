@@ -28,7 +28,7 @@ pub returns-in-Some-line_fault : goal.returns-in-Some-line_fault
 unfolding part
 returns-in-Some-line_fault c =
     let s = line_found _ _ _ _ _ (sym c.next_line.ensures ∙ c.in-Some.is) in
-    rw c.refusal.ensures (lines_stop _ _ _ _ _ _ _ c.loop-line.invariant.1 _ _ _ s _ c.in-Some-line_fault.ensures)
+    rw c.refusal.ensures (lines_stop _ _ _ _ _ _ _ c.loop-line.invariant.1 _ _ _ s _ (rw c.all_known-known.ensures at c.in-Some-line_fault.ensures))
 
 pub overflow_add-n : goal.overflow_add-n
 overflow_add-n c =
@@ -44,7 +44,7 @@ pub loop-line-preserved : goal.loop-line-preserved
 unfolding part
 loop-line-preserved c =
     let s = line_found _ _ _ _ _ (sym c.next_line.ensures ∙ c.in-Some.is) in
-    (omega arith, lines_next _ _ _ _ _ _ _ c.loop-line.invariant.1 _ _ _ s c.in_default-line_fault.ensures)
+    (omega arith, lines_next _ _ _ _ _ _ _ c.loop-line.invariant.1 _ _ _ s (rw c.all_known-known.ensures at c.in_default-line_fault.ensures))
 
 pub returns : goal.returns
 returns c = lines_over _ _ _ _ _ _ _ c.loop-line.invariant.1 (line_none _ _ (sym c.next_line.ensures ∙ c.in_default.is))

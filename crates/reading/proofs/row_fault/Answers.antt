@@ -15,7 +15,7 @@ loop-k-init c = row_none _ _ _ _
 
 pub loop-k-preserved : goal.loop-k-preserved
 loop-k-preserved c =
-    let known = c.requires.f_bound.1 c.loop-k.k (omega arith) in
+    let known = c.args.known.now.known c.loop-k.k (omega arith) in
     let cell = located_cell _ _ _ c.cells_of-cells.ensures c.loop-k.k in
     row_turn _ _ _ _ _ _ _ _ c.loop-k.invariant _ known _ (ap value c.raw-raw.ensures ∙ cell) c.value_fault.ensures c.earlier-fault.ensures
 

@@ -4,4 +4,4 @@ use mathlib.Core.Path.{◌≡◌}
 use Rattle.reading.proofs.row_fault.Given as goal
 
 abbrev pub invariant-loop-k : goal.invariant-loop-k
-invariant-loop-k l = l.fault ≡ first (value_tests_to l.slack l.f l.at l.l l.k)
+invariant-loop-k l = l.fault ≡ first (value_tests_to l.slack l.known.file l.at l.l l.k)

@@ -5,6 +5,8 @@ use Rattle.std.proofs.Common.{rules}
 use native.Mathlib.Omega.{arith}
 use Rattle.schema.proofs.all_known.Goals as goal
 
-pub returns : goal.returns
-returns c = λ k h.
-    made_by c.from_fn.result (column_of c.args.f) unknown.column 10 (λ i y q b k. search rules) 10 0 (omega arith) c.from_fn.ensures.items.each k (omega arith) h
+pub invariant_of-result : goal.invariant_of-result
+invariant_of-result c = record {
+      in_range = c.requires;
+      known = λ k h. made_by c.from_fn-columns.result (column_of c.args.f) unknown.column 10 (λ i y q b k. search rules) 10 0 (omega arith) c.from_fn-columns.ensures.items.each k (omega arith) h;
+    }
