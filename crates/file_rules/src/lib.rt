@@ -1,10 +1,9 @@
 #![tactic(auto)]
 // The findings of each file, line by line, from tables and marks alone, handed out.
-ghost use Rattle.std.specs.Prelude.{◌≡◌, List, ℕ, ◌+◌, ◌*◌, ◌^◌, ◌<◌, ◌≤◌, ℤ};
+ghost use Rattle.std.specs.Prelude.{◌≡◌, List, ℕ, ◌+◌, ◌*◌, ◌^◌, ◌<◌, ◌≤◌, ℤ, take};
 ghost use Rattle.meaning.specs.Tables.{Feed};
 ghost use Rattle.meaning.specs.Rules.{bindings_of};
 ghost use Rattle.listing.specs.Handing.{state, noting, SameList};
-ghost use Rattle.judging.specs.Judging.{times_asked};
 ghost use Rattle.file_rules.specs.Lines.{rule_numbers, rule_count, Judges, Ready};
 
 use judging::MOST_RULES;
@@ -102,47 +101,32 @@ fn date_line(marks: &[u16], i: usize) -> [bool; MOST_RULES]
     judging::judge_date(marks::is_marked(marks, Dates::FILE, i + 1))
 }
 
-// The numbers of a file's rules, filled up by 0.
-fn numbers_of(f: usize) -> [u8; MOST_RULES]
-    requires { (1 ≤ f) × (f ≤ 6) }
-    ensures { result ≡ rule_numbers f }
-{
-    match f {
-        Stops::FILE => [20, 21, 22, 0, 0, 0, 0, 0, 0],
-        Routes::FILE => [20, 25, 0, 0, 0, 0, 0, 0, 0],
-        Calendar::FILE => [20, 24, 0, 0, 0, 0, 0, 0, 0],
-        Trips::FILE => [20, 21, 30, 31, 0, 0, 0, 0, 0],
-        StopTimes::FILE => [21, 23, 26, 27, 28, 29, 60, 61, 62],
-        _ => [20, 0, 0, 0, 0, 0, 0, 0, 0],
-    }
-}
-
-// How many rules of a line of stop_times.txt are asked for.
-fn times_asked(asked: Profile) -> usize
-    ensures { result ≡ times_asked asked }
+// The numbers of the rules of a line of stop_times.txt that are asked for.
+fn times_asked(asked: Profile) -> &'static [u8]
+    ensures { result.now ≡ take (rule_count asked 5) (rule_numbers 5) }
 {
     match asked {
-        Profile::Plain => 6,
-        Profile::Boards => 9,
+        Profile::Plain => &[21, 23, 26, 27, 28, 29],
+        Profile::Boards => &[21, 23, 26, 27, 28, 29, 60, 61, 62],
     }
 }
 
-// How many rules of a line of a file are asked for; boards ask for the most.
-fn count_of(f: usize, asked: Profile) -> usize
+// The numbers of the rules of a line of a file that are asked for; by the file's number, as a walk along all six files gives it.
+fn numbers_of(f: usize, asked: Profile) -> &'static [u8]
     requires { (1 ≤ f) × (f ≤ 6) }
-    ensures { (result ≡ rule_count asked f) × ((result ≤ rule_count Profile.Boards f) × (result ≤ 9)) }
+    ensures { result.now ≡ take (rule_count asked f) (rule_numbers f) }
 {
     match f {
-        Stops::FILE => 3,
-        Routes::FILE => 2,
-        Calendar::FILE => 2,
-        Trips::FILE => 4,
+        Stops::FILE => &[20, 21, 22],
+        Routes::FILE => &[20, 25],
+        Calendar::FILE => &[20, 24],
+        Trips::FILE => &[20, 21, 30, 31],
         StopTimes::FILE => times_asked(asked),
-        _ => 1,
+        _ => &[20],
     }
 }
 
-// What a line of a file breaks.
+// What a line of a file breaks; by the file's number, as a walk along all six files gives it.
 fn judge_line(f: usize, t: &[i32], stops: &[i32], marks: &[u16], i: usize) -> [bool; MOST_RULES]
     requires { (1 ≤ f) × ((f ≤ 6) × (i < 2 ^ 31)) }
     ensures { (w : Feed) (n : ℕ) → Ready f n w t.now stops.now marks.now → i < n → Judges f w i result }
@@ -173,10 +157,9 @@ pub fn list_file(
         → state list.new.out.now list.new.sink ≡ noting list.old.from (bindings_of asked w f) (state list.old.out.now list.old.sink) }
     ensures total_bound { list.new.sink.total ≤ list.old.sink.total + rule_count Profile.Boards f * n }
 {
-    let numbers = numbers_of(f);
-    let rules = count_of(f, asked);
+    let numbers = numbers_of(f, asked);
     for i in 0..n {
         let broken = judge_line(f, t, stops, marks, i);
-        noting::note_line(list, f, i + 2, numbers, broken, rules);
+        noting::note_line(list, f, i + 2, numbers, broken);
     }
 }

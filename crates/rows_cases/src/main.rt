@@ -1,7 +1,7 @@
 // Writes and reads records and findings at the edges, and compares them with values found by hand.
 #![tactic(auto)]
 
-use listing::Sink;
+use listing::{Listing, Sink};
 use meaning::{Bounds, Place, Time};
 use rows::{
     Calendar, DateRow, Dates, RouteRow, Routes, ServiceRow, StopRow, StopTimes, Stops, Table,
@@ -287,23 +287,18 @@ fn references(rt: &impl Print) -> io::Result<()> {
 }
 
 // Three findings among five claims.
-fn noted(out: &mut [i32], p: Place) -> Sink {
-    let a = listing::note(
-        out,
-        Sink {
-            written: 0,
-            total: 0,
-        },
-        p,
-        true,
-        1,
-        2,
-        20,
-    );
-    let b = listing::note(out, a, p, false, 1, 2, 21);
-    let c = listing::note(out, b, p, true, 4, 3, 21);
-    let d = listing::note(out, c, p, true, 4, 3, 30);
-    listing::note(out, d, p, false, 5, 2, 20)
+fn noted(out: &mut [i32], from: Place) -> Sink {
+    let sink = Sink {
+        written: 0,
+        total: 0,
+    };
+    let mut list = Listing { out, from, sink };
+    list.note(true, 1, 2, 20);
+    list.note(false, 1, 2, 21);
+    list.note(true, 4, 3, 21);
+    list.note(true, 4, 3, 30);
+    list.note(false, 5, 2, 20);
+    list.sink
 }
 
 // A call with a lent list, from a starting place: the list, the written and the total.
