@@ -6,7 +6,7 @@ use Rattle.seeking.specs.First.{Held}
 use Rattle.ordering.specs.Ids.{Placed, Arranged}
 use Rattle.memo.specs.Memo.{Ready}
 
--- a table of n records, record 0 aside, holds ids
+-- a table of n records, record 0 aside, holds ids; of lists and no Records, since the table of stops is looked up in while it is written
 pub record Lists (s : List ℕ) (t : List ℤ) (width n : ℕ) (ids : List (List ℕ)) : Type 0 where
   pub held : Held s t width ids
   pub count : n ≡ length ids
