@@ -5,13 +5,25 @@ ghost use Rattle.meaning.specs.Bytes.{value};
 ghost use Rattle.ranking.specs.Ranks.{before};
 ghost use Rattle.ordering.specs.Cells.{cell, Room, Kept};
 ghost use Rattle.ordering.specs.Ids.{id_of, no_later, Sorted, Placed, Arranged};
+ghost use Rattle.ordering.specs.declared.By.TheVariants.{Id};
 ghost use Rattle.seeking.specs.First.{First, id_is};
 ghost use Rattle.seeking.specs.Seek.{Lower};
 
-use ordering::By;
+use ordering::{By, Order};
 
 // The number of a record in which its file's order by id has a cell.
 pub const CELL: usize = 2;
+
+// The order of a file's records by id, of as many numbers as its records have.
+pub fn by_id(w: usize) -> Order
+    ensures { result ≡ record { by = Id; width = w; cell = 2 } }
+{
+    Order {
+        by: By::Id,
+        width: w,
+        cell: CELL,
+    }
+}
 
 // The order of n records by id, whatever their cells held.
 pub fn arrange(s: &[u8], t: &mut [i32], w: usize, n: usize)
@@ -19,7 +31,7 @@ pub fn arrange(s: &[u8], t: &mut [i32], w: usize, n: usize)
     ensures arranged { Arranged s.now w n t.new }
     ensures kept { Kept w n t.old t.new }
 {
-    sorting::arrange(By::Id, s, t, w, CELL, n);
+    sorting::arrange(by_id(w), s, t, n);
 }
 
 // Does the id in cell i come before the value of a raw field?
@@ -27,7 +39,7 @@ fn is_before(s: &[u8], t: &[i32], w: usize, i: usize, raw: &[u8]) -> bool
     requires { Room w i t.now }
     ensures { result ≡ before (id_of s.now t.now w (cell t.now w i)) (value raw.now) }
 {
-    ranking::compare_values(ordering::raw_id(s, t, w, ordering::get(t, w, CELL, i)), raw).is_lt()
+    ranking::compare_values(ordering::raw_id(s, t, w, by_id(w).get(t, i)), raw).is_lt()
 }
 
 // The first cell whose id doesn't come before the value of a raw field; n + 1 where there is none.
@@ -60,7 +72,7 @@ pub fn first_record(s: &[u8], t: &[i32], w: usize, n: usize, raw: &[u8]) -> usiz
     if n < at {
         return 0;
     }
-    let r = ordering::get(t, w, CELL, at);
+    let r = by_id(w).get(t, at);
     if ranking::same_values(ordering::raw_id(s, t, w, r), raw) {
         return r;
     }
