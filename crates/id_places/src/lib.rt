@@ -8,6 +8,14 @@ ghost use Rattle.ordering.specs.Cells.{cell_at};
 ghost use Rattle.id_places.specs.Places.{start_in, Ids};
 
 use meaning::{FEW_LINES, MAX_LINES};
+use ordering::{By, Order};
+
+// The order of the records by their ids, where each has one number, at which byte its id begins: the number is the cell.
+pub const ORDER: Order = Order {
+    by: By::Field,
+    width: 1,
+    cell: 0,
+};
 
 // A number for each record of the longest file; none is placed.
 pub fn blank() -> [i32; MAX_LINES]
@@ -34,7 +42,7 @@ fn place_lines(s: &[u8], at: usize, p: usize, t: &mut [i32]) -> usize
     let mut r = 1;
     while let Some((line, next)) = text::next_line(s, here) {
         let field = columns::field_start(&s[line.start..line.end], p);
-        ordering::put(t, 1, 0, r, line.start + field);
+        ORDER.put(t, r, line.start + field);
         here = next;
         r += 1;
     }

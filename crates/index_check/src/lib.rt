@@ -13,6 +13,7 @@ ghost use Rattle.id_places.specs.Places.{Ids};
 ghost use Rattle.indexes.specs.Versions.{Wide};
 ghost use Rattle.index_check.specs.Entries.{Entries};
 
+use id_places::ORDER;
 use indexes::{BEFORE, IndexRefusal, Version};
 use meaning::FEW_LINES;
 use std::cmp::Ordering;
@@ -61,8 +62,8 @@ fn is_before(s: &[u8], t: &[i32], x: usize, y: usize) -> bool
     requires { (x < length t.now) × (y < length t.now) }
     ensures { result ≡ before (value_on s.now (cell_at 0 t.now 1 x)) (value_on s.now (cell_at 0 t.now 1 y)) }
 {
-    let a = ordering::get(t, 1, 0, x);
-    let b = ordering::get(t, 1, 0, y);
+    let a = ORDER.get(t, x);
+    let b = ORDER.get(t, y);
     match ranking::compare_values(text::field_on(s, a), text::field_on(s, b)) {
         Ordering::Less => true,
         Ordering::Equal => false,

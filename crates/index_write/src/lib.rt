@@ -14,18 +14,18 @@ ghost use Rattle.indexes.specs.Promises.{Reads};
 ghost use Rattle.id_places.specs.Places.{own_column};
 ghost use Rattle.index_write.specs.Writing.{Ranked, start_of, Put, Entry, Entered, Within};
 
+use id_places::ORDER;
 use indexes::{BEFORE, IndexRefusal, Version};
 use meaning::FEW_LINES;
-use ordering::By;
 
 // Have the fields in cells k and k + 1 one value?
 fn is_repeat(s: &[u8], t: &[i32], k: usize) -> bool
     requires { RoomAt 0 1 (k + 1) t.now }
     ensures { result ≡ alike Field s.now t.now 1 (cell_at 0 t.now 1 k) (cell_at 0 t.now 1 (k + 1)) }
 {
-    let x = ordering::get(t, 1, 0, k);
-    let y = ordering::get(t, 1, 0, k + 1);
-    ordering::is_alike(By::Field, s, t, 1, x, y)
+    let x = ORDER.get(t, k);
+    let y = ORDER.get(t, k + 1);
+    ORDER.is_alike(s, t, x, y)
 }
 
 // Does a value stand in two of n sorted cells?
@@ -47,12 +47,12 @@ fn cell_of(s: &[u8], t: &[i32], n: usize, x: usize) -> usize
     requires sorted { Sorted (in_order Field s.now t.now 1) (cell_at 0 t.now 1) n × Apart (cell_at 0 t.now 1) n × Stands (cell_at 0 t.now 1) n x }
     ensures { (0 < result) × (result ≤ n) × (cell_at 0 t.now 1 result ≡ x) }
 {
-    // a loop of its own: `t[1..=n].partition_point(..)` would read cells past `ordering::get`, which alone knows where they stand
+    // a loop of its own: `t[1..=n].partition_point(..)` would read cells past `Order::get`, which alone knows where they stand
     let mut lo: usize = 1;
     let mut hi = n;
     while lo < hi {
         let mid = lo + (hi - lo) / 2;
-        if ordering::no_later(By::Field, s, t, 1, x, ordering::get(t, 1, 0, mid)) {
+        if ORDER.no_later(s, t, x, ORDER.get(t, mid)) {
             hi = mid;
         } else {
             lo = mid + 1;
@@ -160,7 +160,7 @@ fn write_read(f: usize, s: &[u8], t: &mut [i32], b: &mut [u8]) -> Result<usize, 
     ensures b_after { b.new ≡ left_by result (index_of (version_of (length (ids_of f s.now))) f (ranked (ids_of f s.now))) b.old }
 {
     let n = id_places::place_ids(f, s, t);
-    sorting::sort(By::Field, s, t, 1, 0, n);
+    sorting::sort(ORDER, s, t, n);
     if has_repeat(s, t, n) {
         return Err(IndexRefusal::Barred(45));
     }

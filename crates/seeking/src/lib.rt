@@ -5,10 +5,11 @@ ghost use Rattle.meaning.specs.Bytes.{value};
 ghost use Rattle.ranking.specs.Ranks.{before};
 ghost use Rattle.ordering.specs.Cells.{cell, Room, Kept};
 ghost use Rattle.ordering.specs.Ids.{id_of, no_later, Sorted, Placed, Arranged};
+ghost use Rattle.ordering.specs.declared.By.TheVariants.{Id};
 ghost use Rattle.seeking.specs.First.{First, id_is};
 ghost use Rattle.seeking.specs.Seek.{Lower};
 
-use ordering::By;
+use ordering::{By, Order};
 
 // The records of a file: its bytes, its table, and how many there are.
 #[derive(Clone, Copy)]
@@ -21,13 +22,24 @@ pub struct Records<'a> {
 // The number of a record in which its file's order by id has a cell.
 pub const CELL: usize = 2;
 
+// The order of a file's records by id, of as many numbers as its records have.
+pub fn by_id(w: usize) -> Order
+    ensures { result ≡ record { by = Id; width = w; cell = 2 } }
+{
+    Order {
+        by: By::Id,
+        width: w,
+        cell: CELL,
+    }
+}
+
 // The order of n records by id, whatever their cells held.
 pub fn arrange(s: &[u8], t: &mut [i32], w: usize, n: usize)
     requires { Room w n t.old × (n < 2 ^ 31) }
     ensures arranged { Arranged s.now w n t.new }
     ensures kept { Kept w n t.old t.new }
 {
-    sorting::arrange(By::Id, s, t, w, CELL, n);
+    sorting::arrange(by_id(w), s, t, n);
 }
 
 // Does the id in cell i come before the value of a raw field?
@@ -35,7 +47,7 @@ fn is_before(a: Records, w: usize, i: usize, raw: &[u8]) -> bool
     requires { Room w i a.table.now }
     ensures { result ≡ before (id_of a.entry.file.now a.entry.table.now w (cell a.entry.table.now w i)) (value raw.now) }
 {
-    let r = ordering::get(a.table, w, CELL, i);
+    let r = by_id(w).get(a.table, i);
     ranking::compare_values(ordering::raw_id(a.file, a.table, w, r), raw).is_lt()
 }
 
@@ -69,7 +81,7 @@ pub fn first_record(a: Records, w: usize, raw: &[u8]) -> usize
     if a.count < at {
         return 0;
     }
-    let r = ordering::get(a.table, w, CELL, at);
+    let r = by_id(w).get(a.table, at);
     if ranking::same_values(ordering::raw_id(a.file, a.table, w, r), raw) {
         return r;
     }

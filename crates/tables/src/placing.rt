@@ -19,10 +19,24 @@ ghost use Rattle.tables.specs.Fill.{Room, Fits};
 ghost use Rattle.tables.specs.Noting.{noted, note_mark, Telling, Marking};
 ghost use Rattle.tables.specs.Walk.{date_key, placing, placed_of, Ordered, OrderedIf};
 
-use ordering::By;
+use ordering::{By, Order};
 use records::FileLine;
 use rows::{Calendar, Dates, Routes, Stops, Table, Trips};
 use values::LocatedLine;
+
+// The order of file 6 by service, in which a reference into it is looked up.
+const BY_SERVICE: Order = Order {
+    by: By::Id,
+    width: Dates::WIDTH,
+    cell: seeking::CELL,
+};
+
+// The same by service and date.
+const BY_DATE: Order = Order {
+    by: By::IdAndDate,
+    width: Dates::WIDTH,
+    cell: 3,
+};
 
 // Where in the schema the field stands that waits: a trip's service, a stop's parent.
 fn waiting_column(f: usize) -> usize
@@ -153,7 +167,7 @@ pub fn order_file(f: usize, s: &[u8], t: &mut [i32], m: &mut [u16]) -> usize
     let n = place_file(f, s, t, m);
     let width = rows::width_of(f);
     seeking::arrange(s, t, width, n);
-    repeats::mark_repeats(By::Id, s, t, width, seeking::CELL, n, f, m);
+    repeats::mark_repeats(seeking::by_id(width), s, t, n, f, m);
     n
 }
 
@@ -176,8 +190,8 @@ fn mark_dates(s: &[u8], t: &mut [i32], n: usize, m: &mut [u16])
     ensures repeated { Repeated IdAndDate s.now t.new 4 n 6 m.old m.new }
     ensures arranged_by { ArrangedBy IdAndDate s.now 3 4 n t.new }
 {
-    sorting::arrange(By::IdAndDate, s, t, Dates::WIDTH, 3, n);
-    repeats::mark_repeats(By::IdAndDate, s, t, Dates::WIDTH, 3, n, Dates::FILE, m);
+    sorting::arrange(BY_DATE, s, t, n);
+    repeats::mark_repeats(BY_DATE, s, t, n, Dates::FILE, m);
 }
 
 // The services of calendar_dates.txt in its table, and its records in their order, whatever their dates; it may be not supplied.
@@ -191,6 +205,6 @@ pub fn order_dates(s: &[u8], t: &mut [i32], m: &mut [u16]) -> usize
     }
     let n = place_file(Dates::FILE, s, t, m);
     mark_dates(s, t, n, m);
-    sorting::arrange_from(By::Id, s, t, Dates::WIDTH, seeking::CELL, n, 3);
+    sorting::arrange_from(BY_SERVICE, s, t, n, BY_DATE.cell);
     n
 }

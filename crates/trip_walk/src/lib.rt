@@ -14,11 +14,18 @@ ghost use Rattle.trip_walk.specs.Told.{Told, Untold, KeptMarks, ToldTwo, OnlyMet
 ghost use Rattle.trip_walk.specs.Walk.{Turned, Closed, goes_by};
 
 use marks::{EQUAL, FALLING, MET, OPEN, PAIRED};
-use ordering::By;
+use ordering::{By, Order};
 use rows::{StopTimes, Table, TimeRow, times};
 
 // The number of a waiting record that holds a cell of the order.
 const CELL: usize = 7;
+
+// The order of the lines.
+const ORDER: Order = Order {
+    by: By::TripAndSequence,
+    width: StopTimes::WIDTH,
+    cell: CELL,
+};
 
 // The numbers of a waiting record at which its trip_id starts and ends in the file.
 const START: usize = 5;
@@ -307,11 +314,11 @@ fn rank(s: &[u8], t: &mut [i32], n: usize, m: &mut [u16])
     ensures kept_at { KeptAt 7 8 n t.old t.new }
     ensures only_met { OnlyMet m.old m.new }
 {
-    sorting::list_all(t, StopTimes::WIDTH, CELL, n);
+    sorting::list_all(ORDER, t, n);
     if is_steady(t, n, m) {
         return;
     }
-    sorting::sort(By::TripAndSequence, s, t, StopTimes::WIDTH, CELL, n);
+    sorting::sort(ORDER, s, t, n);
 }
 
 // Rules 28 and 29 of each of n waiting lines, and 30 and 31 of each trip that has a record, as marks.

@@ -3,4 +3,4 @@ use Rattle.repeats.proofs.Laws.{Walking}
 use Rattle.repeats.proofs.mark_repeats.Given as goal
 
 abbrev pub invariant-loop-k : goal.invariant-loop-k
-invariant-loop-k l = Walking l.by l.s l.o l.w l.n l.t l.f l.initial.m l.m l.k
+invariant-loop-k l = Walking l.order.by l.s l.order.cell l.order.width l.n l.t l.f l.initial.m l.m l.k

@@ -19,23 +19,23 @@ returns-then-a-at c =
     }
 
 pub get-r-requires : goal.get-r-requires
-get-r-requires c = (c.requires.1.room.wide, room_row c.requires.1.room _ c.if-a-at.false)
+get-r-requires c = rw c.by_id.ensures (c.requires.1.room.wide, room_row c.requires.1.room _ c.if-a-at.false)
 
 pub returns-then-same_values : goal.returns-then-same_values
 unfolding in_order no_later
 returns-then-same_values c =
     let p = c.requires in
-    let e = same_cell _ _ c.args.w c.lower-at.result _ _ _ _ c.get-r.ensures.0 c.raw_id.ensures c.same_values.ensures ∙ c.if-same_values.true in
+    let e = same_cell _ _ c.args.w c.lower-at.result _ _ _ _ (rw c.by_id.ensures at c.get-r.ensures.0) c.raw_id.ensures c.same_values.ensures ∙ c.if-same_values.true in
     let every = seek_found _ _ _ _ _ p.0 p.1.whole p.1.sorted _ c.lower-at.ensures c.if-a-at.false e in record {
-      first = rw c.get-r.ensures.0 every.0;
-      upper_bound = rw c.get-r.ensures.0 every.1;
+      first = rw (rw c.by_id.ensures at c.get-r.ensures.0) every.0;
+      upper_bound = rw (rw c.by_id.ensures at c.get-r.ensures.0) every.1;
     }
 
 pub returns : goal.returns
 unfolding in_order no_later
 returns c =
     let p = c.requires in
-    let e = same_cell _ _ c.args.w c.lower-at.result _ _ _ _ c.get-r.ensures.0 c.raw_id.ensures c.same_values.ensures ∙ c.if-same_values.false in let every = seek_none _ _ _ _ _ p.0 p.1.whole p.1.sorted _ c.lower-at.ensures e in record {
+    let e = same_cell _ _ c.args.w c.lower-at.result _ _ _ _ (rw c.by_id.ensures at c.get-r.ensures.0) c.raw_id.ensures c.same_values.ensures ∙ c.if-same_values.false in let every = seek_none _ _ _ _ _ p.0 p.1.whole p.1.sorted _ c.lower-at.ensures e in record {
       first = every.0;
       upper_bound = every.1;
     }
