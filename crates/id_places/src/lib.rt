@@ -7,7 +7,6 @@ ghost use Rattle.meaning.specs.Refusals.{max_bytes};
 ghost use Rattle.ordering.specs.Cells.{cell_at};
 ghost use Rattle.id_places.specs.Places.{start_in, Ids};
 
-use meaning::{FEW_LINES, MAX_LINES};
 use ordering::{By, Order};
 
 // The order of the records by their ids, where each has one number, at which byte its id begins: the number is the cell.
@@ -17,18 +16,11 @@ pub const ORDER: Order = Order {
     cell: 0,
 };
 
-// A number for each record of the longest file; none is placed.
-pub fn blank() -> [i32; MAX_LINES]
+// A number for each record of a file of N lines; none is placed.
+pub fn blank<const N: usize>() -> [i32; N]
     ensures { (k : ℕ) → get_or result k (pos 0) ≡ pos 0 }
 {
-    [0i32; MAX_LINES]
-}
-
-// The same for a file of few lines.
-pub fn blank_few() -> [i32; FEW_LINES]
-    ensures { (k : ℕ) → get_or result k (pos 0) ≡ pos 0 }
-{
-    [0i32; FEW_LINES]
+    [0i32; N]
 }
 
 // The lines from `at` on, the first of which has record 1, by their fields in column p; how many records there are.

@@ -2,7 +2,6 @@
 // The mark and the numbers in an index's bytes, be they many or few: past the end stands 0.
 ghost use Rattle.std.specs.Prelude.{◌≡◌, ◌^◌, ◌<◌, get_or};
 ghost use Rattle.indexes.specs.Index.{number_at, index_length, entry, rule40, rule41};
-ghost use Rattle.indexes.specs.Versions.{Wide};
 
 use indexes::{BEFORE, LEAST, Version};
 
@@ -28,7 +27,7 @@ pub fn pair_at(b: &[u8], at: usize) -> usize
 
 // The number that as many bytes write as a version has for one.
 pub fn number_at(b: &[u8], v: Version, at: usize) -> usize
-    requires { Wide v × (at < 2 ^ 40) }
+    requires { at < 2 ^ 40 }
     ensures { (result ≡ number_at v.width b.now at) × (result < 2 ^ 32) }
 {
     let low = pair_at(b, at);
@@ -41,7 +40,7 @@ pub fn number_at(b: &[u8], v: Version, at: usize) -> usize
 
 // How many bytes an index of n records has.
 pub fn length_of(v: Version, n: usize) -> usize
-    requires { Wide v × (n < 2 ^ 32) }
+    requires { n < 2 ^ 32 }
     ensures { (result ≡ index_length v n) × (result < 2 ^ 40) }
 {
     let w = v.width;
@@ -50,7 +49,7 @@ pub fn length_of(v: Version, n: usize) -> usize
 
 // The record number with index i, which stands behind those of i records.
 pub fn entry_at(b: &[u8], v: Version, i: usize) -> usize
-    requires { Wide v × (i < 2 ^ 32) }
+    requires { i < 2 ^ 32 }
     ensures { (result ≡ entry v b.now i) × (result < 2 ^ 32) }
 {
     number_at(b, v, length_of(v, i))

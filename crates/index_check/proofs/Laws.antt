@@ -3,19 +3,18 @@ use Rattle.std.specs.Prelude.{Ok, Err}
 use mathlib.Core.Path.{◌≡◌, refl, sym, ap, ◌∙◌}
 use mathlib.Core.Bool.{Bool, true, false, not, ◌||◌}
 use mathlib.Core.List.{List}
-use Prim.Native.Nat.{ℕ, ◌+◌, ◌*◌, ◌-◌, ◌^◌, ◌≤◌, ◌<◌}
-use native.Mathlib.Nat.{mul-le-mul_right}
+use Prim.Native.Nat.{ℕ, ◌+◌, ◌-◌, ◌^◌, ◌≤◌, ◌<◌}
 use native.Mathlib.Omega.{arith}
 use lib.Dec.{eqb, ltb}
 use lib.IntN.{ℤ}
-use lib.ListN.{length, get_or, take}
-use borrow.Author.Tests.{ltb-false, lt-ltb, le-ltb, eqb-true, eq-eqb, ne_eqb, not-false}
+use lib.ListN.{length, get_or}
+use borrow.Author.Tests.{eqb-true, eq-eqb, ne_eqb, not-false}
 use Rattle.meaning.specs.declared.Refusal.{Refusal}
 use Rattle.meaning.specs.Lists.{same, some}
 use Rattle.meaning.specs.Bytes.{count_lf, value}
 use Rattle.text.specs.Fields.{field_on}
+use Rattle.std.specs.Ordering.{is_lt}
 use Rattle.std.specs.declared.cmp.Ordering.{Ordering}
-use Rattle.std.specs.declared.cmp.Ordering.TheVariants.{Less, Equal, Greater}
 use Rattle.ranking.specs.Ranks.{before, compare, ranked}
 use Rattle.ranking.proofs.Laws.{compare_ranked}
 use Rattle.columns.proofs.Laws.{some_next}
@@ -24,8 +23,8 @@ use Rattle.ordering.specs.Ids.{value_on}
 use Rattle.indexes.specs.Answer.{IndexAnswer}
 use Rattle.indexes.specs.declared.IndexRefusal.TheVariants.{Unread, Barred}
 use Rattle.indexes.specs.Order.{ids_of, id_of}
-use Rattle.indexes.specs.declared.Version.{Version}
-use Rattle.indexes.specs.Index.{number_at, version_of, mark, index_length, entry, rule40, other_version, rule41, misfits, rule42, strays, rule43, rule44, index_tests, spoken, indexed, lone_verdict, barred_or, checked}
+use Rattle.indexes.specs.declared.version.Version.{Version}
+use Rattle.indexes.specs.Index.{number_at, version_of, index_length, entry, rule40, other_version, rule41, misfits, rule42, strays, rule43, rule44, index_tests, spoken, indexed, lone_verdict, barred_or, checked}
 use Rattle.meaning.proofs.FirstBroken.{said_readable}
 use Rattle.meaning.proofs.Tests.{or_neither}
 use Rattle.indexes.specs.Promises.{Reads}
@@ -82,24 +81,18 @@ pub stray_past : (n r x : ℕ) → r ≡ x → (r ≡ 0 → ⊥) → ltb n r ≡
 unfolding strays
 stray_past n r x e z = rw (← e, ne_eqb _ _ z)
 
-pub entries_as : (v : Version) (m n k : ℕ) (b : List ℕ) → m + 1 ≡ k → n + 1 ≡ k → Entries v n b → Entries v m b
-entries_as v m n k b p q e = let z : m ≡ n = omega arith in rw z e
+pub ids_as : (f : ℕ) (s : List ℕ) (m n : ℕ) (t : List ℤ) → n + 1 ≡ count_lf s → Ids f s m t → Ids f s n t
+ids_as f s m n t q i = let z : n ≡ m = omega (arith, i.count) in rw z i
 
 -- ---- the ids of two records
 
--- does a comparison say that the first comes before
-abbrev pub told : Ordering → Bool
-told Less = true
-told Equal = false
-told Greater = false
-
 -- two fields that were read from where their ids begin, and compared
 module _ (s : List ℕ) (x y p q : ℕ) (a b : List ℕ) (o : Ordering) where
-  pub before_told : p ≡ x → q ≡ y → a ≡ field_on s p → b ≡ field_on s q → o ≡ compare (value a) (value b) → told o ≡ before (value_on s x) (value_on s y)
+  pub before_told : p ≡ x → q ≡ y → a ≡ field_on s p → b ≡ field_on s q → o ≡ compare (value a) (value b) → is_lt o ≡ before (value_on s x) (value_on s y)
   unfolding value_on ranked
   before_told d e i j k = rw (← d, ← e, ← i, ← j, k, compare_ranked) (go (before (value a) (value b)) (same (value a) (value b)))
     where
-      go : (t u : Bool) → told (ranked t u) ≡ t
+      go : (t u : Bool) → is_lt (ranked t u) ≡ t
       go true u = refl
       go false true = refl
       go false false = refl

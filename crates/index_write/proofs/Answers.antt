@@ -10,7 +10,7 @@ use Rattle.meaning.specs.declared.Refusal.{Refusal}
 use Rattle.indexes.specs.Answer.{IndexAnswer}
 use Rattle.indexes.specs.declared.IndexRefusal.TheVariants.{Unread, Barred}
 use Rattle.indexes.specs.Order.{ids_of, ranked, repeats}
-use Rattle.indexes.specs.declared.Version.{Version}
+use Rattle.indexes.specs.declared.version.Version.{Version}
 use Rattle.indexes.specs.Index.{version_of, index_of, index_length, writer_tests, spoken, lone_verdict, barred_or, left_by, wrote, written}
 use Rattle.meaning.proofs.FirstBroken.{said_readable}
 use Rattle.indexes.specs.Promises.{Reads}

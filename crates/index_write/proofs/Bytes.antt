@@ -1,16 +1,15 @@
 -- The bytes of an index while it is written: a record number put into its entry.
 use mathlib.Core.Path.{◌≡◌, refl, sym, ◌∙◌}
-use mathlib.Core.List.{List, ◌++◌}
+use mathlib.Core.List.{List}
 use Prim.Native.Nat.{ℕ, zero, suc, ◌+◌, ◌*◌, ◌-◌, ◌/◌, ◌%◌, ◌^◌, ◌≤◌, ◌<◌}
-use native.Mathlib.Numerals.{add-one}
 use native.Mathlib.Omega.{arith}
 use native.Mathlib.Nat.{div-add-mod', suc-mul, mul-le-mul_right}
 use lib.IntN.{ℤ}
-use lib.ListN.{length, get_or, set, take, drop, length-set}
-use lib.Seq.{length-take-le, drop-cons, take-suc, append_snoc, set_at, get_or-set_same, get_or-set_other}
+use lib.ListN.{length, get_or, set, length-set}
+use lib.Seq.{get_or-set_same, get_or-set_other}
 use Rattle.meaning.proofs.Tests.{Standing, below, level, over, standing}
 use Rattle.ordering.specs.Cells.{cell_at}
-use Rattle.indexes.specs.declared.Version.{Version}
+use Rattle.indexes.specs.declared.version.Version.{Version}
 use Rattle.indexes.specs.Index.{number_at, head_length, index_length, entry}
 use Rattle.indexes.proofs.Numbers.{four_at}
 use Rattle.index_write.specs.Writing.{Put, Within, Entry}

@@ -13,7 +13,7 @@ use Rattle.text.proofs.Walk.{line_here}
 use Rattle.ordering.specs.Cells.{cell_at}
 use Rattle.ordering.specs.Ids.{Apart}
 use Rattle.ordering.proofs.Laws.{Alike, yes, no, alike}
-use Rattle.indexes.specs.declared.Version.{Version}
+use Rattle.indexes.specs.declared.version.Version.{Version}
 use Rattle.indexes.specs.Index.{entry}
 use Rattle.indexes.specs.Promises.{Reads}
 use Rattle.id_places.specs.Places.{start_in, own_column, id_start}

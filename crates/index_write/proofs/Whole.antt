@@ -21,12 +21,12 @@ use Rattle.ordering.specs.declared.By.TheVariants.{Field}
 use Rattle.ordering.proofs.Laws.{room_kept, moved_all, moved_stands, moved_apart, kept_order}
 use Rattle.ordering.proofs.Alikes.{alike_between}
 use Rattle.indexes.specs.Order.{ids_of, id_of, ranked, repeats}
-use Rattle.indexes.specs.declared.Version.{Version}
+use Rattle.indexes.specs.declared.version.Version.{Version}
 use Rattle.indexes.specs.Index.{number_at, version_of, mark, index_of, head_length, index_length, entry}
 use Rattle.indexes.specs.Promises.{Reads, Bytes}
 use Rattle.indexes.proofs.Order.{no_repeat, repeat_none}
 use Rattle.indexes.proofs.Accepted.{Sound, sound, accepted_is}
-use Rattle.indexes.proofs.Versions.{known_of}
+use Rattle.indexes.proofs.Versions.{known_of, wide_of}
 use Rattle.id_places.specs.Places.{id_start, Ids}
 use Rattle.id_places.proofs.Own.{ids_count, value_of, starts_rise}
 use Rattle.index_write.specs.Writing.{Begins, Ranked, start_of, Put, Within, Entered}
@@ -178,11 +178,11 @@ module _ (f : ℕ) (s : List ℕ) (reads : Reads f s) where
           rw (entry_is i (omega arith) x, entry_is (i + 1) l y, sym (cell_value (i + 1) x), sym (cell_value (i + 1 + 1) y))
           (order_before s t 1 (cell_at 0 t 1 (i + 1)) (cell_at 0 t 1 (i + 1 + 1)) (w.sorted (i + 1) (i + 1 + 1) (omega arith) (omega arith) (omega arith)) (some_none (twins s t) 1 (n - 1) none (i + 1) (omega arith) (omega arith)))
 
-      is_sound : 2 ≤ v.width → Sound v f ids index
-      is_sound wide =
+      is_sound : Sound v f ids index
+      is_sound =
           let c = ids_count f s n w.count in
           record {
-            long = omega (arith, index_long, size_is, wide);
+            long = omega (arith, index_long, size_is, (wide_of v).0);
             marked = marks;
             version = version_is;
             file = start_at 5 (omega arith);
@@ -216,11 +216,11 @@ module _ (f : ℕ) (s : List ℕ) (reads : Reads f s) where
           go false e = rw (get_or-eq_default index 0 {n = i} (omega (arith, index_long, ltb-false i size e))) (omega arith)
 
       -- it is the one that is accepted, and the rest of the buffer is unchanged
-      pub index_written : 2 ≤ v.width → Bytes b → b ≡ laid (index_of v f (ranked ids)) lent
+      pub index_written : Bytes b → b ≡ laid (index_of v f (ranked ids)) lent
       unfolding laid
-      index_written wide small =
+      index_written small =
           let e : version_of (length ids) ≡ v = ap version_of (ids_count f s n w.count) ∙ sym is in
           let k = rw e at (known_of (length ids)) in
-          let i : index ≡ index_of v f (ranked ids) = rw e at (accepted_is f ids index (bytes_of small) (rw e ((sound v f ids index k).1 (is_sound wide)))) in
+          let i : index ≡ index_of v f (ranked ids) = rw e at (accepted_is f ids index (bytes_of small) (rw e ((sound v f ids index k).1 is_sound))) in
           let l : length (index_of v f (ranked ids)) ≡ size = ap length (sym i) ∙ index_long in
           rw l (sym (take-append-drop size b) ∙ rw (rest_is, i))

@@ -4,7 +4,7 @@ use Rattle.meaning.specs.Bytes.{count_lf}
 use Rattle.ordering.specs.Cells.{cell_at, RoomAt}
 use Rattle.ordering.specs.Ids.{in_order, Sorted, Stands, Apart}
 use Rattle.ordering.specs.declared.By.TheVariants.{Field}
-use Rattle.indexes.specs.declared.Version.{Version}
+use Rattle.indexes.specs.declared.version.Version.{Version}
 use Rattle.indexes.specs.Index.{number_at, head_length, index_length, entry}
 use Rattle.id_places.specs.Places.{id_start}
 

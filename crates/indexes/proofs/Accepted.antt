@@ -15,12 +15,12 @@ use Rattle.meaning.proofs.Laws.{get_d_mem}
 use Rattle.meaning.proofs.Tests.{or_neither, untrue, some_found, some_none}
 use Rattle.ranking.specs.Ranks.{before}
 use Rattle.indexes.specs.Order.{id_of, Rising, ranked}
-use Rattle.indexes.specs.declared.Version.{Version}
+use Rattle.indexes.specs.declared.version.Version.{Version}
 use Rattle.indexes.specs.Index.{low_first, number_at, version_of, mark, index_of, head_length, index_length, entry, rule40, rule41, other_version, misfits, rule42, strays, rule43, rule44, index_tests, spoken}
 use Rattle.indexes.specs.Versions.{Known}
 use Rattle.indexes.specs.Promises.{Lists, Bytes}
 use Rattle.indexes.proofs.Numbers.{low_length, written_number, numbers_at, numbers_length, numbers_at_lem, read_numbers, read_front, flat_length, written_numbers}
-use Rattle.indexes.proofs.Versions.{known_of, version_fits, known_silent}
+use Rattle.indexes.proofs.Versions.{known_of, wide_of, version_fits, known_silent}
 use Rattle.indexes.proofs.Order.{rising_length, rising_ranked, all_listed}
 
 -- ---- what no broken test says
@@ -172,7 +172,7 @@ module _ (v : Version) (f : ℕ) where
   unfolding index_length
   index_length_lem rs = rw (by_front rs) (simp (length-append, front_length, low_length, flat_length) (omega arith))
 
-  module _ (ids : List (List ℕ)) (rs : List ℕ) (rising : Rising ids rs) (wide : 2 ≤ v.width) (known : v.number < 256 ^ 2) (few : length ids < 256 ^ v.width) where
+  module _ (ids : List (List ℕ)) (rs : List ℕ) (rising : Rising ids rs) (known : v.number < 256 ^ 2) (few : length ids < 256 ^ v.width) where
     long : length rs ≡ length ids
     long = rising_length ids rs rising
 
@@ -188,7 +188,7 @@ module _ (v : Version) (f : ℕ) where
     pub index_sound : Sound v f ids (index_of v f rs)
     unfolding index_length
     index_sound = record {
-      long = omega (arith, index_length_lem rs);
+      long = omega (arith, index_length_lem rs, (wide_of v).0);
       marked = index_marked rs;
       version = index_version rs known;
       file = index_file rs;
@@ -218,4 +218,4 @@ module _ (f : ℕ) (ids : List (List ℕ)) (b : List ℕ) where
   -- and then it is.
   pub lists_accepted : length ids < 2 ^ 32 → Lists f ids b → spoken (index_tests v f ids b) ≡ 0
   lists_accepted few l =
-      rw l.bytes (let w = version_fits v (length ids) refl few in (sound v f ids (index_of v f l.records) (known_of (length ids))).1 (index_sound v f ids l.records l.rising w.0.0 (omega (arith, w.2)) w.1))
+      rw l.bytes (let w = version_fits v (length ids) refl few in (sound v f ids (index_of v f l.records) (known_of (length ids))).1 (index_sound v f ids l.records l.rising (omega (arith, w.1)) w.0))

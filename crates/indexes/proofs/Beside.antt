@@ -27,7 +27,7 @@ use Rattle.text.proofs.Lines.{lines_all}
 use Rattle.indexes.specs.Answer.{IndexAnswer}
 use Rattle.indexes.specs.declared.IndexRefusal.TheVariants.{Unread, Barred}
 use Rattle.indexes.specs.Order.{ids_of, repeats, ranked}
-use Rattle.indexes.specs.declared.Version.{Version}
+use Rattle.indexes.specs.declared.version.Version.{Version}
 use Rattle.indexes.specs.Index.{version_of, index_of, index_length, index_tests, spoken, writer_tests, indexed, lone_claims, lone_verdict, if_read, asked_of, barred_or, checked, wrote, left_by, written, index_numbers}
 use Rattle.indexes.specs.Promises.{Lists, Bytes, Reads, no_test, Lowest, says_whole, says_unread, says_barred, Beside}
 use Rattle.indexes.proofs.Versions.{of_two}

@@ -19,7 +19,7 @@ use Rattle.meaning.proofs.Laws.{get_d_mem}
 use Rattle.meaning.proofs.Claims.{in_file_lem}
 use Rattle.meaning.proofs.FirstBroken.{silent_none, said_readable}
 use Rattle.meaning.proofs.Tests.{or_right}
-use Rattle.indexes.specs.declared.Version.{Version}
+use Rattle.indexes.specs.declared.version.Version.{Version}
 use Rattle.indexes.specs.declared.IndexRefusal.TheVariants.{Barred}
 use Rattle.indexes.specs.Order.{ids_of, repeats, ranked, Rising}
 use Rattle.indexes.specs.Index.{low_first, number_at, mark, version1, version2, version_of, index_of, index_length, rule40, other_version, rule41, misfits, rule42, index_tests, spoken, writer_tests, indexed, lone_claims, lone_verdict, if_read, asked_of, barred_or, checked, wrote, written, index_numbers}

@@ -1,11 +1,12 @@
 -- An index beside the feed: its bytes, and the refusals of its reader and its writer.
 use Rattle.std.specs.Prelude.{ℕ, zero, suc, ◌+◌, ◌*◌, ◌-◌, ◌/◌, ◌%◌, Bool, cond, not, ◌&&◌, ◌||◌, List, [], ◌∷◌, ◌++◌, map, length, get_or, take, ltb, eqb, Result, Ok, Err}
+use mathlib.Core.Path.{refl}
 use Rattle.meaning.specs.declared.Refusal.{Refusal}
 use Rattle.meaning.specs.Lists.{ascii, same, some, flat, laid}
 use Rattle.meaning.specs.Bytes.{lines_of}
 use Rattle.meaning.specs.Refusals.{Test, test, Claim, claim, rule1, rule2, rule4, in_file, speaks}
 use Rattle.ranking.specs.Ranks.{before}
-use Rattle.indexes.specs.declared.Version.{Version}
+use Rattle.indexes.specs.declared.version.Version.{Version}
 use Rattle.indexes.specs.Answer.{IndexAnswer}
 use Rattle.indexes.specs.declared.IndexRefusal.TheVariants.{Unread, Barred}
 use Rattle.indexes.specs.Order.{ids_of, id_of, repeats, ranked}
@@ -23,10 +24,10 @@ number_at zero b at = 0
 number_at (suc k) b at = get_or b at 0 + 256 * number_at k b (at + 1)
 
 abbrev pub version1 : Version
-version1 = record { number = 1; width = 2 }
+version1 = record { number = 1; width = 2; wide = refl }
 
 abbrev pub version2 : Version
-version2 = record { number = 2; width = 4 }
+version2 = record { number = 2; width = 4; wide = refl }
 
 -- version 1 up to 65,535 records and version 2 above
 unfoldable pub version_of : ℕ → Version

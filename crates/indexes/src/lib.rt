@@ -3,20 +3,16 @@
 ghost use Rattle.std.specs.Prelude.{◌≡◌};
 ghost use Rattle.indexes.specs.Index.{version_of, version_named};
 
+mod version; // version.rt: what a version is
+
 use meaning::Refusal;
+pub use version::Version;
 
 // The least bytes of an index, by rule 40.
 pub const LEAST: usize = 8;
 
 // How many bytes stand before the count.
 pub const BEFORE: usize = 6;
-
-// A version: its number, and in how many bytes the count and each record number stand. No enum, since `version1` and `version2` are these two numbers.
-#[derive(Clone, Copy)]
-pub struct Version {
-    pub number: usize,
-    pub width: usize,
-}
 
 // The version whose numbers stand in two bytes.
 const FIRST: Version = Version {

@@ -25,7 +25,7 @@ use Rattle.text.proofs.Values.{und_bare}
 use Rattle.num.specs.Signs.{nat_of}
 use Rattle.num.proofs.Laws.{kept}
 use Rattle.ranking.specs.Ranks.{compare}
-use Rattle.indexes.specs.declared.Version.{Version}
+use Rattle.indexes.specs.declared.version.Version.{Version}
 use Rattle.indexes.specs.Index.{number_at, version_of, version_named, index_length, entry, rule40, rule41}
 use Rattle.lookups.specs.Lookup.{Standing, LookupAnswer, refused, named, own_count, miscounted, barred, outside, is_place, misplaced, not_one, number_in, raw_id, standing_of, standing_to, standing, middle, lastly, halve, standing_at, sought, lookup}
 

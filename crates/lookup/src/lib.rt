@@ -2,7 +2,6 @@
 // One code, asked at the counter: the record with that id, found by halving the range of an index's entries.
 ghost use Rattle.std.specs.Prelude.{◌≡◌, ℕ, ◌+◌, ◌-◌, ◌^◌, ◌<◌, ◌≤◌, Ok};
 ghost use Rattle.indexes.specs.Index.{number_at, entry};
-ghost use Rattle.indexes.specs.Versions.{Wide};
 ghost use Rattle.lookups.specs.Lookup.{miscounted, barred, is_place, misplaced, not_one, standing_to, standing, lastly, halve, sought, lookup};
 
 use indexes::{BEFORE, Version};
@@ -84,21 +83,6 @@ fn stand_to(code: &[u8], raw: &[u8]) -> Result<Ordering, Refused>
     Ok(ranking::compare_content(code, false, text::content_of(raw), text::is_marked(raw)))
 }
 
-// How a code stands to the id of a record.
-fn stand(s: &[u8], t: &[i32], code: &[u8], r: usize) -> Result<Ordering, Refused>
-    requires { r < 2 ^ 32 }
-    ensures { result ≡ standing s.now t.now code.now r }
-{
-    if t.len() < (r + 1) * Stops::WIDTH {
-        return Err(Refused);
-    }
-    let at = r * Stops::WIDTH;
-    if is_misplaced(s.len(), t[at], t[at + 1]) {
-        return Err(Refused);
-    }
-    stand_to(code, ordering::raw_id(s, t, Stops::WIDTH, r))
-}
-
 // The record r that the one entry left lists, where the code is its id, else 0.
 fn answer_of(order: Ordering, r: usize) -> usize
     ensures { Ok result ≡ lastly (Ok order) r }
@@ -109,40 +93,61 @@ fn answer_of(order: Ordering, r: usize) -> usize
     }
 }
 
-// The answer of the entries from low up to but not including high, of an index of this version: the range is halved until one is left.
-fn seek(
-    s: &[u8],
-    t: &[i32],
-    b: &[u8],
-    code: &[u8],
-    v: Version,
-    low: usize,
-    high: usize,
-) -> Result<usize, Refused>
-    requires { (low < high) × (high < 2 ^ 32) × Wide v }
-    ensures { (n : ℕ) → high - low ≤ n → result ≡ halve (λ i. standing s.now t.now code.now (entry v b.now i)) (entry v b.now) n low high }
-{
-    if high - low == 1 {
-        let r = index_bytes::entry_at(b, v, low);
-        return Ok(answer_of(stand(s, t, code, r)?, r));
-    }
-    let mid = low + (high - low) / 2;
-    match stand(s, t, code, index_bytes::entry_at(b, v, mid))? {
-        Ordering::Less => seek(s, t, b, code, v, low, mid),
-        Ordering::Equal | Ordering::Greater => seek(s, t, b, code, v, mid, high),
-    }
+// What a lookup is handed: the file's bytes and its table, the index, and the code that is asked for.
+#[derive(Clone, Copy)]
+struct Query<'a> {
+    file: &'a [u8],
+    table: &'a [i32],
+    index: &'a [u8],
+    code: &'a [u8],
 }
 
-// The answer of an index that isn't refused.
-fn sought_in(s: &[u8], t: &[i32], b: &[u8], code: &[u8]) -> Result<usize, Refused>
-    ensures { result ≡ sought s.now t.now b.now code.now }
-{
-    let v = indexes::version_named(index_bytes::pair_at(b, 3));
-    let n = index_bytes::number_at(b, v, BEFORE);
-    if n == 0 {
-        return Ok(0);
+impl Query<'_> {
+    // How the code stands to the id of a record.
+    fn stand(&self, r: usize) -> Result<Ordering, Refused>
+        requires { r < 2 ^ 32 }
+        ensures { result ≡ standing self.now.file.now self.now.table.now self.now.code.now r }
+    {
+        if self.table.len() < (r + 1) * Stops::WIDTH {
+            return Err(Refused);
+        }
+        let at = r * Stops::WIDTH;
+        if is_misplaced(self.file.len(), self.table[at], self.table[at + 1]) {
+            return Err(Refused);
+        }
+        stand_to(
+            self.code,
+            ordering::raw_id(self.file, self.table, Stops::WIDTH, r),
+        )
     }
-    seek(s, t, b, code, v, 0, n)
+
+    // The answer of the entries from low up to but not including high, of an index of this version: the range is halved until one is left.
+    fn seek(&self, v: Version, low: usize, high: usize) -> Result<usize, Refused>
+        requires { (low < high) × (high < 2 ^ 32) }
+        ensures { (n : ℕ) → high - low ≤ n → result ≡ halve (λ i. standing self.now.file.now self.now.table.now self.now.code.now (entry v self.now.index.now i)) (entry v self.now.index.now) n low high }
+    {
+        if high - low == 1 {
+            let r = index_bytes::entry_at(self.index, v, low);
+            return Ok(answer_of(self.stand(r)?, r));
+        }
+        let mid = low + (high - low) / 2;
+        match self.stand(index_bytes::entry_at(self.index, v, mid))? {
+            Ordering::Less => self.seek(v, low, mid),
+            Ordering::Equal | Ordering::Greater => self.seek(v, mid, high),
+        }
+    }
+
+    // The answer of an index that isn't refused.
+    fn answer(&self) -> Result<usize, Refused>
+        ensures { result ≡ sought self.now.file.now self.now.table.now self.now.index.now self.now.code.now }
+    {
+        let v = indexes::version_named(index_bytes::pair_at(self.index, 3));
+        let n = index_bytes::number_at(self.index, v, BEFORE);
+        if n == 0 {
+            return Ok(0);
+        }
+        self.seek(v, 0, n)
+    }
 }
 
 // The record of stops.txt with a code as its id, or 0; any file, any table, any index, any code.
@@ -155,5 +160,11 @@ pub fn look_up(file: &[u8], table: &[i32], index: &[u8], code: &[u8]) -> Result<
     if is_barred(index) {
         return Err(Refused);
     }
-    sought_in(file, table, index, code)
+    let query = Query {
+        file,
+        table,
+        index,
+        code,
+    };
+    query.answer()
 }

@@ -8,7 +8,7 @@ use lib.Dec.{ltb, eqb}
 use lib.ListN.{length, get_or}
 use borrow.Author.Tests.{le-ltb, eq-eqb}
 use Rattle.meaning.proofs.ListLaws.{same_self}
-use Rattle.indexes.specs.declared.Version.{Version}
+use Rattle.indexes.specs.declared.version.Version.{Version}
 use Rattle.indexes.specs.Index.{version1, version2, version_of, version_named, mark, index_length, entry, rule40}
 use Rattle.indexes.specs.Promises.{Lists}
 use Rattle.indexes.proofs.Accepted.{Sound, index_sound, entry_at}
@@ -30,7 +30,7 @@ module _ (ids : List (List ℕ)) (b : List ℕ) (few : length ids < 2 ^ 32) (lis
   sound : Sound v 1 ids b
   sound =
       let w = version_fits v (length ids) refl few in
-      rw lists.bytes (index_sound v 1 ids lists.records lists.rising w.0.0 (omega (arith, w.2)) w.1)
+      rw lists.bytes (index_sound v 1 ids lists.records lists.rising (omega (arith, w.1)) w.0)
 
   version : named b ≡ v
   version = rw sound.version (named_for (length ids))
@@ -47,4 +47,4 @@ module _ (ids : List (List ℕ)) (b : List ℕ) (few : length ids < 2 ^ 32) (lis
   pub entries : (k : ℕ) → k < length lists.records → entry (named b) b k ≡ get_or lists.records k 0
   entries k h =
       let w = version_fits v (length ids) refl few in
-      rw version (ap (λ (c : List ℕ). entry v c k) lists.bytes ∙ entry_at v 1 ids lists.records lists.rising w.0.0 (omega (arith, w.2)) w.1 k h)
+      rw version (ap (λ (c : List ℕ). entry v c k) lists.bytes ∙ entry_at v 1 ids lists.records lists.rising (omega (arith, w.1)) w.0 k h)

@@ -10,7 +10,6 @@ use lib.ListN.{length, get_or}
 use borrow.Author.Tests.{ltb-true, lt-ltb, leb-false, lt-leb, eqb-false, ne_eqb}
 use Rattle.meaning.specs.Bytes.{bounds, part, good, fields, count_lf, value}
 use Rattle.std.specs.declared.cmp.Ordering.{Ordering}
-use Rattle.std.specs.declared.cmp.Ordering.TheVariants.{Less, Equal, Greater}
 use Rattle.ranking.specs.Ranks.{compare}
 use Rattle.lookups.specs.Lookup.{Standing, refused, stop_width, outside, is_place, misplaced, not_one, number_in, raw_id, standing_of, standing_to, standing}
 use Rattle.lookups.specs.Promises.{Unfit, beyond, negative, past, backward, ill, several, broken}

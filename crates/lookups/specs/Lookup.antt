@@ -7,7 +7,7 @@ use Rattle.meaning.specs.Bytes.{part, good, fields, count_lf, value}
 use Rattle.num.specs.Signs.{nat_of}
 use Rattle.rows.specs.Cells.{bounds_at}
 use Rattle.ranking.specs.Ranks.{compare}
-use Rattle.indexes.specs.declared.Version.{Version}
+use Rattle.indexes.specs.declared.version.Version.{Version}
 use Rattle.indexes.specs.Index.{number_at, version_of, version_named, index_length, entry, rule40, rule41}
 use Rattle.lookups.specs.declared.Refused.{Refused}
 

@@ -3,7 +3,6 @@ use Rattle.std.specs.Prelude.{Ok}
 use Rattle.indexes.specs.Index.{index_length}
 use Rattle.indexes.proofs.Beside.{asked_range}
 use Rattle.id_places.proofs.Own.{sized, ids_count}
-use Rattle.indexes.proofs.Versions.{version_fits}
 use Rattle.index_write.proofs.Whole.{room_of, ranked_of, none_twins, some_twins}
 use Rattle.index_write.proofs.Answers.{repeated, short, roomy, laid_for}
 use mathlib.Core.Path.{refl, sym, ◌∙◌}
@@ -31,7 +30,7 @@ pub length_of-need-requires : goal.length_of-need-requires
 length_of-need-requires c =
     let z = sized _ _ c.requires.0 in
     let few : c.place_ids-n.result < 2 ^ 32 = omega (arith, c.place_ids-n.ensures.ids.count, z.few) in
-    ((version_fits c.version_of-v.result c.place_ids-n.result c.version_of-v.ensures few).0, few)
+    few
 
 pub returns-then-b-need : goal.returns-then-b-need
 returns-then-b-need c =
@@ -40,7 +39,7 @@ returns-then-b-need c =
     let room = room_of _ a.s.now a.t.now _ i.count c.requires.1 c.place_ids-n.ensures.t_len_unchanged in
     let w = ranked_of a.f a.s.now c.requires.0 _ _ _ i room c.sort.ensures.kept_at c.sort.ensures.sorted c.sort.ensures.moved in
     let n = ids_count a.f a.s.now _ i.count in record {
-      value = short _ _ (none_twins a.f a.s.now c.requires.0 _ _ w (sym c.has_repeat.ensures ∙ c.if-has_repeat.false)) _ n c.version_of-v.result c.version_of-v.ensures (rw c.length_of-need.ensures.0 at c.if-b-need.true);
+      value = short _ _ (none_twins a.f a.s.now c.requires.0 _ _ w (sym c.has_repeat.ensures ∙ c.if-has_repeat.false)) _ n c.version_of.result c.version_of.ensures (rw c.length_of-need.ensures.0 at c.if-b-need.true);
       b_after = refl;
     }
 
@@ -54,8 +53,8 @@ put_index-requires c =
     let z = sized _ _ c.requires.0 in
     let none = sym c.has_repeat.ensures ∙ c.if-has_repeat.false in record {
       reads = (c.requires.0, w, rw c.length_of-need.ensures.0 at c.if-b-need.false);
-      f_bound = (omega (arith, ((asked_range a.f a.s.now).0 c.requires.0.asked).1), none);
-      s_len_bound = (z.short, omega (arith, i.count, z.few), c.version_of-v.ensures);
+      file_bound = (omega (arith, ((asked_range a.f a.s.now).0 c.requires.0.asked).1), none);
+      bytes_len_bound = (z.short, omega (arith, i.count, z.few), c.version_of.ensures);
     }
 
 pub returns : goal.returns
@@ -65,6 +64,6 @@ returns c =
     let room = room_of _ a.s.now a.t.now _ i.count c.requires.1 c.place_ids-n.ensures.t_len_unchanged in
     let w = ranked_of a.f a.s.now c.requires.0 _ _ _ i room c.sort.ensures.kept_at c.sort.ensures.sorted c.sort.ensures.moved in
     let n = ids_count a.f a.s.now _ i.count in record {
-      value = rw c.length_of-need.ensures.0 (roomy _ _ (none_twins a.f a.s.now c.requires.0 _ _ w (sym c.has_repeat.ensures ∙ c.if-has_repeat.false)) _ n c.version_of-v.result c.version_of-v.ensures (rw c.length_of-need.ensures.0 at c.if-b-need.false));
-      b_after = laid_for a.f a.s.now _ n c.version_of-v.result c.version_of-v.ensures (Ok (index_length c.version_of-v.result c.place_ids-n.result)) a.b.now _ c.put_index.ensures;
+      value = rw c.length_of-need.ensures.0 (roomy _ _ (none_twins a.f a.s.now c.requires.0 _ _ w (sym c.has_repeat.ensures ∙ c.if-has_repeat.false)) _ n c.version_of.result c.version_of.ensures (rw c.length_of-need.ensures.0 at c.if-b-need.false));
+      b_after = laid_for a.f a.s.now _ n c.version_of.result c.version_of.ensures (Ok (index_length c.version_of.result c.place_ids-n.result)) a.b.now _ c.put_index.ensures;
     }

@@ -11,4 +11,4 @@ pub returns-then-is_barred : goal.returns-then-is_barred
 returns-then-is_barred c = look_barred _ _ _ _ (eqb-false _ _ (sym c.is_empty.ensures ∙ c.if-is_empty.false)) (sym c.is_barred.ensures ∙ c.if-is_barred.true)
 
 pub returns : goal.returns
-returns c = look_sought _ _ _ _ (eqb-false _ _ (sym c.is_empty.ensures ∙ c.if-is_empty.false)) (sym c.is_barred.ensures ∙ c.if-is_barred.false) _ c.sought_in.ensures
+returns c = look_sought _ _ _ _ (eqb-false _ _ (sym c.is_empty.ensures ∙ c.if-is_empty.false)) (sym c.is_barred.ensures ∙ c.if-is_barred.false) _ c.answer.ensures
