@@ -13,7 +13,7 @@ use Rattle.std.specs.Result.{result_ok, result_err}
 use Rattle.meaning.specs.declared.Refusal.{Refusal}
 use Rattle.meaning.specs.Bytes.{fields, values}
 use Rattle.meaning.specs.Columns.{places}
-use Rattle.meaning.specs.Refusals.{Test, test, on_line, speaks, text_tests, head_tests, value_tests, line_tests}
+use Rattle.meaning.specs.Refusals.{Test, test, on_line, speaks, head_tests}
 use Rattle.meaning.specs.Promises.{Each}
 use Rattle.meaning.proofs.Computed.{all, mem_all}
 use Rattle.meaning.proofs.ListLaws.{and_both}

@@ -1,14 +1,13 @@
 -- `file_faults::list_later` meets its contract. The loop's invariant: what is left of the faults brings the list to what all of them are to bring it to.
 use mathlib.Core.Path.{refl, sym, ◌∙◌}
 use native.Mathlib.Omega.{arith}
-use borrow.Author.Rules.{rules}
 use Rattle.meaning.specs.Bytes.{part}
 use Rattle.file_faults.proofs.Steps.{any_found, any_none}
 use Rattle.file_faults.proofs.Walk.{left_next, left_last}
 use Rattle.file_faults.proofs.list_later.Goals as goal
 
 pub loop-line-init : goal.loop-line-init
-loop-line-init c = (λ h k. refl, (omega arith, (omega arith, (omega arith, (omega arith, refl)))))
+loop-line-init c = ((refl, refl), (λ h k. refl, (omega arith, (omega arith, (omega arith, omega arith)))))
 
 pub slice_bounds-list_line-count : goal.slice_bounds-list_line-count
 slice_bounds-list_line-count c =
@@ -25,11 +24,11 @@ slice_bounds-list_line-end c =
     let s = any_found _ _ _ _ _ (sym c.any_line.ensures ∙ c.in-Some.is) in
     omega (arith, s.ordered, s.within)
 
-pub list_line-sink-requires : goal.list_line-sink-requires
-list_line-sink-requires c =
+pub list_line-requires : goal.list_line-requires
+list_line-requires c =
     let s = any_found _ _ _ _ _ (sym c.any_line.ensures ∙ c.in-Some.is) in
-    let l = c.loop-line.invariant.1 in record {
-      f_bound = (c.requires.f_bound.0, (omega (arith, l.1.0, s.further, s.inside, c.requires.f_bound.1.0), omega (arith, l.1.1.0, l.1.1.1.0, c.requires.f_bound.1.0, c.requires.f_bound.1.1)));
+    let l = c.loop-line.invariant.1.1 in record {
+      f_bound = (c.requires.f_bound.0, (omega (arith, l.1.0, s.further, s.inside, c.requires.f_bound.1.0), omega (arith, l.1.1.0, l.1.1.1, c.requires.f_bound.1.0, c.requires.f_bound.1.1)));
       all_known = c.all_known-known.ensures;
       header = c.requires.header;
     }
@@ -37,7 +36,7 @@ list_line-sink-requires c =
 pub overflow_add-n : goal.overflow_add-n
 overflow_add-n c =
     let s = any_found _ _ _ _ _ (sym c.any_line.ensures ∙ c.in-Some.is) in
-    omega (arith, c.loop-line.invariant.1.1.0, s.further, s.inside)
+    omega (arith, c.loop-line.invariant.1.1.1.0, s.further, s.inside)
 
 pub loop-line-smaller : goal.loop-line-smaller
 loop-line-smaller c =
@@ -48,15 +47,21 @@ pub loop-line-preserved : goal.loop-line-preserved
 unfolding part
 loop-line-preserved c =
     let s = any_found _ _ _ _ _ (sym c.any_line.ensures ∙ c.in-Some.is) in
-    let l = c.loop-line.invariant in (
-      λ h k. left_next _ _ h _ _ _ _ _ _ _ _ _ s (c.list_line-sink.ensures.by_index h k) (l.0 h k),
-      (omega (arith, l.1.0, s.further), (omega (arith, l.1.1.0, s.further), (omega (arith, s.inside), (omega (arith, c.list_line-sink.ensures.total_bound, l.1.1.1.1.0, l.1.0, s.further), search rules)))),
+    let same = c.loop-line.invariant.0 in
+    let l = c.loop-line.invariant.1 in
+    let more = c.list_line.ensures in (
+      (more.same_list.0 ∙ same.0, more.same_list.1 ∙ same.1),
+      (
+        λ h k. left_next _ _ h _ _ _ _ _ _ _ _ _ s (rw same.1 at (more.by_index h k)) (l.0 h k),
+        (omega (arith, l.1.0, s.further), (omega (arith, l.1.1.0, s.further), (omega (arith, s.inside), omega (arith, more.total_bound, l.1.1.1.1, l.1.0, s.further)))),
+      ),
     )
 
 pub returns : goal.returns
 returns c =
     let e = any_none _ _ (sym c.any_line.ensures ∙ c.in_default.is) in
-    let l = c.loop-line.invariant in record {
+    let l = c.loop-line.invariant.1 in record {
+      same_list = c.loop-line.invariant.0;
       by_index = λ h k. left_last _ _ h _ _ _ _ _ e (l.0 h k);
-      total_bound = omega (arith, l.1.1.1.0, l.1.1.1.1.0);
+      total_bound = omega (arith, l.1.1.1.0, l.1.1.1.1);
     }

@@ -22,8 +22,8 @@ slice_bounds-judge_header-end c =
     let s = any_found _ _ _ _ _ (sym c.any_line.ensures ∙ c.in-Some.is) in
     omega (arith, s.ordered, s.within)
 
-pub note_fault-sink-requires-clause-file_bound : goal.note_fault-sink-requires-clause-file_bound
-note_fault-sink-requires-clause-file_bound c = (omega (arith, c.requires.0), (omega arith, head_low _ _ _ c.judge_header-h.ensures _ c.err.ensures.value))
+pub note_fault-requires-clause-file_bound : goal.note_fault-requires-clause-file_bound
+note_fault-requires-clause-file_bound c = (omega (arith, c.requires.0), (omega arith, head_low _ _ _ c.judge_header-h.ensures _ c.err.ensures.value))
 
 pub list_later-requires-clause-header : goal.list_later-requires-clause-header
 list_later-requires-clause-header c = record { text = _; heads = head_told _ _ _ c.judge_header-h.ensures _ c.ok.ensures.value }
@@ -34,8 +34,8 @@ returns-clause-result_after c =
     let s = any_found _ _ _ _ _ (sym c.any_line.ensures ∙ c.in-Some.is) in
     let e = c.judge_header-h.ensures in
     lines_some _ _ _ _ c.body_start.ensures.0 _ _ _ _ _ _ s
-    (c.note_fault-sink.ensures.result_after ∙ rw (head_fault _ _ _ e _ c.err.ensures.value))
-    (c.list_later.ensures.by_index _ (head_told _ _ _ e _ c.ok.ensures.value))
+    (c.note_fault.ensures.result_after ∙ rw (head_fault _ _ _ e _ c.err.ensures.value))
+    (rw c.note_fault.ensures.same_list.1 at (c.list_later.ensures.by_index _ (head_told _ _ _ e _ c.ok.ensures.value)))
 
 pub returns-in_default-clause-result_after : goal.returns-in_default-clause-result_after
 returns-in_default-clause-result_after c = lines_none _ _ _ _ c.body_start.ensures.0 _ (any_none _ _ (sym c.any_line.ensures ∙ c.in_default.is))

@@ -10,9 +10,9 @@ pub returns-in_default-clause-result_after : goal.returns-in_default-clause-resu
 unfolding adding fault_of
 returns-in_default-clause-result_after c = rw c.in_default.is
 
-pub returns-clause-result_after : goal.returns-clause-result_after
+pub returns-in-Some-clause-result_after : goal.returns-in-Some-clause-result_after
 unfolding adding fault_of
-returns-clause-result_after c =
+returns-in-Some-clause-result_after c =
     let small = c.requires.file_bound in
     let low = low_some _ _ c.in-Some.is small.1.1 in
     let e =
