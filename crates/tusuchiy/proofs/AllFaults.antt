@@ -8,7 +8,8 @@ use Rattle.meaning.specs.declared.Place.{Place}
 use Rattle.meaning.specs.Pages.{room_for}
 use Rattle.meaning.proofs.Arrays.{drop_next}
 use Rattle.meaning.proofs.Handing.{page_within}
-use Rattle.listing.specs.Handing.{State, adding, lent_only}
+use Rattle.listing.specs.declared.Sink.{Sink}
+use Rattle.listing.specs.Handing.{State, state, adding, lent_only}
 use Rattle.listing.proofs.Laws.{adding_append, adding_all}
 use Rattle.faults.specs.List.{file_faults, faults_from, faults_of}
 use Rattle.faults.specs.Told.{quad, told}
@@ -34,6 +35,10 @@ module _ (p : Place) (files : List (List ℕ)) where
     pub all_told : adding quad p (faults_from files 1 files) (lent_only lent) ≡ told files p lent
     unfolding faults_of
     all_told = adding_all faults_kind p lent (faults_of files)
+
+    -- .. whatever the list is called
+    pub told_in : (here there : List ℤ) (k : Sink) → state there k ≡ told files p lent → here ≡ there → state here k ≡ told files p lent
+    told_in here there k e h = rw h e
 
     -- no more are written than there are
     pub told_within : (z : State) → z ≡ told files p lent → z.written ≤ z.total

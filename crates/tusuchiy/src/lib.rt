@@ -1,15 +1,17 @@
 #![tactic(auto)]
 // The whole check, and every refusal at once.
-ghost use Rattle.std.specs.Prelude.{◌≡◌, ◌∷◌, [], map, cond, eqb, length, get_or, ℕ, ◌+◌, ◌*◌, ◌<◌, ◌≤◌, Ok};
+ghost use Rattle.std.specs.Prelude.{◌≡◌, map, cond, eqb, length, get_or, ℕ, ◌+◌, ◌*◌, ◌<◌, ◌≤◌, Ok};
 ghost use Rattle.meaning.specs.Bytes.{count_lf};
 ghost use Rattle.meaning.specs.Refusals.{max_bytes, max_lines, few_lines, verdict_of};
 ghost use Rattle.meaning.specs.Outcome.{read_outcome, outcome};
 ghost use Rattle.marks.specs.Marks.{Blank};
-ghost use Rattle.listing.specs.Handing.{state};
+ghost use Rattle.lent.specs.Lent.{held, Same};
+ghost use Rattle.listing.specs.Handing.{state, lent_only, SameList};
 ghost use Rattle.faults.specs.Told.{told};
 ghost use Rattle.tusuchiy.specs.Small.{Small};
 
-use listing::Sink;
+use lent::Tables;
+use listing::{Listing, Sink};
 use meaning::{Answer, FEW_LINES, MAX_LINES, Place, Profile};
 
 // Accepted exactly when there is no finding; else how many are written, and how many there are.
@@ -41,93 +43,47 @@ fn count_all(files: [&[u8]; 6]) -> [usize; 6]
 fn checked_with(
     files: [&[u8]; 6],
     counts: [usize; 6],
-    stops_table: &mut [i32],
-    routes_table: &mut [i32],
-    calendar_table: &mut [i32],
-    trips_table: &mut [i32],
-    stop_times_table: &mut [i32],
-    calendar_dates_table: &mut [i32],
-    findings: &mut [i32],
+    tables: &mut Tables,
+    list: &mut Listing,
     marks: &mut [u16],
-    from: Place,
     asked: Profile,
 ) -> Answer
-    requires calendar_dates_table_value { verdict_of (map (λ x. x.now) files)
-        (length stops_table.old ∷ length routes_table.old ∷ length calendar_table.old ∷ length trips_table.old ∷ length stop_times_table.old ∷ length calendar_dates_table.old ∷ []) ≡ Ok tt }
+    requires read { verdict_of (map (λ x. x.now) files) (map length (held tables.old)) ≡ Ok tt }
     requires counts_value { counts ≡ map count_lf (map (λ x. x.now) files) }
     requires blank { Blank marks.old × ((i : ℕ) → i < 6 → get_or counts i 0 ≤ length marks.old) }
-    ensures asked_value { read_outcome (map (λ x. x.now) files.entry)
-        (stops_table.old ∷ routes_table.old ∷ calendar_table.old ∷ trips_table.old ∷ stop_times_table.old ∷ calendar_dates_table.old ∷ [])
-        findings.old from asked
-        ≡ record { answer = result; tables = stops_table.new ∷ routes_table.new ∷ calendar_table.new ∷ trips_table.new ∷ stop_times_table.new ∷ calendar_dates_table.new ∷ []; list = findings.new } }
+    requires none_yet { state list.old.out.now list.old.sink ≡ lent_only list.old.out.now }
+    ensures same { Same tables.old tables.new }
+    ensures same_list { SameList list.old list.new }
+    ensures asked_value { read_outcome (map (λ x. x.now) files.entry) (held tables.old) list.old.out.now list.old.from asked
+        ≡ record { answer = result; tables = held tables.new; list = list.new.out.now } }
     ensures small { Small result }
 {
-    tables::fill_all(
-        files,
-        stops_table,
-        routes_table,
-        calendar_table,
-        trips_table,
-        stop_times_table,
-        calendar_dates_table,
-        marks,
-    );
-    let k = rules::list_findings(
-        counts,
-        stops_table,
-        routes_table,
-        calendar_table,
-        trips_table,
-        stop_times_table,
-        calendar_dates_table,
-        marks,
-        findings,
-        from,
-        asked,
-    );
-    answer_of(k)
+    tables::fill_all(files, tables, marks);
+    rules::list_findings(counts, tables, marks, list, asked);
+    answer_of(list.sink)
 }
 
 // The same, where no file has more than N lines.
 fn checked_up_to<const N: usize>(
     files: [&[u8]; 6],
     counts: [usize; 6],
-    stops_table: &mut [i32],
-    routes_table: &mut [i32],
-    calendar_table: &mut [i32],
-    trips_table: &mut [i32],
-    stop_times_table: &mut [i32],
-    calendar_dates_table: &mut [i32],
-    findings: &mut [i32],
-    from: Place,
+    tables: &mut Tables,
+    list: &mut Listing,
     asked: Profile,
 ) -> Answer
-    requires calendar_dates_table_value { verdict_of (map (λ x. x.now) files)
-        (length stops_table.old ∷ length routes_table.old ∷ length calendar_table.old ∷ length trips_table.old ∷ length stop_times_table.old ∷ length calendar_dates_table.old ∷ []) ≡ Ok tt }
+    requires read { verdict_of (map (λ x. x.now) files) (map length (held tables.old)) ≡ Ok tt }
     requires counts_value { counts ≡ map count_lf (map (λ x. x.now) files) }
     requires by_index { (i : ℕ) → i < 6 → get_or counts i 0 ≤ N }
     requires room { N ≤ max_lines }
-    ensures asked_value { read_outcome (map (λ x. x.now) files.entry)
-        (stops_table.old ∷ routes_table.old ∷ calendar_table.old ∷ trips_table.old ∷ stop_times_table.old ∷ calendar_dates_table.old ∷ [])
-        findings.old from asked
-        ≡ record { answer = result; tables = stops_table.new ∷ routes_table.new ∷ calendar_table.new ∷ trips_table.new ∷ stop_times_table.new ∷ calendar_dates_table.new ∷ []; list = findings.new } }
+    requires none_yet { state list.old.out.now list.old.sink ≡ lent_only list.old.out.now }
+    ensures same { Same tables.old tables.new }
+    ensures same_list { SameList list.old list.new }
+    ensures asked_value { read_outcome (map (λ x. x.now) files.entry) (held tables.old) list.old.out.now list.old.from asked
+        ≡ record { answer = result; tables = held tables.new; list = list.new.out.now } }
     ensures small { Small result }
 {
     let mut marks = marks::blank::<N>();
-    checked_with(
-        files,
-        counts,
-        stops_table,
-        routes_table,
-        calendar_table,
-        trips_table,
-        stop_times_table,
-        calendar_dates_table,
-        findings,
-        &mut marks,
-        from,
-        asked,
-    )
+    checked_with(files, counts, tables, list, &mut marks, asked)
 }
 
 // The same, with marks by the number of lines: files before i have few. It calls itself and makes no loop, in which the compiler would put both arrays into
@@ -136,115 +92,54 @@ fn checked_from(
     i: usize,
     files: [&[u8]; 6],
     counts: [usize; 6],
-    stops_table: &mut [i32],
-    routes_table: &mut [i32],
-    calendar_table: &mut [i32],
-    trips_table: &mut [i32],
-    stop_times_table: &mut [i32],
-    calendar_dates_table: &mut [i32],
-    findings: &mut [i32],
-    from: Place,
+    tables: &mut Tables,
+    list: &mut Listing,
     asked: Profile,
 ) -> Answer
-    requires calendar_dates_table_value { verdict_of (map (λ x. x.now) files)
-        (length stops_table.old ∷ length routes_table.old ∷ length calendar_table.old ∷ length trips_table.old ∷ length stop_times_table.old ∷ length calendar_dates_table.old ∷ []) ≡ Ok tt }
+    requires read { verdict_of (map (λ x. x.now) files) (map length (held tables.old)) ≡ Ok tt }
     requires counts_value { counts ≡ map count_lf (map (λ x. x.now) files) }
     requires i_bound { (i ≤ 6) × ((k : ℕ) → k < i → get_or counts k 0 ≤ few_lines) }
-    ensures asked_value { read_outcome (map (λ x. x.now) files.entry)
-        (stops_table.old ∷ routes_table.old ∷ calendar_table.old ∷ trips_table.old ∷ stop_times_table.old ∷ calendar_dates_table.old ∷ [])
-        findings.old from asked
-        ≡ record { answer = result; tables = stops_table.new ∷ routes_table.new ∷ calendar_table.new ∷ trips_table.new ∷ stop_times_table.new ∷ calendar_dates_table.new ∷ []; list = findings.new } }
+    requires none_yet { state list.old.out.now list.old.sink ≡ lent_only list.old.out.now }
+    ensures same { Same tables.old tables.new }
+    ensures same_list { SameList list.old list.new }
+    ensures asked_value { read_outcome (map (λ x. x.now) files.entry) (held tables.old) list.old.out.now list.old.from asked
+        ≡ record { answer = result; tables = held tables.new; list = list.new.out.now } }
     ensures small { Small result }
 {
     if i == 6 {
-        return checked_up_to::<FEW_LINES>(
-            files,
-            counts,
-            stops_table,
-            routes_table,
-            calendar_table,
-            trips_table,
-            stop_times_table,
-            calendar_dates_table,
-            findings,
-            from,
-            asked,
-        );
+        return checked_up_to::<FEW_LINES>(files, counts, tables, list, asked);
     }
     if FEW_LINES < counts[i] {
-        return checked_up_to::<MAX_LINES>(
-            files,
-            counts,
-            stops_table,
-            routes_table,
-            calendar_table,
-            trips_table,
-            stop_times_table,
-            calendar_dates_table,
-            findings,
-            from,
-            asked,
-        );
+        return checked_up_to::<MAX_LINES>(files, counts, tables, list, asked);
     }
-    checked_from(
-        i + 1,
-        files,
-        counts,
-        stops_table,
-        routes_table,
-        calendar_table,
-        trips_table,
-        stop_times_table,
-        calendar_dates_table,
-        findings,
-        from,
-        asked,
-    )
+    checked_from(i + 1, files, counts, tables, list, asked)
 }
 
 // The check: from six files, six tables and a list as lent, a starting place and the rules asked for, to the answer and what all seven hold.
 pub fn check(
     files: [&[u8]; 6],
-    stops_table: &mut [i32],
-    routes_table: &mut [i32],
-    calendar_table: &mut [i32],
-    trips_table: &mut [i32],
-    stop_times_table: &mut [i32],
-    calendar_dates_table: &mut [i32],
+    tables: &mut Tables,
     findings: &mut [i32],
     from: Place,
     asked: Profile,
 ) -> Answer
-    ensures asked_value { outcome (map (λ x. x.now) files.entry)
-        (stops_table.old ∷ routes_table.old ∷ calendar_table.old ∷ trips_table.old ∷ stop_times_table.old ∷ calendar_dates_table.old ∷ [])
-        findings.old from asked
-        ≡ record { answer = result; tables = stops_table.new ∷ routes_table.new ∷ calendar_table.new ∷ trips_table.new ∷ stop_times_table.new ∷ calendar_dates_table.new ∷ []; list = findings.new } }
+    ensures same { Same tables.old tables.new }
+    ensures asked_value { outcome (map (λ x. x.now) files.entry) (held tables.old) findings.old from asked
+        ≡ record { answer = result; tables = held tables.new; list = findings.new } }
     ensures small { Small result }
 {
     let counts = count_all(files);
-    let rooms = [
-        stops_table.len(),
-        routes_table.len(),
-        calendar_table.len(),
-        trips_table.len(),
-        stop_times_table.len(),
-        calendar_dates_table.len(),
-    ];
+    let rooms = tables.lengths();
+    let mut list = Listing {
+        out: findings,
+        from,
+        sink: Sink {
+            written: 0,
+            total: 0,
+        },
+    };
     match reading::verdict(files, rooms, counts) {
-        Ok(()) => checked_from(
-            0,
-            files,
-            counts,
-            stops_table,
-            routes_table,
-            calendar_table,
-            trips_table,
-            stop_times_table,
-            calendar_dates_table,
-            findings,
-            from,
-            asked,
-        ),
+        Ok(()) => checked_from(0, files, counts, tables, &mut list, asked),
         Err(r) => Answer::Refused(r),
     }
 }
@@ -255,12 +150,16 @@ pub fn faults(files: [&[u8]; 6], list: &mut [i32], from: Place) -> Sink
     ensures written_le_total { (result.written ≤ result.total) × (result.total ≤ 6 * (max_bytes + 4)) }
 {
     let dated = files[5].len() != 0;
-    let mut k = Sink {
-        written: 0,
-        total: 0,
+    let mut told = Listing {
+        out: list,
+        from,
+        sink: Sink {
+            written: 0,
+            total: 0,
+        },
     };
     for (i, file) in files.iter().enumerate() {
-        k = file_faults::list_faults(i + 1, file, dated, list, k, from);
+        file_faults::list_faults(i + 1, file, dated, &mut told);
     }
-    k
+    told.sink
 }

@@ -1,7 +1,9 @@
 -- `tusuchiy::checked_with` meets its contract.
-use mathlib.Core.Path.{◌≡◌, refl}
-use mathlib.Core.List.{[], ◌∷◌, map}
+use mathlib.Core.Path.{◌≡◌, refl, ap}
+use mathlib.Core.List.{map}
 use lib.ListN.{length, length-map}
+use Rattle.lent.specs.Lent.{held}
+use Rattle.listing.specs.Handing.{State}
 use Rattle.meaning.specs.Refusals.{may_lack}
 use Rattle.rules.specs.Tabled.{table_of}
 use native.Mathlib.Omega.{arith}
@@ -13,30 +15,36 @@ pub fill_all-requires : goal.fill_all-requires
 unfolding table_of may_lack
 fill_all-requires c =
     let files = map (λ x. x.now) c.args.files in
-    let tables = c.args.stops_table.now ∷ c.args.routes_table.now ∷ c.args.calendar_table.now ∷ c.args.trips_table.now ∷ c.args.stop_times_table.now ∷ c.args.calendar_dates_table.now ∷ [] in
+    let tables = held c.args.tables.now in
     let six : length files ≡ 6 = omega (arith, length-map c.args.files (λ x. x.now)) in record {
-      room = roomy files tables six refl c.requires.calendar_dates_table_value 1 (omega arith) (omega arith) refl;
-      room_2 = roomy files tables six refl c.requires.calendar_dates_table_value 2 (omega arith) (omega arith) refl;
-      fits = fits files tables six refl c.requires.calendar_dates_table_value 3 (omega arith) (omega arith);
-      room_3 = roomy files tables six refl c.requires.calendar_dates_table_value 4 (omega arith) (omega arith) refl;
-      room_4 = roomy files tables six refl c.requires.calendar_dates_table_value 5 (omega arith) (omega arith) refl;
-      fits_2 = fits files tables six refl c.requires.calendar_dates_table_value 6 (omega arith) (omega arith);
+      room = roomy files tables six refl c.requires.read 1 (omega arith) (omega arith) refl;
+      room_2 = roomy files tables six refl c.requires.read 2 (omega arith) (omega arith) refl;
+      fits = fits files tables six refl c.requires.read 3 (omega arith) (omega arith);
+      room_3 = roomy files tables six refl c.requires.read 4 (omega arith) (omega arith) refl;
+      room_4 = roomy files tables six refl c.requires.read 5 (omega arith) (omega arith) refl;
+      fits_2 = fits files tables six refl c.requires.read 6 (omega arith) (omega arith);
       blank = (c.requires.blank.0, covered c.args.marks.now files _ c.requires.counts_value c.requires.blank.1);
     }
 
-pub list_findings-k-requires : goal.list_findings-k-requires
-list_findings-k-requires c =
+pub list_findings-requires : goal.list_findings-requires
+list_findings-requires c =
     let files = map (λ x. x.now) c.args.files in
-    let tables = c.args.stops_table.now ∷ c.args.routes_table.now ∷ c.args.calendar_table.now ∷ c.args.trips_table.now ∷ c.args.stop_times_table.now ∷ c.args.calendar_dates_table.now ∷ [] in
+    let tables = held c.args.tables.now in
     let six : length files ≡ 6 = omega (arith, length-map c.args.files (λ x. x.now)) in
-    few_lines_lem files tables six refl c.requires.calendar_dates_table_value _ c.requires.counts_value
+    let none : c.args.list.now.sink.total ≡ 0 = ap (λ (z : State). z.total) c.requires.none_yet in record {
+      lines_bound = few_lines_lem files tables six refl c.requires.read _ c.requires.counts_value;
+      total_bound = omega (arith, none);
+    }
 
 pub returns : goal.returns
 returns c =
     let files = map (λ x. x.now) c.args.files in
-    let tables = c.args.stops_table.now ∷ c.args.routes_table.now ∷ c.args.calendar_table.now ∷ c.args.trips_table.now ∷ c.args.stop_times_table.now ∷ c.args.calendar_dates_table.now ∷ [] in
+    let tables = held c.args.tables.now in
     let six : length files ≡ 6 = omega (arith, length-map c.args.files (λ x. x.now)) in
-    let h = c.list_findings-k.ensures.result_after _ (tabled files tables six refl c.requires.calendar_dates_table_value _ c.fill_all.ensures.dates_table_after _ c.requires.counts_value _ c.fill_all.ensures.noted.0 c.fill_all.ensures.noted.1) in record {
-      asked_value = outcome_read files tables six refl c.requires.calendar_dates_table_value _ c.fill_all.ensures.dates_table_after c.args.findings.now _ c.args.from c.args.asked c.list_findings-k.result _ h c.answer_of.ensures;
-      small = small_findings c.args.from _ c.args.findings.now _ c.list_findings-k.result _ h c.list_findings-k.ensures.total_bound c.answer_of.ensures;
+    let none : c.args.list.now.sink.total ≡ 0 = ap (λ (z : State). z.total) c.requires.none_yet in
+    let h = c.list_findings.ensures.from_none _ (tabled files tables six refl c.requires.read _ c.fill_all.ensures.tables_after _ c.requires.counts_value _ c.fill_all.ensures.noted.0 c.fill_all.ensures.noted.1) c.requires.none_yet in record {
+      same = c.fill_all.ensures.same;
+      same_list = c.list_findings.ensures.same_list;
+      asked_value = outcome_read files tables six refl c.requires.read _ c.fill_all.ensures.tables_after _ _ c.args.list.now.from c.args.asked _ _ h c.answer_of.ensures;
+      small = small_findings c.args.list.now.from _ _ _ _ _ h (omega (arith, none, c.list_findings.ensures.total_bound_2)) c.answer_of.ensures;
     }
