@@ -55,7 +55,7 @@ pub fn clock(l: &[u8], q: Cells, k: usize) -> i32
     ensures { result ≡ seconds (time_of (value_in l.now q.start q.end k)) }
 {
     match forms::time_of(raw(l, q, k)) {
-        Time::Seconds(n) => num::u32_to_i32(n),
+        Time::Seconds(n) => n as i32,
         Time::Untimed | Time::NoTime => -1,
     }
 }
@@ -110,7 +110,7 @@ pub fn choice_or_minus(l: &[u8], q: Cells, k: usize, m: u8) -> i32
     if text::is_empty_value(v) {
         return -1;
     }
-    num::u32_to_i32(chosen(forms::choice_of(v, m)))
+    chosen(forms::choice_of(v, m)) as i32
 }
 
 // The location_type of a line of stops.txt; empty means 0, and so does a value not of its form.
