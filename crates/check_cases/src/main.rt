@@ -228,7 +228,7 @@ fn start_number(s: &[u8], i: usize) -> i32
         b'<' => -2147483648,
         b'>' => 2147483647,
         b'-' => -1,
-        _ => num::to_i32(amount(s, i + 1)),
+        _ => amount(s, i + 1) as i32,
     }
 }
 

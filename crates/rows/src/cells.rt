@@ -97,7 +97,7 @@ pub fn time_of(t: &[i32], row: usize, width: usize, k: usize) -> Time
     ensures { result ≡ time_at t.now (row * width + k) }
 {
     let z = number_of(t, row, width, k);
-    if num::less(z, 0) {
+    if z < 0 {
         return Time::Untimed;
     }
     Time::Seconds(num::nat(z) as u32)

@@ -457,7 +457,7 @@ impl Dates {
 fn mark_of(timepoint: i32) -> usize
     ensures { ((m : ℕ) → m < 4 → timepoint ≡ unmark m → result ≡ m) × (result < 4) }
 {
-    if num::less(timepoint, 0) {
+    if timepoint < 0 {
         return 0;
     }
     (num::nat(timepoint) + 1) % 4

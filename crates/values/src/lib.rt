@@ -72,7 +72,7 @@ impl<'a> LocatedLine<'a> {
         ensures { result ≡ seconds (time_of (value_in self.now.line.now self.now.cells k)) }
     {
         match forms::time_of(self.raw(k)) {
-            Time::Seconds(n) => num::u32_to_i32(n),
+            Time::Seconds(n) => n as i32,
             Time::Untimed | Time::NoTime => -1,
         }
     }
@@ -120,7 +120,7 @@ impl<'a> LocatedLine<'a> {
         if text::is_empty_value(v) {
             return -1;
         }
-        num::u32_to_i32(chosen(forms::choice_of(v, m)))
+        chosen(forms::choice_of(v, m)) as i32
     }
 
     // The location_type of a line of stops.txt; empty means 0, and so does a value not of its form.

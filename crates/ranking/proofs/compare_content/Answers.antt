@@ -17,7 +17,7 @@ returns-then-a-i c =
 pub loop-i-preserved : goal.loop-i-preserved
 loop-i-preserved c =
     let r = turn _ _ _ _ _ _ _ c.loop-i.invariant.2 _ _ c.loop-i-test.true c.if-b-j.false refl refl c.if-a-i.false in
-    (omega arith, omega arith, rw (c.reach-i.ensures.0, c.reach-j.ensures.0) r)
+    (omega arith, omega arith, rw (c.width-i.ensures.0, c.width-j.ensures.0) r)
 
 pub returns-then-j-b : goal.returns-then-j-b
 returns-then-j-b c = turn_shorter _ _ _ _ _ _ _ c.loop-i.invariant.2 c.loop-i-test.false c.if-j-b.true

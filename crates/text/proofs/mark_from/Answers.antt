@@ -1,22 +1,23 @@
 -- `text::mark_from` meets its contract.
-use Rattle.std.proofs.Common.{rules, tests}
-use Rattle.std.proofs.lemmas.Iterator.{YieldsList-from_slice}
-use Rattle.std.proofs.lemmas.Iterator.Search.{position_from_yields_List}
-use Rattle.text.proofs.Chains.{first_or, first_past}
+use Rattle.std.proofs.lemmas.Grind.{get_or_default_zero}
+use Rattle.text.proofs.Lines.{first_here, first_next, first_over}
 use Rattle.text.specs.Fields.{is_mark}
-use mathlib.Core.Path.{◌≡◌, ◌∙◌}
-use lib.ListN.{drop, length-drop}
-use Rattle.std.proofs.lemmas.List.{take_all}
+use mathlib.Core.Path.{sym, ap, ◌∙◌}
+use borrow.Author.Tests.{ltb-true, ltb-false, eq-eqb, ne_eqb}
 use native.Mathlib.Omega.{arith}
 use Rattle.text.proofs.mark_from.Goals as goal
 
-pub returns-in_default : goal.returns-in_default
-returns-in_default c = (first_past is_mark _ _ (search rules), omega arith)
+pub loop-b-preserved : goal.loop-b-preserved
+loop-b-preserved c =
+    let n = ltb-true _ _ (sym c.in-Some.ensures.lookup.0) in
+    let e = c.in-Some.ensures.lookup.1 ∙ get_or_default_zero _ _ _ n in
+    (omega arith, first_next is_mark _ _ _ c.loop-b.invariant.1 n (ap is_mark (sym e) ∙ ne_eqb _ _ c.if-b-eq34.false))
 
-pub returns : goal.returns
-returns c =
-    let r = c.in-Some.rest.now in
-    let d : r ≡ drop c.args.at c.args.l.now = c.in-Some.ensures.lookup.0.2 ∙ take_all _ _ (omega (arith, length-drop c.args.at c.args.l.now)) in
-    let e = position_from_yields_List is_mark _ _ _ c.position.ensures.ran (YieldsList-from_slice _ c.iter.ensures.rest) (λ x b q k. search (rules, tests)) in
-    let z = c.unwrap_or.ensures ∙ first_or is_mark r _ e in
-    (rw (← d) (omega arith), omega arith)
+pub returns-then-b-eq34 : goal.returns-then-b-eq34
+returns-then-b-eq34 c =
+    let n = ltb-true _ _ (sym c.in-Some.ensures.lookup.0) in
+    let e = c.in-Some.ensures.lookup.1 ∙ get_or_default_zero _ _ _ n in
+    (first_here is_mark _ _ _ c.loop-b.invariant.1 n (ap is_mark (sym e) ∙ eq-eqb _ _ c.if-b-eq34.true), omega arith)
+
+pub returns-in_default : goal.returns-in_default
+returns-in_default c = (first_over is_mark _ _ _ c.loop-b.invariant.1 (ltb-false _ _ (sym c.in_default.ensures.lookup.0)), omega arith)
