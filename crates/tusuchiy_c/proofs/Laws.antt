@@ -33,9 +33,11 @@ pub told_check :
     → outcome files tables list q given ≡ o
     → (r : TusuchiyAnswer)
     → Told o.answer r
-    → ToldCheck (outcome files tables list p asked) r o.tables o.list
-told_check files tables list p q asked given o is same e r t =
-    subst (λ (x : Outcome). ToldCheck x r o.tables o.list) (sym e ∙ ap₂ (outcome files tables list) is same) (record { answer = t; tables = refl; findings = refl })
+    → (held : List (List ℤ))
+    → held ≡ o.tables
+    → ToldCheck (outcome files tables list p asked) r held o.list
+told_check files tables list p q asked given o is same e r t held h =
+    subst (λ (x : Outcome). ToldCheck x r held o.list) (sym e ∙ ap₂ (outcome files tables list) is same) (record { answer = t; tables = h; findings = refl })
 
 -- a call for faults from one starting place is told of another that is the same
 pub told_faults :

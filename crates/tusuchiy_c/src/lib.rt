@@ -17,6 +17,7 @@ ghost use Rattle.tusuchiy_c.specs.ToldIndex.{ToldIndex};
 ghost use Rattle.tusuchiy_c.specs.ToldLookup.{ToldLookup};
 
 use indexes::IndexRefusal;
+use lent::Tables;
 use listing::Sink;
 use lookups::Refused;
 use meaning::{Answer, Place, Profile, Refusal};
@@ -123,18 +124,15 @@ pub extern "C" fn tusuchiy_check<'a>(
     let from = place_of(after_file, after_line, after_rule);
     let asked = profile_of(profile);
     let files = [stops, routes, calendar, trips, stop_times, calendar_dates];
-    told(tusuchiy::check(
-        files,
-        stops_table,
-        routes_table,
-        calendar_table,
-        trips_table,
-        stop_times_table,
-        calendar_dates_table,
-        findings,
-        from,
-        asked,
-    ))
+    let mut tables = Tables {
+        stops: stops_table,
+        routes: routes_table,
+        calendar: calendar_table,
+        trips: trips_table,
+        stop_times: stop_times_table,
+        dates: calendar_dates_table,
+    };
+    told(tusuchiy::check(files, &mut tables, findings, from, asked))
 }
 
 // The answer of a call for faults: how many were written, and how many there are.
