@@ -9,7 +9,7 @@ ghost use Rattle.id_places.specs.Places.{start_in, Ids};
 
 use ordering::{By, Order};
 
-// The order of the records by their ids, where each has one number, at which byte its id begins: the number is the cell.
+// The order by id of such a table: a record is one number, where its id begins, and these numbers themselves are put in order.
 pub const ORDER: Order = Order {
     by: By::Field,
     width: 1,

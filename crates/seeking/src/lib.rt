@@ -22,7 +22,7 @@ pub struct Records<'a> {
 // The number of a record in which its file's order by id has a cell.
 pub const CELL: usize = 2;
 
-// The order of a file's records by id, of as many numbers as its records have.
+// The order by id of records of w numbers.
 pub fn by_id(w: usize) -> Order
     ensures { result ≡ record { by = Id; width = w; cell = 2 } }
 {
