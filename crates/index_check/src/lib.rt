@@ -78,7 +78,7 @@ impl Beside<'_> {
         false
     }
 
-    // 44: do the ids of the records listed not rise strictly? The record numbers are known only once 42 and 43 are passed, so that they stay in the contracts.
+    // 44: do the ids of the records listed not rise strictly? `Entries` holds once 42 and 43 are passed, so that it is no ghost field.
     fn falls(&self, t: &[i32]) -> bool
         requires placed { Ids self.now.file self.now.bytes.now self.now.records t.now × (count_lf self.now.bytes.now ≤ length t.now) }
         requires entries { Entries self.now.version self.now.records self.now.index.now }

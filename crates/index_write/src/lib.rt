@@ -56,7 +56,7 @@ fn put_start(b: &mut [u8], head: [u8; 6])
     b[..BEFORE].copy_from_slice(&head);
 }
 
-// The records of a file by their ids: cells hold where the ids begin, in the ids' order; how many there are, and the version that an index of so many has.
+// The records of a file by their ids: cells hold where the ids begin, in the ids' order; how many there are, of cells that may be more; their index's version.
 // What `Ranked` says of them names records (`Begins`), which a ghost field would have to hide, so that it stays in the contracts.
 #[derive(Clone, Copy)]
 struct Ranks<'a> {

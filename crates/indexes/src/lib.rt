@@ -45,6 +45,6 @@ pub fn version_named(k: usize) -> Version
 pub enum IndexRefusal {
     // the file's own refusal
     Unread(Refusal),
-    // a refusal from 40 to 46, which names no file and no line
+    // a refusal by its number in the documents, from 40 to 46, which names no file and no line
     Barred(usize),
 }
