@@ -184,8 +184,10 @@ fn row_fault(
     requires count_value { (count ≡ up_to33 (length (fields l.now))) × Noted l.now starts.now }
     ensures { result ≡ first (value_tests f at l.now) }
 {
-    let cells = columns::cells_of(l, count, starts, at);
-    let located = LocatedLine { line: l, cells };
+    let located = LocatedLine {
+        line: l,
+        cells: columns::cells_of(l, count, starts, at),
+    };
     let slack = slack_of(f, &located);
     let mut fault = None;
     for k in 0..schema::count(f) {
