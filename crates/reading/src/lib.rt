@@ -133,8 +133,10 @@ fn row_fault(
     requires { (count ≡ up_to33 (length (fields l.now))) × Noted l.now starts.now }
     ensures { result ≡ first (value_tests known.now.file at l.now) }
 {
-    let cells = columns::cells_of(l, count, starts, at);
-    let located = LocatedLine { line: l, cells };
+    let located = LocatedLine {
+        line: l,
+        cells: columns::cells_of(l, count, starts, at),
+    };
     let slack = slack_of(known.file, &located);
     let mut fault = None;
     for k in 0..schema::count(known.file) {

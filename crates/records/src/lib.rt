@@ -183,9 +183,13 @@ pub fn put_record(
         → t.new ≡ put_at t.old (r * width_of f) (written_of f w ps (line at l.now)) }
     ensures sought_2 { Sought f a.entry a_memo.new b.entry b_memo.new }
 {
-    let cells = columns::locate(l, places);
-    let located = LocatedLine { line: l, cells };
-    let line = FileLine { located, start: at };
+    let line = FileLine {
+        located: LocatedLine {
+            line: l,
+            cells: columns::locate(l, places),
+        },
+        start: at,
+    };
     match f {
         Stops::FILE => put_stop(&line, t, StopRow::new(r)),
         Routes::FILE => put_route(&line, t, RouteRow::new(r)),

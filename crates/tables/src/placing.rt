@@ -110,9 +110,13 @@ fn place_line(
         → (t.new ≡ put_at t.old (r * width_of f) (placing f ps (line at l.now)))
         × MarkedIf (noted f (row_of ps l.now)) m.old m.new (note_mark f) r }
 {
-    let cells = columns::locate(l, places);
-    let located = LocatedLine { line: l, cells };
-    let line = FileLine { located, start: at };
+    let line = FileLine {
+        located: LocatedLine {
+            line: l,
+            cells: columns::locate(l, places),
+        },
+        start: at,
+    };
     put_places(f, &line, t, r);
     let noted = is_noted(f, &line.located);
     marks::mark_if(m, f + 6, r, noted);
