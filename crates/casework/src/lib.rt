@@ -1,6 +1,6 @@
 #![tactic(auto)]
 // What the programs of cases share: a feed to differ from, the input, ids that are built, and how numbers and a refusal are told.
-ghost use Rattle.std.specs.Prelude.{◌≡◌, ◌≤◌, ◌+◌, ◌/◌, ◌%◌, [], ◌∷◌, IfOk, Some, length, map};
+ghost use Rattle.std.specs.Prelude.{◌≡◌, ◌≤◌, ◌+◌, ◌/◌, ◌%◌, [], ◌∷◌, IfOk, Some, length};
 ghost use Rattle.casework.specs.Told.{each_told, refusal_told};
 
 use meaning::{Place, Refusal};
