@@ -2,152 +2,90 @@
 // A line of standard input is a title, after #, or a case: list length, a blank or, where the profile for boards is asked for, a b, starting place, which table to write, and six files, each after a bar; one without a bar has no bytes.
 #![tactic(auto)]
 
-ghost use Rattle.std.specs.Prelude.{◌<◌, ◌≤◌, ◌≡◌, IfOk, length, take};
+ghost use Rattle.std.specs.Prelude.{◌<◌, ◌≤◌, ◌≡◌, length, take};
 
-use meaning::{Answer, Bounds, Place, Profile};
-use std::io;
-use std::io::Read;
-
-// The feed without a finding that most cases differ from in one file: there = stands for the others.
-const STOPS: [u8; 64] = *b"stop_id,stop_name,stop_lat,stop_lon\nA,Alder,1.5,2\nB,Birch,1.6,2\n";
-
-const ROUTES: [u8; 43] = *b"route_id,route_short_name,route_type\nR,7,3\n";
-
-const CALENDAR: [u8; 122] =
-    *b"service_id,monday,tuesday,wednesday,thursday,friday,saturday,sunday,start_date,end_date\nW,1,1,1,1,1,0,0,20240101,20241231\n";
-
-const TRIPS: [u8; 34] = *b"route_id,service_id,trip_id\nR,W,T\n";
-
-const TIMES: [u8; 106] =
-    *b"trip_id,arrival_time,departure_time,stop_id,stop_sequence\nT,08:00:00,08:00:00,A,1\nT,08:05:00,08:05:00,B,2\n";
-
-const DATES: [u8; 57] = *b"service_id,date,exception_type\nW,20240704,2\nX,20241224,1\n";
+use casework::{GOOD, Named, Numbers};
+use lent::Tables;
+use meaning::{Answer, Place, Profile};
+use std::{fmt, io};
 
 // What every number of a table is as lent; no record has it.
 const LENT: i32 = -777;
 
-// Writes bytes.
-fn say(rt: &impl Print, word: &[u8]) -> io::Result<()> {
-    rt.write_all(word)
-}
+// The answer as it is told.
+#[derive(Clone, Copy)]
+struct Answered(Answer);
 
-// Writes a number after a blank.
-fn tell(rt: &impl Print, n: usize) -> io::Result<()> {
-    say(rt, b" ")?;
-    rt.print(n)
-}
-
-// Writes the answer.
-fn tell_answer(rt: &impl Print, a: Answer) -> io::Result<()> {
-    match a {
-        Answer::Accepted => say(rt, b"accepted"),
-        Answer::Findings { written, total } => {
-            say(rt, b"findings")?;
-            tell(rt, written)?;
-            tell(rt, total)
-        }
-        Answer::Refused(r) => {
-            say(rt, b"refused")?;
-            tell(rt, r.number)?;
-            tell(rt, r.file)?;
-            tell(rt, r.line)?;
-            tell(rt, r.column)
+impl fmt::Display for Answered {
+    fn fmt<W: fmt::Write>(&self, f: &mut fmt::Formatter<W>) -> fmt::Result {
+        match self.0 {
+            Answer::Accepted => write!(f, "accepted"),
+            Answer::Findings { written, total } => write!(f, "findings {written} {total}"),
+            Answer::Refused(refusal) => write!(f, "refused{}", Named(refusal)),
         }
     }
 }
 
-// Writes a number of a table or list after a blank.
-fn tell_signed(rt: &impl Print, z: i32) -> io::Result<()> {
-    say(rt, b" ")?;
-    if z < 0 {
-        say(rt, b"-")?;
-    }
-    rt.print(num::size(z))
+// What a case asks for: the starting place, the profile, and the number of the file whose table is told; none where it is no file's.
+#[derive(Clone, Copy)]
+struct Case {
+    from: Place,
+    asked: Profile,
+    told: usize,
 }
 
-// Writes numbers.
-fn tell_numbers(rt: &impl Print, t: &[i32]) -> io::Result<()> {
-    for z in t {
-        tell_signed(rt, *z)?;
-    }
-    Ok(())
-}
-
-// How many numbers there are up to the last that isn't as lent.
-fn used(t: &[i32]) -> usize
-    ensures { (result ≤ length t.now) × (result ≡ length (take result t.now)) }
+// The numbers of a table up to the last that isn't as lent.
+fn used(t: &[i32]) -> &[i32]
+    ensures { length result.now ≤ length t.now }
 {
-    match t.iter().rposition(|z| *z != LENT) {
-        Some(i) => i + 1,
-        None => 0,
+    match t.iter().rposition(|number| *number != LENT) {
+        Some(last) => &t[..=last],
+        None => &[],
     }
 }
 
-// Writes a table as far as it isn't as lent.
-fn tell_used(rt: &impl Print, name: &[u8], t: &[i32]) -> io::Result<()> {
-    say(rt, name)?;
-    say(rt, b":")?;
-    let n = used(t);
-    tell_numbers(rt, &t[..n])?;
-    say(rt, b"\n")
-}
+// The names of the tables.
+const NAMES: [&str; 6] = [
+    "stops",
+    "routes",
+    "calendar",
+    "trips",
+    "stop_times",
+    "calendar_dates",
+];
 
-// Writes the table of the file whose number is given; none for another mark.
-fn tell_table(
-    rt: &impl Print,
-    file: u8,
-    stops: &[i32],
-    routes: &[i32],
-    calendar: &[i32],
-    trips: &[i32],
-    stop_times: &[i32],
-    calendar_dates: &[i32],
-) -> io::Result<()> {
+// Writes the table of the file whose number is given, as far as it isn't as lent; none for another number.
+fn tell_table(rt: &impl Print, file: usize, tables: &Tables) -> io::Result<()> {
     match file {
-        b'1' => tell_used(rt, b"stops", stops),
-        b'2' => tell_used(rt, b"routes", routes),
-        b'3' => tell_used(rt, b"calendar", calendar),
-        b'4' => tell_used(rt, b"trips", trips),
-        b'5' => tell_used(rt, b"stop_times", stop_times),
-        b'6' => tell_used(rt, b"calendar_dates", calendar_dates),
+        1..=6 => println!(rt; "{}:{}", NAMES[file - 1], Numbers(used(tables.table(file)))),
         _ => Ok(()),
     }
 }
 
-// The digit at a place; 10 where there is none.
+// The byte at a place; 0 where there is none.
+fn byte_at(s: &[u8], i: usize) -> u8 {
+    s.get(i).copied().unwrap_or(0)
+}
+
+// The digit at a place; 10 where there is none, so that a number of other bytes stays one.
 fn digit(s: &[u8], i: usize) -> usize
     ensures { result ≤ 10 }
 {
-    if s.len() <= i {
-        return 10;
+    match byte_at(s, i) {
+        b @ b'0'..=b'9' => (b - b'0') as usize,
+        _ => 10,
     }
-    let b = s[i];
-    if b < 48 {
-        return 10;
-    }
-    if 57 < b {
-        return 10;
-    }
-    (b - 48) as usize
 }
 
 // A digit of base 16.
 fn hex(b: u8) -> u8
     ensures { result < 16 }
 {
-    if b < 48 {
-        return 0;
+    match b {
+        b'0'..=b'9' => b - b'0',
+        b'A'..=b'F' => b - b'A' + 10,
+        _ => 0,
     }
-    if b < 58 {
-        return b - 48;
-    }
-    if b < 65 {
-        return 0;
-    }
-    if b < 71 {
-        return b - 55;
-    }
-    0
 }
 
 // A byte as it is written, and how many bytes that takes.
@@ -162,23 +100,24 @@ fn escaped(c: u8, high: u8, low: u8) -> Written
     ensures { (1 ≤ result.width) × (result.width ≤ 4) }
 {
     match c {
-        110 => Written { byte: 10, width: 2 },
-        114 => Written { byte: 13, width: 2 },
-        116 => Written { byte: 9, width: 2 },
-        120 => Written {
+        b'n' => Written {
+            byte: b'\n',
+            width: 2,
+        },
+        b'r' => Written {
+            byte: b'\r',
+            width: 2,
+        },
+        b't' => Written {
+            byte: b'\t',
+            width: 2,
+        },
+        b'x' => Written {
             byte: hex(high) * 16 + hex(low),
             width: 4,
         },
         _ => Written { byte: c, width: 2 },
     }
-}
-
-// The byte at a place; 0 where there is none.
-fn byte_at(s: &[u8], i: usize) -> u8 {
-    if s.len() <= i {
-        return 0;
-    }
-    s[i]
 }
 
 // The byte that is written at a place.
@@ -187,7 +126,7 @@ fn taken(s: &[u8], i: usize) -> Written
     ensures { (1 ≤ result.width) × (result.width ≤ 4) }
 {
     let b = s[i];
-    if b == 92 {
+    if b == b'\\' {
         return escaped(byte_at(s, i + 1), byte_at(s, i + 2), byte_at(s, i + 3));
     }
     Written { byte: b, width: 1 }
@@ -249,9 +188,13 @@ fn profile_of(mark: u8) -> Profile {
     }
 }
 
-// The profile that a case asks for.
-fn asked_for(l: &[u8]) -> Profile {
-    profile_of(byte_at(l, 2))
+// What a case asks for.
+fn case_of(l: &[u8]) -> Case {
+    Case {
+        from: start_place(l),
+        asked: profile_of(byte_at(l, 2)),
+        told: digit(l, 20),
+    }
 }
 
 // The length of the list.
@@ -259,207 +202,59 @@ fn list_length(l: &[u8]) -> usize {
     digit(l, 0) * 10 + digit(l, 1)
 }
 
-// The first bar from a place on, or the end.
-fn bar(s: &[u8], from: usize) -> usize
-    requires { from ≤ length s.now }
-    ensures { (from ≤ result) × (result ≤ length s.now) }
-{
-    match s[from..].iter().position(|b| *b == b'|') {
-        Some(i) => from + i,
-        None => s.len(),
-    }
-}
-
-// The file after the bar at a place.
-fn part(s: &[u8], at: usize) -> Bounds
-    requires { at ≤ length s.now }
-    ensures { (result.start ≤ result.end) × (result.end ≤ length s.now) }
-{
-    if at == s.len() {
-        return Bounds { start: at, end: at };
-    }
-    Bounds {
-        start: at + 1,
-        end: bar(s, at + 1),
-    }
-}
-
-// A file, or the standard one where = stands for it.
-fn given<'a>(file: &'a [u8], standard: &'a [u8]) -> &'a [u8] {
-    if text::same_bytes(file, b"=") {
-        return standard;
-    }
-    file
+// The six files, each after a bar; = stands for that of the feed without a finding, and one that isn't there has no bytes.
+fn files_of(s: &[u8]) -> [&[u8]; 6] {
+    let mut parts = s.get(1..).unwrap_or(b"").split(|byte| *byte == b'|');
+    GOOD.files().map(|standard| {
+        let part = parts.next();
+        match part {
+            Some(b"=") => standard,
+            Some(file) => file,
+            None => b"",
+        }
+    })
 }
 
 // The check of six files with tables as lent, and the table that is asked for.
-fn check_files<'a>(
+fn check_files(
     rt: &impl Print,
-    stops: &'a [u8],
-    routes: &'a [u8],
-    calendar: &'a [u8],
-    trips: &'a [u8],
-    stop_times: &'a [u8],
-    calendar_dates: &'a [u8],
+    files: [&[u8]; 6],
     list: &mut [i32],
-    from: Place,
-    asked: Profile,
-    told: u8,
+    case: Case,
 ) -> io::Result<Answer> {
-    let mut stops_table = [LENT; 256];
-    let mut routes_table = [LENT; 256];
-    let mut calendar_table = [LENT; 256];
-    let mut trips_table = [LENT; 256];
-    let mut stop_times_table = [LENT; 256];
-    let mut calendar_dates_table = [LENT; 256];
-    let a = tusuchiy::check(
-        [stops, routes, calendar, trips, stop_times, calendar_dates],
-        &mut stops_table,
-        &mut routes_table,
-        &mut calendar_table,
-        &mut trips_table,
-        &mut stop_times_table,
-        &mut calendar_dates_table,
-        list,
-        from,
-        asked,
-    );
-    tell_table(
-        rt,
-        told,
-        &stops_table,
-        &routes_table,
-        &calendar_table,
-        &trips_table,
-        &stop_times_table,
-        &calendar_dates_table,
-    )?;
+    let Case { from, asked, told } = case;
+    let mut tables = Tables {
+        stops: &mut [LENT; 256],
+        routes: &mut [LENT; 256],
+        calendar: &mut [LENT; 256],
+        trips: &mut [LENT; 256],
+        stop_times: &mut [LENT; 256],
+        dates: &mut [LENT; 256],
+    };
+    let a = tusuchiy::check(files, &mut tables, list, from, asked);
+    tell_table(rt, told, &tables)?;
     Ok(a)
 }
 
-// The same, with the standard files for those that aren't given.
-fn check_given<'a>(
-    rt: &impl Print,
-    stops: &'a [u8],
-    routes: &'a [u8],
-    calendar: &'a [u8],
-    trips: &'a [u8],
-    stop_times: &'a [u8],
-    calendar_dates: &'a [u8],
-    list: &mut [i32],
-    from: Place,
-    asked: Profile,
-    told: u8,
-) -> io::Result<Answer> {
-    check_files(
-        rt,
-        given(stops, &STOPS),
-        given(routes, &ROUTES),
-        given(calendar, &CALENDAR),
-        given(trips, &TRIPS),
-        given(stop_times, &TIMES),
-        given(calendar_dates, &DATES),
-        list,
-        from,
-        asked,
-        told,
-    )
-}
-
-// The check of six files, each after a bar.
-fn check_feed(
-    rt: &impl Print,
-    s: &[u8],
-    list: &mut [i32],
-    from: Place,
-    asked: Profile,
-    told: u8,
-) -> io::Result<Answer> {
-    let p = part(s, 0);
-    let stops = p.start;
-    let stops_end = p.end;
-    let p = part(s, stops_end);
-    let routes = p.start;
-    let routes_end = p.end;
-    let p = part(s, routes_end);
-    let calendar = p.start;
-    let calendar_end = p.end;
-    let p = part(s, calendar_end);
-    let trips = p.start;
-    let trips_end = p.end;
-    let p = part(s, trips_end);
-    let times = p.start;
-    let times_end = p.end;
-    let p = part(s, times_end);
-    let dates = p.start;
-    let dates_end = p.end;
-    check_given(
-        rt,
-        &s[stops..stops_end],
-        &s[routes..routes_end],
-        &s[calendar..calendar_end],
-        &s[trips..trips_end],
-        &s[times..times_end],
-        &s[dates..dates_end],
-        list,
-        from,
-        asked,
-        told,
-    )
-}
-
-// The check with a list, and what both say.
-fn run_feed(
-    rt: &impl Print,
-    s: &[u8],
-    list: &mut [i32],
-    from: Place,
-    asked: Profile,
-    told: u8,
-) -> io::Result<()> {
-    tell_answer(rt, check_feed(rt, s, list, from, asked, told)?)?;
-    say(rt, b":")?;
-    tell_numbers(rt, list)?;
-    say(rt, b"\n")
-}
-
-// The check with a list's first numbers.
-fn run_part(
-    rt: &impl Print,
-    s: &[u8],
-    list: &mut [i32],
-    k: usize,
-    from: Place,
-    asked: Profile,
-    told: u8,
-) -> io::Result<()> {
-    if list.len() < k {
-        return Ok(());
-    }
-    run_feed(rt, s, &mut list[..k], from, asked, told)
-}
-
-// A case.
+// A case: the check with a list, and what both say; none where the list is longer than there is room.
 fn run_case(rt: &impl Print, l: &[u8]) -> io::Result<()> {
     let mut buf = [0u8; 4096];
     let n = decode(l, 21, &mut buf);
     let mut list = [99i32; 64];
-    run_part(
-        rt,
-        &buf[..n],
-        &mut list,
-        list_length(l),
-        start_place(l),
-        asked_for(l),
-        byte_at(l, 20),
-    )
+    let length = list_length(l);
+    if list.len() < length {
+        return Ok(());
+    }
+    let list = &mut list[..length];
+    let answer = check_files(rt, files_of(&buf[..n]), list, case_of(l))?;
+    println!(rt; "{}:{}", Answered(answer), Numbers(list))
 }
 
 // A title or a case.
 fn run_line(rt: &impl Print, l: &[u8]) -> io::Result<()> {
-    if byte_at(l, 0) == 35 {
-        say(rt, l)?;
-        say(rt, b"\n")
+    if byte_at(l, 0) == b'#' {
+        rt.write_all(l)?;
+        rt.print("\n")
     } else {
         run_case(rt, l)
     }
@@ -475,32 +270,8 @@ fn run_lines(rt: &impl Print, s: &[u8]) -> io::Result<()> {
     Ok(())
 }
 
-// Room for standard input.
-fn room() -> [u8; 262144]
-    ensures { 262144 ≡ length result }
-{
-    [0; 262144]
-}
-
-// Reads until the room is full or the input ends, and answers how many bytes it read.
-fn read_full(rt: &impl Input, room: &mut [u8]) -> io::Result<usize>
-    ensures { IfOk result (λ n. n ≤ length room.new) }
-{
-    let mut input = rt.reader();
-    let mut n = 0;
-    // No `for`: how far a turn goes is told by the reader.
-    while n < room.len() {
-        let got = input.read(&mut room[n..])?;
-        if got == 0 {
-            return Ok(n);
-        }
-        n += got;
-    }
-    Ok(n)
-}
-
 fn main(rt: HostRuntime) -> io::Result<()> {
-    let mut input = room();
-    let n = read_full(&rt, &mut input)?;
+    let mut input = [0; 262144];
+    let n = casework::read_full(&rt, &mut input)?;
     run_lines(&rt, &input[..n])
 }

@@ -1,6 +1,9 @@
 // Writes and reads records and findings at the edges, and compares them with values found by hand.
 #![tactic(auto)]
 
+ghost use Rattle.std.specs.Prelude.{◌≤◌};
+
+use casework::START;
 use listing::{Listing, Sink};
 use meaning::{Bounds, Place, Time};
 use rows::{
@@ -10,13 +13,9 @@ use rows::{
 use std::io;
 
 // One line: the case, and whether it came out as expected.
-fn told(rt: &impl Print, name: &[u8], good: bool) -> io::Result<()> {
-    rt.write_all(name)?;
-    if good {
-        rt.write_all(b" good\n")
-    } else {
-        rt.write_all(b" DIFFERS\n")
-    }
+fn told(rt: &impl Print, name: &str, good: bool) -> io::Result<()> {
+    let word = if good { "good" } else { "DIFFERS" };
+    println!(rt; "{name} {word}")
 }
 
 // The places of a second record's id and of its parent's field wait; then its parent, which goes to its number, and negative coordinates.
@@ -28,15 +27,15 @@ fn stops(rt: &impl Print) -> io::Result<()> {
     rows::cells::put_places(&mut t, 1, Stops::WIDTH, id, 0, field);
     told(
         rt,
-        b"places",
+        "places",
         t == [7, 7, 7, 7, 7, 7, 7, 36, 37, 0, 41, 44, 0, 0, 7],
     )?;
     let place = StopRow::new(1).waiting_at(&t);
-    told(rt, b"waiting", place.start == 41 && place.end == 44)?;
+    told(rt, "waiting", place.start == 41 && place.end == 44)?;
     StopRow::new(1).settle(&mut t, StopRow::new(3));
     told(
         rt,
-        b"settled",
+        "settled",
         t == [7, 7, 7, 7, 7, 7, 7, 36, 37, 0, 41, 44, 0, 3, 7],
     )?;
     Stops::put(&mut t, StopRow::new(1), id, -338674999, -1800000000, 2, 1);
@@ -57,7 +56,7 @@ fn stops(rt: &impl Print) -> io::Result<()> {
         1,
         7,
     ];
-    told(rt, b"stops", t == want)
+    told(rt, "stops", t == want)
 }
 
 // Record 0 and a record of the largest number.
@@ -69,7 +68,7 @@ fn routes(rt: &impl Print) -> io::Result<()> {
     };
     rows::cells::zero_record(&mut t, Routes::WIDTH);
     Routes::put(&mut t, RouteRow::new(1), id, 12);
-    told(rt, b"routes", t == [0, 0, 0, 39, 2147483647, 12, 7])
+    told(rt, "routes", t == [0, 0, 0, 39, 2147483647, 12, 7])
 }
 
 // The first and the last date.
@@ -77,7 +76,7 @@ fn calendar(rt: &impl Print) -> io::Result<()> {
     let mut t = [7i32; 6];
     let id = Bounds { start: 0, end: 0 };
     Calendar::put(&mut t, ServiceRow::new(0), id, 127, 10101, 99991231);
-    told(rt, b"calendar", t == [0, 0, 127, 10101, 99991231, 7])
+    told(rt, "calendar", t == [0, 0, 127, 10101, 99991231, 7])
 }
 
 // No direction. The place of the service's field waits, with zeros behind it; the eighth number is settled, and stays when the others are written.
@@ -86,9 +85,9 @@ fn trips(rt: &impl Print) -> io::Result<()> {
     let id = Bounds { start: 5, end: 6 };
     let field = Bounds { start: 7, end: 10 };
     rows::cells::put_places(&mut t, 0, Trips::WIDTH, id, 0, field);
-    told(rt, b"a service waits", t == [5, 6, 0, 7, 10, 0, 0, 0, 7])?;
+    told(rt, "a service waits", t == [5, 6, 0, 7, 10, 0, 0, 0, 7])?;
     let place = TripRow::new(0).waiting_at(&t);
-    told(rt, b"its place", place.start == 7 && place.end == 10)?;
+    told(rt, "its place", place.start == 7 && place.end == 10)?;
     TripRow::new(0).settle(&mut t, DateRow::new(65535));
     Trips::put(
         &mut t,
@@ -100,10 +99,10 @@ fn trips(rt: &impl Print) -> io::Result<()> {
         2,
         1,
     );
-    told(rt, b"trips", t == [5, 6, 0, 65535, -1, 2, 1, 65535, 7])?;
+    told(rt, "trips", t == [5, 6, 0, 65535, -1, 2, 1, 65535, 7])?;
     told(
         rt,
-        b"a trip's dates",
+        "a trip's dates",
         Trips::dated_at(&t, TripRow::new(0)).0 == 65535,
     )
 }
@@ -116,28 +115,21 @@ fn dates(rt: &impl Print) -> io::Result<()> {
     rows::cells::put_places(&mut t, 1, Dates::WIDTH, id, 99991231, none);
     told(
         rt,
-        b"a date waits",
+        "a date waits",
         t == [7, 7, 7, 7, 31, 34, 99991231, 0, 7],
     )?;
     Dates::put(&mut t, DateRow::new(1), id, 99991231, 2);
     told(
         rt,
-        b"calendar_dates",
+        "calendar_dates",
         t == [7, 7, 7, 7, 31, 34, 99991231, 2, 7],
     )?;
     let date = Dates::date_at(&t, DateRow::new(1)) == 99991231;
     told(
         rt,
-        b"date and type",
+        "date and type",
         date && Dates::kind_at(&t, DateRow::new(1)) == 2,
     )
-}
-
-// The order's cell of record 1 of stop_times is used.
-fn order(t: &mut [i32]) {
-    if 15 < t.len() {
-        t[15] = 9;
-    }
 }
 
 // A record that waits, with the largest stop and trip_id, no trip and no timepoint; settled, whatever stands in the order's cell. The record before and what follows stay.
@@ -163,13 +155,13 @@ fn waiting_times(rt: &impl Print) -> io::Result<()> {
     let waits = [
         7, 7, 7, 7, 7, 7, 7, 7, 0, 2147483636, 999999999, -1, 359999, 41, 2147483647, 0, 7,
     ];
-    told(rt, b"stop_times wait", t == waits)?;
-    order(&mut t);
+    told(rt, "stop_times wait", t == waits)?;
+    t[15] = 9;
     StopTimes::settle(&mut t, TimeRow::new(1));
     let settled = [
         7, 7, 7, 7, 7, 7, 7, 7, 0, 33554431, 999999999, -1, 359999, 3, 1, -1, 7,
     ];
-    told(rt, b"stop_times settled", t == settled)
+    told(rt, "stop_times settled", t == settled)
 }
 
 // Timepoints 0 and 1, in two records.
@@ -205,21 +197,21 @@ fn timepoints(rt: &impl Print) -> io::Result<()> {
     let waits = [
         1, 154, 4, 28800, -1, 0, 1, 0, 2147483647, 13, 0, 0, 0, 0, 1, 0,
     ];
-    told(rt, b"timepoints wait", t == waits)?;
+    told(rt, "timepoints wait", t == waits)?;
     StopTimes::settle(&mut t, TimeRow::new(0));
     StopTimes::settle(&mut t, TimeRow::new(1));
     let settled = [1, 2, 4, 28800, -1, 1, 2, 1, 2147483647, 0, 0, 0, 0, 0, 3, 0];
-    told(rt, b"timepoints settled", t == settled)
+    told(rt, "timepoints settled", t == settled)
 }
 
 // A negative number is one past every file and every record.
 fn negative(rt: &impl Print) -> io::Result<()> {
     let t = [36, -1, -338674999, 1800000000, 2, -2147483648, 1];
     let id = StopRow::new(0).id_at(&t);
-    told(rt, b"id", id.start == 36 && id.end == 4294967295)?;
+    told(rt, "id", id.start == 36 && id.end == 4294967295)?;
     told(
         rt,
-        b"parent",
+        "parent",
         Stops::parent_at(&t, StopRow::new(0)).0 == 4294967295,
     )
 }
@@ -230,47 +222,29 @@ fn outside(rt: &impl Print) -> io::Result<()> {
     let id = StopRow::new(1).id_at(&t);
     told(
         rt,
-        b"cut",
+        "cut",
         id.end == 51 && Stops::kind_at(&t, StopRow::new(1)) == 0,
     )?;
     told(
         rt,
-        b"far",
+        "far",
         Stops::kind_at(&t, StopRow::new(18446744073709551615)) == 0,
     )
-}
-
-// Whether a time is so many seconds.
-fn lasts(x: Time, n: u32) -> bool {
-    match x {
-        Time::Seconds(s) => s == n,
-        Time::Untimed => false,
-        Time::NoTime => false,
-    }
-}
-
-// Whether there is no time.
-fn untimed(x: Time) -> bool {
-    match x {
-        Time::Seconds(_) => false,
-        Time::Untimed => true,
-        Time::NoTime => false,
-    }
 }
 
 // Times: 0 is midnight, -1 is none.
 fn times(rt: &impl Print) -> io::Result<()> {
     let t = [9, 8, 999999999, -1, 0, 0, 0, 1];
-    let none = untimed(StopTimes::arrival_at(&t, TimeRow::new(0)));
-    told(
-        rt,
-        b"times",
-        none && lasts(StopTimes::departure_at(&t, TimeRow::new(0)), 0),
-    )?;
+    let none = matches!(StopTimes::arrival_at(&t, TimeRow::new(0)), Time::Untimed);
+    let midnight = matches!(
+        StopTimes::departure_at(&t, TimeRow::new(0)),
+        Time::Seconds(0)
+    );
+    told(rt, "times", none && midnight)?;
     let sequence = StopTimes::sequence_at(&t, TimeRow::new(0)) == 999999999;
     told(
         rt,
-        b"sequence",
+        "sequence",
         sequence && StopTimes::timepoint_at(&t, TimeRow::new(0)) == 1,
     )
 }
@@ -281,7 +255,7 @@ fn references(rt: &impl Print) -> io::Result<()> {
     let trip = StopTimes::trip_at(&t, TimeRow::new(1)).0 == 4;
     told(
         rt,
-        b"references",
+        "references",
         trip && StopTimes::stop_at(&t, TimeRow::new(1)).0 == 5,
     )
 }
@@ -301,94 +275,51 @@ fn noted(out: &mut [i32], from: Place) -> Sink {
     list.sink
 }
 
-// A call with a lent list, from a starting place: the list, the written and the total.
-fn page(
+// A call with a list as lent, from a starting place: what it leaves in the list, and how many are written.
+fn page<const N: usize>(
     rt: &impl Print,
-    name: &[u8],
-    t: &mut [i32],
+    name: &str,
     p: Place,
-    want: &[i32],
+    want: [i32; N],
     written: usize,
-) -> io::Result<()> {
-    let k = noted(t, p);
-    told(
-        rt,
-        name,
-        &*t == want && k.written == written && k.total == 3,
-    )
+) -> io::Result<()>
+    requires { N ≤ 13 }
+{
+    let mut t = [9i32; N];
+    let k = noted(&mut t, p);
+    told(rt, name, t == want && k.written == written && k.total == 3)
 }
 
 // Lists too short for a finding.
 fn no_room(rt: &impl Print) -> io::Result<()> {
-    let p = Place {
-        file: 0,
-        line: 0,
-        rule: 0,
-    };
-    let mut t0 = [9i32; 0];
-    page(rt, b"none in 0", &mut t0, p, &[9i32; 0], 0)?;
-    let mut t1 = [9i32; 1];
-    page(rt, b"none in 1", &mut t1, p, &[9], 0)?;
-    let mut t2 = [9i32; 2];
-    page(rt, b"none in 2", &mut t2, p, &[9, 9], 0)
+    page(rt, "none in 0", START, [], 0)?;
+    page(rt, "none in 1", START, [9], 0)?;
+    page(rt, "none in 2", START, [9, 9], 0)
 }
 
 // Lists for one, two and more, with a rest that stays.
 fn rooms(rt: &impl Print) -> io::Result<()> {
-    let p = Place {
-        file: 0,
-        line: 0,
-        rule: 0,
-    };
-    let mut t4 = [9i32; 4];
-    page(rt, b"one in 4", &mut t4, p, &[1, 2, 20, 9], 1)?;
-    let mut t8 = [9i32; 8];
-    page(rt, b"two in 8", &mut t8, p, &[1, 2, 20, 4, 3, 21, 9, 9], 2)?;
-    let mut t13 = [9i32; 13];
-    page(
-        rt,
-        b"all in 13",
-        &mut t13,
-        p,
-        &[1, 2, 20, 4, 3, 21, 4, 3, 30, 9, 9, 9, 9],
-        3,
-    )
+    page(rt, "one in 4", START, [1, 2, 20, 9], 1)?;
+    page(rt, "two in 8", START, [1, 2, 20, 4, 3, 21, 9, 9], 2)?;
+    let all = [1, 2, 20, 4, 3, 21, 4, 3, 30, 9, 9, 9, 9];
+    page(rt, "all in 13", START, all, 3)
 }
 
-// A call from a starting place, into a list for two.
-fn from(
-    rt: &impl Print,
-    name: &[u8],
-    file: i32,
-    line: i32,
-    rule: i32,
-    want: &[i32],
-    written: usize,
-) -> io::Result<()> {
-    let mut t = [9i32; 7];
-    page(rt, name, &mut t, Place { file, line, rule }, want, written)
-}
+// Calls from starting places, into lists for two: before the findings, at one, between two, at the last and beyond it.
+const STARTS: [(&str, i32, i32, i32, [i32; 7], usize); 6] = [
+    ("negative", -1, 99, 99, [1, 2, 20, 4, 3, 21, 9], 2),
+    ("at the first", 1, 2, 20, [4, 3, 21, 4, 3, 30, 9], 2),
+    ("lowest line", 4, i32::MIN, 99, [4, 3, 21, 4, 3, 30, 9], 2),
+    ("between rules", 4, 3, 22, [4, 3, 30, 9, 9, 9, 9], 1),
+    ("at the last", 4, 3, 30, [9; 7], 0),
+    ("beyond", i32::MAX, -1, -1, [9; 7], 0),
+];
 
-// Starting places before the findings, at one and between two.
 fn starts(rt: &impl Print) -> io::Result<()> {
-    from(rt, b"negative", -1, 99, 99, &[1, 2, 20, 4, 3, 21, 9], 2)?;
-    from(rt, b"at the first", 1, 2, 20, &[4, 3, 21, 4, 3, 30, 9], 2)?;
-    from(
-        rt,
-        b"lowest line",
-        4,
-        -2147483648,
-        99,
-        &[4, 3, 21, 4, 3, 30, 9],
-        2,
-    )?;
-    from(rt, b"between rules", 4, 3, 22, &[4, 3, 30, 9, 9, 9, 9], 1)
-}
-
-// Starting places at the last finding and beyond it.
-fn ends(rt: &impl Print) -> io::Result<()> {
-    from(rt, b"at the last", 4, 3, 30, &[9, 9, 9, 9, 9, 9, 9], 0)?;
-    from(rt, b"beyond", 2147483647, -1, -1, &[9, 9, 9, 9, 9, 9, 9], 0)
+    for (name, file, line, rule, want, written) in STARTS {
+        page(rt, name, Place { file, line, rule }, want, written)?;
+    }
+    Ok(())
 }
 
 // All tables.
@@ -415,6 +346,5 @@ fn main(rt: HostRuntime) -> io::Result<()> {
     cells(&rt)?;
     no_room(&rt)?;
     rooms(&rt)?;
-    starts(&rt)?;
-    ends(&rt)
+    starts(&rt)
 }

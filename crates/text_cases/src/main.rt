@@ -3,86 +3,56 @@
 
 ghost use Rattle.std.specs.Prelude.{◌+◌, ◌≤◌, length};
 
+use meaning::Bounds;
 use std::io;
 use text::Cursor;
 
-// Writes bytes.
-fn say(rt: &impl Print, word: &[u8]) -> io::Result<()> {
-    rt.write_all(word)
+// A word where a fact holds, and nothing where it doesn't.
+fn where_so(word: &str, holds: bool) -> &str {
+    if holds { word } else { "" }
 }
 
-// Writes a name and a number.
-fn count(rt: &impl Print, name: &[u8], n: usize) -> io::Result<()> {
-    say(rt, name)?;
-    rt.print(n)
-}
-
-// Writes a name where it holds.
-fn flag(rt: &impl Print, name: &[u8], holds: bool) -> io::Result<()> {
-    if holds {
-        say(rt, name)?;
-    }
-    Ok(())
-}
-
-// Writes what the value of a raw field is like.
-fn value(rt: &impl Print, raw: &[u8]) -> io::Result<()> {
-    count(rt, b" value ", text::value_length(raw))?;
-    flag(rt, b" empty", text::is_empty_value(raw))?;
-    flag(rt, b" quoted", text::is_marked(raw))
-}
-
-// Writes what stands inside the quotes of a raw field.
-fn content(rt: &impl Print, raw: &[u8]) -> io::Result<()> {
-    let s = text::content_of(raw);
-    say(rt, b" |")?;
-    say(rt, s)?;
-    say(rt, b"|\n")
-}
-
-// Writes a field: its bounds, its value and its content.
-fn field(rt: &impl Print, start: usize, end: usize, raw: &[u8]) -> io::Result<()> {
-    count(rt, b"   ", start)?;
-    count(rt, b"-", end)?;
-    value(rt, raw)?;
-    content(rt, raw)
-}
-
-// Writes what rules 5 to 7 ask of a line.
-fn told(rt: &impl Print, l: &[u8]) -> io::Result<()> {
-    let m = text::measure(l);
-    flag(rt, b" stray", text::has_stray(l))?;
-    flag(rt, b" good", m.good)?;
-    count(rt, b" fields ", m.fields)?;
-    say(rt, b"\n")
+// Writes a field: its bounds, what its value is like, and what stands inside its quotes.
+fn field(rt: &impl Print, at: Bounds, raw: &[u8]) -> io::Result<()> {
+    let length = text::value_length(raw);
+    let empty = where_so(" empty", text::is_empty_value(raw));
+    let quoted = where_so(" quoted", text::is_marked(raw));
+    print!(rt;
+        "   {}-{} value {length}{empty}{quoted} |",
+        at.start, at.end
+    )?;
+    rt.write_all(text::content_of(raw))?;
+    rt.print("|\n")
 }
 
 // Writes the fields of a line.
 fn fields(rt: &impl Print, l: &[u8]) -> io::Result<()> {
     let mut c = Cursor::new();
     while let Some((bounds, next)) = c.next(l) {
-        field(rt, bounds.start, bounds.end, &l[bounds.start..bounds.end])?;
+        field(rt, bounds, &l[bounds.start..bounds.end])?;
         c = next;
     }
     Ok(())
 }
 
-// Writes a line: its bounds and the next one's start, what is asked of it, and its fields.
-fn line(rt: &impl Print, start: usize, end: usize, next: usize, l: &[u8]) -> io::Result<()> {
-    count(rt, b"  line ", start)?;
-    count(rt, b"-", end)?;
-    count(rt, b" next ", next)?;
-    told(rt, l)?;
+// Writes a line: its bounds and the next one's start, what rules 5 to 7 ask of it, and its fields.
+fn line(rt: &impl Print, at: Bounds, next: usize, l: &[u8]) -> io::Result<()> {
+    let stray = where_so(" stray", text::has_stray(l));
+    let m = text::measure(l);
+    let good = where_so(" good", m.good);
+    println!(rt;
+        "  line {}-{} next {next}{stray}{good} fields {}",
+        at.start, at.end, m.fields
+    )?;
     fields(rt, l)
 }
 
 // Writes what rules 1 to 4 ask of a file.
 fn whole(rt: &impl Print, s: &[u8]) -> io::Result<()> {
-    count(rt, b"file ", s.len())?;
-    count(rt, b" starts ", text::body_start(s))?;
-    count(rt, b" lf ", text::count_lf(s))?;
-    flag(rt, b" ended", text::ends_with_lf(s))?;
-    say(rt, b"\n")
+    let starts = text::body_start(s);
+    let lf = text::count_lf(s);
+    let ended = where_so(" ended", text::ends_with_lf(s));
+    println!(rt; "file {} starts {starts} lf {lf}{ended}", s.len())
 }
 
 // Writes a file: what is asked of it, and its lines.
@@ -90,77 +60,74 @@ fn file(rt: &impl Print, s: &[u8]) -> io::Result<()> {
     whole(rt, s)?;
     let mut at = text::body_start(s);
     while let Some((bounds, next)) = text::next_line(s, at) {
-        line(
-            rt,
-            bounds.start,
-            bounds.end,
-            next,
-            &s[bounds.start..bounds.end],
-        )?;
+        line(rt, bounds, next, &s[bounds.start..bounds.end])?;
         at = next;
     }
     Ok(())
 }
 
-// Writes two raw fields.
-fn both(rt: &impl Print, a: &[u8], b: &[u8]) -> io::Result<()> {
-    say(rt, a)?;
-    say(rt, b" and ")?;
-    say(rt, b)
+// Writes each file.
+fn files(rt: &impl Print, cases: &[&[u8]]) -> io::Result<()> {
+    for s in cases {
+        file(rt, s)?;
+    }
+    Ok(())
 }
 
 // Writes whether two raw fields are equal by value, and whether the first one's value is the second one as it stands.
 fn pair(rt: &impl Print, a: &[u8], b: &[u8]) -> io::Result<()> {
-    both(rt, a, b)?;
-    flag(rt, b" same value", text::same_value(a, b))?;
-    flag(rt, b" is name", text::is_name(a, b))?;
-    flag(rt, b" same bytes", text::same_bytes(a, b))?;
-    say(rt, b"\n")
+    let value = where_so(" same value", text::same_value(a, b));
+    let name = where_so(" is name", text::is_name(a, b));
+    let bytes = where_so(" same bytes", text::same_bytes(a, b));
+    rt.write_all(a)?;
+    rt.print(" and ")?;
+    rt.write_all(b)?;
+    println!(rt; "{value}{name}{bytes}")
 }
 
 // The mark at a file's start is dropped once, and only whole.
-fn marks(rt: &impl Print) -> io::Result<()> {
-    file(rt, b"")?;
-    file(rt, b"\xEF\xBB\xBF")?;
-    file(rt, b"\xEF\xBB\xBF\n")?;
-    file(rt, b"\xEF\xBB\xBF\r\n")?;
-    file(rt, b"\xEF\xBB\xBF\xEF\xBB\xBFa\n")?;
-    file(rt, b"\xEF\xBBa\n")?;
-    file(rt, b"a\xEF\xBB\xBF\n")
-}
+const MARKS: [&[u8]; 7] = [
+    b"",
+    b"\xEF\xBB\xBF",
+    b"\xEF\xBB\xBF\n",
+    b"\xEF\xBB\xBF\r\n",
+    b"\xEF\xBB\xBF\xEF\xBB\xBFa\n",
+    b"\xEF\xBBa\n",
+    b"a\xEF\xBB\xBF\n",
+];
 
 // A line ends with LF, and one CR directly before it belongs to the ending.
-fn endings(rt: &impl Print) -> io::Result<()> {
-    file(rt, b"a")?;
-    file(rt, b"\n")?;
-    file(rt, b"\r\n")?;
-    file(rt, b"a\r\nb\nc\r\n")?;
-    file(rt, b"a\r\r\n")?;
-    file(rt, b"a\rb\n")?;
-    file(rt, b"a\n\n\r\nb")
-}
+const ENDINGS: [&[u8]; 7] = [
+    b"a",
+    b"\n",
+    b"\r\n",
+    b"a\r\nb\nc\r\n",
+    b"a\r\r\n",
+    b"a\rb\n",
+    b"a\n\n\r\nb",
+];
 
 // Tab and CR outside an ending; other control bytes are bytes.
-fn strays(rt: &impl Print) -> io::Result<()> {
-    file(rt, b"a\tb\n")?;
-    file(rt, b"\"a\tb\"\n")?;
-    file(rt, b"\r\r\n")?;
-    file(rt, b"\x01\x0B\x0C\n")?;
-    file(rt, b"\"a\r\n")?;
-    file(rt, b"\"a\nb\"\n")
-}
+const STRAYS: [&[u8]; 6] = [
+    b"a\tb\n",
+    b"\"a\tb\"\n",
+    b"\r\r\n",
+    b"\x01\x0B\x0C\n",
+    b"\"a\r\n",
+    b"\"a\nb\"\n",
+];
 
 // The quoting table at each of its cells.
-fn quoting(rt: &impl Print) -> io::Result<()> {
-    file(rt, b",\na,\n,a\na,b,c\n")?;
-    file(rt, b"\"a\"\"b\",c\n")?;
-    file(rt, b"a\"b\n\"a\"b\n")?;
-    file(rt, b"\"a\" ,b\n \"a\",b\n")?;
-    file(rt, b"\"\"\n\"\"\"\"\n\"\"\"\n\"\n")?;
-    file(rt, b"\"a,b\",\"\",c\n")?;
-    file(rt, b"\"a\",\"b\"\"\",\"\"\"c\"\n")?;
-    file(rt, b"a\"b,c\"d,e\n")
-}
+const QUOTING: [&[u8]; 8] = [
+    b",\na,\n,a\na,b,c\n",
+    b"\"a\"\"b\",c\n",
+    b"a\"b\n\"a\"b\n",
+    b"\"a\" ,b\n \"a\",b\n",
+    b"\"\"\n\"\"\"\"\n\"\"\"\n\"\n",
+    b"\"a,b\",\"\",c\n",
+    b"\"a\",\"b\"\"\",\"\"\"c\"\n",
+    b"a\"b,c\"d,e\n",
+];
 
 // Bytes that are all one.
 fn filled(b: u8) -> [u8; 500] {
@@ -184,55 +151,64 @@ fn block(rt: &impl Print, n: usize) -> io::Result<()>
     ended(rt, b'a', n)
 }
 
+// The same at a number of bytes, at one less and at one more.
+fn around(rt: &impl Print, middle: usize) -> io::Result<()>
+    requires { (2 ≤ middle) × (middle ≤ 499) }
+{
+    for n in middle - 1..middle + 2 {
+        block(rt, n)?;
+    }
+    Ok(())
+}
+
 // LF bytes are counted to the end, however many bytes a turn counts.
 fn blocks(rt: &impl Print) -> io::Result<()> {
-    block(rt, 7)?;
-    block(rt, 8)?;
-    block(rt, 9)?;
-    block(rt, 223)?;
-    block(rt, 224)?;
-    block(rt, 225)?;
-    block(rt, 255)?;
-    block(rt, 256)?;
-    block(rt, 257)?;
-    block(rt, 447)?;
-    block(rt, 448)?;
-    block(rt, 449)
+    around(rt, 8)?;
+    around(rt, 224)?;
+    around(rt, 256)?;
+    around(rt, 448)
 }
 
 // Writes a line, how many fields it has, and a table of four in which the places past their ends are noted from number 1 on; 9 stands where none is.
 fn past(rt: &impl Print, l: &[u8]) -> io::Result<()> {
     let mut t = [9usize; 4];
     let m = text::walk_fields(l, &mut t);
-    say(rt, l)?;
-    flag(rt, b" good", m.good)?;
-    count(rt, b" fields ", m.fields)?;
-    count(rt, b" past ", t[0])?;
-    count(rt, b" ", t[1])?;
-    count(rt, b" ", t[2])?;
-    count(rt, b" ", t[3])?;
-    say(rt, b"\n")
+    let good = where_so(" good", m.good);
+    rt.write_all(l)?;
+    println!(rt;
+        "{good} fields {} past {} {} {} {}",
+        m.fields, t[0], t[1], t[2], t[3]
+    )
 }
 
 // The next field begins past the end of the one before; a table that is too short has the first of them.
+const STARTS: [&[u8]; 10] = [
+    b"",
+    b"a",
+    b"a,b",
+    b",,",
+    b"a,b,c,d",
+    b"\"a,b\",c",
+    b"\"a\"\"\",b",
+    b"\"a,b",
+    b"a\"b,c",
+    b"a,\"b\"c,de",
+];
+
 fn starts(rt: &impl Print) -> io::Result<()> {
-    past(rt, b"")?;
-    past(rt, b"a")?;
-    past(rt, b"a,b")?;
-    past(rt, b",,")?;
-    past(rt, b"a,b,c,d")?;
-    past(rt, b"\"a,b\",c")?;
-    past(rt, b"\"a\"\"\",b")?;
-    past(rt, b"\"a,b")?;
-    past(rt, b"a\"b,c")?;
-    past(rt, b"a,\"b\"c,de")
+    for l in STARTS {
+        past(rt, l)?;
+    }
+    Ok(())
 }
 
-// Writes a word into bytes, from `at` on.
+// Writes a word into bytes, from `at` on, as far as there is room.
 fn put(s: &mut [u8], at: usize, word: &[u8])
-    requires { at + length word.now ≤ length s.old }
+    requires { at ≤ length s.old }
 {
-    s[at..at + word.len()].copy_from_slice(word);
+    for (to, from) in s[at..].iter_mut().zip(word) {
+        *to = *from;
+    }
 }
 
 // Writes what a walk tells of a line: whether it is good, how many fields are told, and the places past the ends of fields 32, 33 and 34; 9 stands where
@@ -240,24 +216,21 @@ fn put(s: &mut [u8], at: usize, word: &[u8])
 fn walked(rt: &impl Print, l: &[u8]) -> io::Result<()> {
     let mut t = [9usize; 40];
     let m = text::walk_fields(l, &mut t);
-    flag(rt, b" good", m.good)?;
-    count(rt, b" fields ", m.fields)?;
-    count(rt, b" past ", t[32])?;
-    count(rt, b" ", t[33])?;
-    count(rt, b" ", t[34])?;
-    say(rt, b"\n")
+    let good = where_so(" good", m.good);
+    println!(rt;
+        "{good} fields {} past {} {} {}",
+        m.fields, t[32], t[33], t[34]
+    )
 }
 
 // Writes it of n commas with a word in their midst, from `at` on.
 fn long(rt: &impl Print, n: usize, at: usize, word: &[u8]) -> io::Result<()>
-    requires { (at + length word.now ≤ 500) × (n ≤ 500) }
+    requires { (at ≤ 500) × (n ≤ 500) }
 {
     let mut s = filled(b',');
     put(&mut s, at, word);
-    count(rt, b"commas ", n)?;
-    count(rt, b" from ", at)?;
-    say(rt, b" ")?;
-    say(rt, word)?;
+    print!(rt; "commas {n} from {at} ")?;
+    rt.write_all(word)?;
     walked(rt, &s[..n])
 }
 
@@ -277,15 +250,15 @@ fn lengths(rt: &impl Print) -> io::Result<()> {
 }
 
 // Quoting past field 33, good and bad, with its first mark at a byte.
+const QUOTES: [&[u8]; 6] = [b"\"", b"\"\"", b"\"\"a", b"\"a\"", b"a\"", b"\"\"\""];
+
 fn quotes(rt: &impl Print, at: usize) -> io::Result<()>
     requires { at ≤ 400 }
 {
-    long(rt, 100, at, b"\"")?;
-    long(rt, 100, at, b"\"\"")?;
-    long(rt, 100, at, b"\"\"a")?;
-    long(rt, 100, at, b"\"a\"")?;
-    long(rt, 100, at, b"a\"")?;
-    long(rt, 100, at, b"\"\"\"")
+    for word in QUOTES {
+        long(rt, 100, at, word)?;
+    }
+    Ok(())
 }
 
 // The same from byte to byte.
@@ -318,22 +291,29 @@ fn rests(rt: &impl Print) -> io::Result<()> {
 }
 
 // Names and ids are compared by value; case and spaces count.
+const PAIRS: [(&[u8], &[u8]); 8] = [
+    (b"\"A\"", b"A"),
+    (b"A", b"\"A\""),
+    (b"A", b"A"),
+    (b"a", b"A"),
+    (b"A ", b"A"),
+    (b"\"\"", b""),
+    (b"\"a\"\"b\"", b"a\"b"),
+    (b"\"ab\"", b"\"ab\""),
+];
+
 fn values(rt: &impl Print) -> io::Result<()> {
-    pair(rt, b"\"A\"", b"A")?;
-    pair(rt, b"A", b"\"A\"")?;
-    pair(rt, b"A", b"A")?;
-    pair(rt, b"a", b"A")?;
-    pair(rt, b"A ", b"A")?;
-    pair(rt, b"\"\"", b"")?;
-    pair(rt, b"\"a\"\"b\"", b"a\"b")?;
-    pair(rt, b"\"ab\"", b"\"ab\"")
+    for (a, b) in PAIRS {
+        pair(rt, a, b)?;
+    }
+    Ok(())
 }
 
 fn main(rt: HostRuntime) -> io::Result<()> {
-    marks(&rt)?;
-    endings(&rt)?;
-    strays(&rt)?;
-    quoting(&rt)?;
+    files(&rt, &MARKS)?;
+    files(&rt, &ENDINGS)?;
+    files(&rt, &STRAYS)?;
+    files(&rt, &QUOTING)?;
     blocks(&rt)?;
     starts(&rt)?;
     lengths(&rt)?;

@@ -1,6 +1,6 @@
 -- The room that is left; it keeps its length.
 use Rattle.std.proofs.Common.{length, ◌-◌, ◌≤◌, ◌≡◌}
-use Rattle.forms_cases.proofs.read_full.Given as goal
+use Rattle.casework.proofs.read_full.Given as goal
 
 abbrev pub invariant-loop-n : goal.invariant-loop-n
 invariant-loop-n g l = (l.n ≤ length l.room) × (length l.room ≡ length l.initial.room)

@@ -1,0 +1,2 @@
+-- How numbers and a refusal are told.
+pub mod Told

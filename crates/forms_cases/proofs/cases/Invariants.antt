@@ -1,9 +1,0 @@
--- The bytes that are left, and one for the end.
-use Rattle.std.proofs.Common.{length, ◌-◌, ◌≤◌, ◌+◌}
-use Rattle.forms_cases.proofs.cases.Given as goal
-
-abbrev pub invariant-loop-at : goal.invariant-loop-at
-invariant-loop-at g l = l.at ≤ length l.s + 1
-
-abbrev pub decreases-loop-at : goal.decreases-loop-at
-decreases-loop-at g l = length l.s + 1 - l.at
