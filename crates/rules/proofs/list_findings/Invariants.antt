@@ -18,4 +18,4 @@ invariant-loop-f l =
     SameList l.initial.list l.list
     × ((1 ≤ l.f) × ((l.f ≤ 7) × ((l.list.sink.total ≤ l.initial.list.sink.total + rule_sum (l.f - 1) * max_lines)
     × ((w : Feed) → Tabled w l.counts (held l.tables) l.marks
-    → noting l.initial.list.from (flat (map (bindings_of l.asked w) (drop (l.f - 1) file_numbers))) (state l.list.out.now l.list.sink) ≡ noting l.initial.list.from (bindings l.asked w) (state l.initial.list.out.now l.initial.list.sink)))))
+    → noting l.initial.list.from (flat (map (bindings_of l.fn.asked w) (drop (l.f - 1) file_numbers))) (state l.list.out.now l.list.sink) ≡ noting l.initial.list.from (bindings l.fn.asked w) (state l.initial.list.out.now l.initial.list.sink)))))
