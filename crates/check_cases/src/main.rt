@@ -4,6 +4,7 @@
 
 ghost use Rattle.std.specs.Prelude.{◌<◌, ◌≤◌, ◌≡◌, IfOk, length, take};
 
+use lent::Tables;
 use meaning::{Answer, Bounds, Place, Profile};
 use std::io;
 use std::io::Read;
@@ -93,23 +94,14 @@ fn tell_used(rt: &impl Print, name: &[u8], t: &[i32]) -> io::Result<()> {
 }
 
 // Writes the table of the file whose number is given; none for another mark.
-fn tell_table(
-    rt: &impl Print,
-    file: u8,
-    stops: &[i32],
-    routes: &[i32],
-    calendar: &[i32],
-    trips: &[i32],
-    stop_times: &[i32],
-    calendar_dates: &[i32],
-) -> io::Result<()> {
+fn tell_table(rt: &impl Print, file: u8, tables: &Tables) -> io::Result<()> {
     match file {
-        b'1' => tell_used(rt, b"stops", stops),
-        b'2' => tell_used(rt, b"routes", routes),
-        b'3' => tell_used(rt, b"calendar", calendar),
-        b'4' => tell_used(rt, b"trips", trips),
-        b'5' => tell_used(rt, b"stop_times", stop_times),
-        b'6' => tell_used(rt, b"calendar_dates", calendar_dates),
+        b'1' => tell_used(rt, b"stops", tables.stops),
+        b'2' => tell_used(rt, b"routes", tables.routes),
+        b'3' => tell_used(rt, b"calendar", tables.calendar),
+        b'4' => tell_used(rt, b"trips", tables.trips),
+        b'5' => tell_used(rt, b"stop_times", tables.stop_times),
+        b'6' => tell_used(rt, b"calendar_dates", tables.dates),
         _ => Ok(()),
     }
 }
@@ -306,34 +298,17 @@ fn check_files<'a>(
     asked: Profile,
     told: u8,
 ) -> io::Result<Answer> {
-    let mut stops_table = [LENT; 256];
-    let mut routes_table = [LENT; 256];
-    let mut calendar_table = [LENT; 256];
-    let mut trips_table = [LENT; 256];
-    let mut stop_times_table = [LENT; 256];
-    let mut calendar_dates_table = [LENT; 256];
-    let a = tusuchiy::check(
-        [stops, routes, calendar, trips, stop_times, calendar_dates],
-        &mut stops_table,
-        &mut routes_table,
-        &mut calendar_table,
-        &mut trips_table,
-        &mut stop_times_table,
-        &mut calendar_dates_table,
-        list,
-        from,
-        asked,
-    );
-    tell_table(
-        rt,
-        told,
-        &stops_table,
-        &routes_table,
-        &calendar_table,
-        &trips_table,
-        &stop_times_table,
-        &calendar_dates_table,
-    )?;
+    let mut tables = Tables {
+        stops: &mut [LENT; 256],
+        routes: &mut [LENT; 256],
+        calendar: &mut [LENT; 256],
+        trips: &mut [LENT; 256],
+        stop_times: &mut [LENT; 256],
+        dates: &mut [LENT; 256],
+    };
+    let files = [stops, routes, calendar, trips, stop_times, calendar_dates];
+    let a = tusuchiy::check(files, &mut tables, list, from, asked);
+    tell_table(rt, told, &tables)?;
     Ok(a)
 }
 
