@@ -51,7 +51,7 @@ loop-line-preserved c =
     let more = c.list_line.ensures in (
       (more.same_list.0 ∙ same.0, more.same_list.1 ∙ same.1),
       (
-        λ h k. left_next _ _ h _ _ _ _ _ _ _ _ _ s (rw same.1 at (more.by_index h k)) (l.0 h k),
+        λ h k. left_next _ _ h _ _ _ _ _ _ _ _ _ s (rw same.1 at ((rw c.all_known-known.ensures at more.by_index) h k)) (l.0 h k),
         (omega (arith, l.1.0, s.further), (omega (arith, l.1.1.0, s.further), (omega (arith, s.inside), omega (arith, more.total_bound, l.1.1.1.1, l.1.0, s.further)))),
       ),
     )
