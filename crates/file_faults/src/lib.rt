@@ -71,13 +71,7 @@ fn later_fault(known: &KnownColumns, header: Option<Columns>, l: &[u8]) -> Optio
 }
 
 // The fault of line n, after the header.
-fn list_line(
-    known: &KnownColumns,
-    header: Option<Columns>,
-    l: &[u8],
-    n: usize,
-    list: &mut Listing,
-)
+fn list_line(known: &KnownColumns, header: Option<Columns>, l: &[u8], n: usize, list: &mut Listing)
     requires n_bound { (n < 2 ^ 31) × (list.old.sink.total < 2 ^ 62) }
     requires header { Header known.now.file header }
     ensures same_list { SameList list.old list.new }
