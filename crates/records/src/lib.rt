@@ -113,7 +113,7 @@ fn put_trip(
     Trips::put(t, row, id, route, service, direction, wheelchair, bikes);
 }
 
-// A stop time, which waits.
+// A stop time, which waits. It shares with a trip how a reference is found (`resolve::find`); its columns are others.
 fn put_time(
     l: &FileLine,
     t: &mut [i32],
@@ -160,7 +160,7 @@ fn put_date(l: &FileLine, t: &mut [i32], row: DateRow)
     Dates::put(t, row, id, date, kind);
 }
 
-// What the second walk writes for a line of file f, with known columns in the columns `places`; a and b are the records that it refers to.
+// By the file's number, as the walk and the definition `written_of` have it: what the second walk writes for a line of file f, with known columns in the columns `places`; a and b are the records that it refers to.
 pub fn put_record(
     f: usize,
     l: &[u8],

@@ -112,6 +112,7 @@ impl Pending for Stops {
     type Named = Stops;
 }
 
+// What a record holds differs from file to file, as in `record_of`: each has writers and readers of its own, and what all share is Row's.
 impl Stops {
     // The record of a line, whose parent is settled in number 6; 1 takes its place there where the line has a place, else 0.
     pub fn put(
@@ -482,7 +483,7 @@ fn packed(stop: usize, pickup: u32, drop_off: u32, mark: usize) -> i32
     (((stop * 4 + pickup as usize) * 4 + drop_off as usize) * 4 + mark) as i32
 }
 
-// The width of a file's table, by the file's number; 0 for a number that is no file's.
+// The width of a file's table, by the file's number, as the definition `width_of` and walks over all files have it; 0 for a number that is no file's.
 pub fn width_of(file: usize) -> usize
     ensures { result ≡ width_of file }
 {

@@ -172,7 +172,7 @@ static CALENDAR_DATES: [Known; 3] = [
     (b"exception_type", NEEDED_EXCEPTION_TYPE),
 ];
 
-// The known columns of file f.
+// The known columns of file f, by its number, as the definition `schema` has them.
 fn columns_of(f: usize) -> &'static [Known]
     requires { f < 7 }
     ensures { map shown result.now ≡ schema f }

@@ -38,6 +38,8 @@ const BY_DATE: Order = Order {
     cell: 3,
 };
 
+// One walk serves five files: what differs goes by the file's number, as in the definitions `waiting_column`, `date_key` and `noted`.
+
 // Where in the schema the field stands that waits: a trip's service, a stop's parent.
 fn waiting_column(f: usize) -> usize
     ensures { (result ≡ waiting_column f) × (result < 10) }
