@@ -75,7 +75,7 @@ pub fn lacks(f: usize, at: [usize; 10]) -> bool
     (0..schema::count(f)).any(|k| schema::known(f, k).must && at[k] == 0)
 }
 
-// A field, noted in the cell of each known column that stands in its column j.
+// A field, noted in the cell of each known column that stands in column j.
 fn note_field(cells: &mut [Bounds; 10], at: [usize; 10], j: usize, field: Bounds)
     ensures { cells.new ≡ noted at j field 10 cells.old }
 {

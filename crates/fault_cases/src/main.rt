@@ -8,6 +8,12 @@ use meaning::{MAX_LINES, Place};
 use std::alloc::{AllocError, Global};
 use std::io;
 
+// A feed without a fault: a case differs from it in one file or more.
+const BASE: Feed<'static> = Feed {
+    routes: b"route_id,route_type\nR,3\n",
+    ..GOOD
+};
+
 // What a list's numbers are as lent; no fault has it.
 const LENT: i32 = 99;
 
@@ -29,7 +35,7 @@ fn call_with<const N: usize>(rt: &impl Print, name: &str, feed: Feed) -> io::Res
 // The feed with each of these in place of its routes.txt.
 fn routes(rt: &impl Print, cases: &[(&str, &[u8])]) -> io::Result<()> {
     for (name, routes) in cases {
-        call_with::<16>(rt, name, Feed { routes, ..GOOD })?;
+        call_with::<16>(rt, name, Feed { routes, ..BASE })?;
     }
     Ok(())
 }
@@ -44,7 +50,7 @@ fn services<'a>(
     let feed = Feed {
         calendar,
         dates,
-        ..GOOD
+        ..BASE
     };
     call_with::<16>(rt, name, feed)
 }
@@ -58,10 +64,10 @@ const READABLE: [(&str, &[u8]); 4] = [
 ];
 
 fn readable(rt: &impl Print) -> io::Result<()> {
-    call_with::<16>(rt, "good", GOOD)?;
+    call_with::<16>(rt, "good", BASE)?;
     routes(rt, &READABLE)?;
-    services(rt, "file 6 not supplied", GOOD.calendar, b"")?;
-    services(rt, "file 3 not supplied", b"", GOOD.dates)
+    services(rt, "file 6 not supplied", BASE.calendar, b"")?;
+    services(rt, "file 3 not supplied", b"", BASE.dates)
 }
 
 // Six files with the same bytes.
@@ -151,7 +157,7 @@ fn limits(rt: &impl Print, alloc: Global) -> io::Result<()> {
         stops: &too_many,
         routes: b"route_id,route_type\nR,x\n",
         dates: b"",
-        ..GOOD
+        ..BASE
     };
     call_with::<52>(rt, "1,048,577 lines, and a file after", feed)
 }
@@ -266,7 +272,7 @@ A,Alder,1.5,2,5\n\
 
 fn lines(rt: &impl Print) -> io::Result<()> {
     for (name, stops) in LINES {
-        call_with::<52>(rt, name, Feed { stops, ..GOOD })?;
+        call_with::<52>(rt, name, Feed { stops, ..BASE })?;
     }
     Ok(())
 }
@@ -292,7 +298,7 @@ const FIVE: Feed<'static> = Feed {
     routes: b"route_id,route_type\nR\nS,x",
     trips: b"route_id,service_id\nR,W\n",
     dates: b"",
-    ..GOOD
+    ..BASE
 };
 
 // A page of two, from a starting place.

@@ -60,7 +60,7 @@ fn list_whole(f: usize, whole: [bool; 4], list: &mut Listing)
     note_fault(list, f, 0, whole_fault(whole[3], 4));
 }
 
-// The first rule that a line after the header breaks: of all its rules where the header is good, else of those that don't look at it.
+// The first rule that a line after the header breaks: of all its rules where the header is good, else of those that don't look at the header.
 fn later_fault(known: &KnownColumns, header: Option<Columns>, l: &[u8]) -> Option<Fault>
     ensures { result ≡ first (tests_by known.now.file header l.now) }
 {

@@ -27,7 +27,7 @@ fn is_before(s: &[u8], t: &[i32], x: usize, y: usize) -> bool
     ranking::compare_values(text::field_on(s, a), text::field_on(s, b)).is_lt()
 }
 
-// An index beside a file that can be read, how many records the file has, and the version that an index of so many has.
+// No struct in common with the writer's `Ranks`: that one has cells and no index, and other facts hold of it. An index beside a file that can be read, how many records the file has, and the version that an index of so many has.
 #[derive(Clone, Copy)]
 struct Beside<'a> {
     file: usize,

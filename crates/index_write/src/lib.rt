@@ -56,8 +56,8 @@ fn put_start(b: &mut [u8], head: [u8; 6])
     b[..BEFORE].copy_from_slice(&head);
 }
 
-// The records of a file by their ids: cells hold where the ids begin, in the ids' order; how many there are, of cells that may be more; their index's version.
-// What `Ranked` says of them names records (`Begins`), which a ghost field would have to hide, so that it stays in the contracts.
+// The records of a file by their ids: the file's number and bytes; in cell k where the id that is k-th begins; how many there are, since there may be more
+// cells; the version of their index. What `Ranked` says of the cells stays in the contracts: it is a record of facts (`Begins`), and a ghost field takes a fact alone.
 #[derive(Clone, Copy)]
 struct Ranks<'a> {
     file: usize,

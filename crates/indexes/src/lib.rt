@@ -33,7 +33,7 @@ pub fn version_of(n: usize) -> Version
     if n < 65536 { FIRST } else { SECOND }
 }
 
-// The version with this number, where it is 1 or 2.
+// The version with number 1; any other number is taken for that of the second.
 pub fn version_named(k: usize) -> Version
     ensures { result ≡ version_named k }
 {

@@ -13,7 +13,7 @@ pub const MOST_RULES: usize = 9;
 // Two days, in seconds.
 const TWO_DAYS: usize = 172800;
 
-// 21: a reference that isn't empty has no record.
+// 21: a reference that isn't empty has no record. Two values and no Option: `loose` asks of each by itself, and 0 is a reference's number for none.
 fn is_loose(none: bool, at: usize) -> bool
     ensures { result ≡ loose none at }
 {

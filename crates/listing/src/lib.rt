@@ -14,7 +14,7 @@ pub struct Sink {
     pub total: usize,
 }
 
-// A lent list of entries, after which place its entries begin, and how far it has come.
+// A lent list of entries: the place that they come after, and how far it has come.
 #[derive(Drop)]
 pub struct Listing<'a> {
     pub out: &'a mut [i32],

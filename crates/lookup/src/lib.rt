@@ -121,7 +121,8 @@ impl Query<'_> {
         )
     }
 
-    // The answer of the entries from low up to but not including high, of an index of this version: the range is halved until one is left.
+    // The answer of the entries from low up to but not including high, of an index of this version: the range is halved until one is left,
+    // by hand and by recursion: document 01's named form, with probes that can be refused.
     fn seek(&self, v: Version, low: usize, high: usize) -> Result<usize, Refused>
         requires { (low < high) × (high < 2 ^ 32) }
         ensures { (n : ℕ) → high - low ≤ n → result ≡ halve (λ i. standing self.now.file.now self.now.table.now self.now.code.now (entry v self.now.index.now i)) (entry v self.now.index.now) n low high }

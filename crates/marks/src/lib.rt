@@ -21,7 +21,7 @@ pub const OPEN: usize = 12;
 
 pub const MET: usize = 13;
 
-// Lent as a slice, and no struct: it is as long as FEW_LINES or MAX_LINES, and a struct of it would be generic over that in each function that hands it on.
+// Lent as a slice: a struct of it would have one field, and no fact about it stands in the contracts of three functions.
 
 // No record is marked. Where files have no more than N lines, record r of any file has entry r.
 pub fn blank<const N: usize>() -> [u16; N]

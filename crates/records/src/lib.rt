@@ -82,7 +82,7 @@ fn put_service(l: &FileLine, t: &mut [i32], row: ServiceRow)
     Calendar::put(t, row, id, days, start, end);
 }
 
-// A trip, whose service's first exception is settled.
+// A trip, whose service's first exception is settled. A memo goes beside its records: these are lent to be read, and by many at once, a memo is written.
 fn put_trip(
     l: &FileLine,
     t: &mut [i32],

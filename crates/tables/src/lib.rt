@@ -183,7 +183,7 @@ pub fn fill_all(files: [&[u8]; 6], tables: &mut Tables, marks: &mut [u16])
 {
     let n = order_all(files, tables, marks);
     let [stops, routes, calendar, trips, stop_times, dates] = files;
-    // each by itself: two fields of `tables` lent to one call are not covered yet
+    // each by itself: Rattle doesn't cover yet a call that is lent two fields of one struct
     let stops_table = &mut *tables.stops;
     let routes_table = &mut *tables.routes;
     let calendar_table = &mut *tables.calendar;

@@ -8,7 +8,7 @@ ghost use Rattle.memo.specs.Memo.{Ready};
 use rows::{Pending, Row};
 use seeking::Records;
 
-// The first record among a's that the field waiting in a record of a file names.
+// The first of the records a that the field waiting in a row names; row 0 where it names none.
 pub fn named_by<T: Pending>(
     s: &[u8],
     t: &[i32],

@@ -343,7 +343,8 @@ fn ends_good(q: u8) -> bool
     ENDINGS[k]
 }
 
-// What a walk along a line tells: whether the quoting table calls it good, and how many fields it has, 33 standing for more than rule 7 allows.
+// What a walk along a line tells: whether the quoting table calls it good, and how many fields it has, 33 standing for more than rule 7 allows;
+// that is told of a bad line too.
 #[derive(Clone, Copy)]
 pub struct Measured {
     pub good: bool,

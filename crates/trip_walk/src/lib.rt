@@ -45,7 +45,7 @@ struct State {
     falls: bool,
 }
 
-// What a line's two times say.
+// What a line's two times say. No Option of two: the walk takes them in without a branch, and the definitions name the three one by one (`timed_in`, `time_at`).
 #[derive(Clone, Copy)]
 struct Times {
     timed: bool,
@@ -60,6 +60,7 @@ fn line_at(t: &[i32], k: usize) -> usize
     rows::cells::nat_of(t, k, StopTimes::WIDTH, CELL)
 }
 
+// The one or the other, as `cond` says it.
 fn pick(b: bool, x: usize, y: usize) -> usize
     ensures { result ≡ cond b x y }
 {
@@ -69,6 +70,7 @@ fn pick(b: bool, x: usize, y: usize) -> usize
     y
 }
 
+// The larger number, as `larger` says it.
 fn larger_of(a: usize, b: usize) -> usize
     ensures { result ≡ larger a b }
 {

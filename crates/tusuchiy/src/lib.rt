@@ -86,7 +86,7 @@ fn checked_up_to<const N: usize>(
     checked_with(files, counts, tables, list, &mut marks, asked)
 }
 
-// The same, with marks by the number of lines: files before i have few. It calls itself and makes no loop, in which the compiler would put both arrays into
+// The same, with marks by the number of lines: the first i files have few. It calls itself and makes no loop, in which the compiler would put both arrays into
 // the caller's frame: a small feed would touch every page of the large one.
 fn checked_from(
     i: usize,
