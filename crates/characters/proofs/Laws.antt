@@ -2,12 +2,12 @@
 use Prim.Native.Nat.{ℕ, suc, ◌+◌, ◌-◌, ◌≤◌, ◌<◌}
 use native.Mathlib.Numerals.{add-one}
 use native.Mathlib.Omega.{arith}
-use mathlib.Core.Path.{◌≡◌, refl, sym, ◌∙◌}
+use mathlib.Core.Path.{◌≡◌, refl, sym, ap, ◌∙◌}
 use mathlib.Core.Bool.{Bool, true, false, cond, not, ◌&&◌}
-use mathlib.Core.List.{List, [], ◌∷◌}
+use mathlib.Core.List.{List, [], ◌∷◌, ◌++◌}
 use lib.Dec.{leb, ltb, eqb}
 use Rattle.std.specs.List.{fold}
-use lib.ListN.{length, get_or, drop}
+use lib.ListN.{length, get_or, take, drop, take-append-drop}
 use lib.Seq.{drop-drop}
 use borrow.Author.Tests.{leb-true, leb-false, eqb-true, ltb-true, ltb-false, lt-ltb, le-ltb, le-leb, lt-leb, ne_eqb}
 use Rattle.meaning.specs.Characters.{Range, ◌to◌, sequences, within, begun, awaited, awaited_after, well_formed}
@@ -180,6 +180,50 @@ plain_folded t (b ∷ r) = plain_folded (t && (leb 0x20 b && ltb b 0x80)) r ∙ 
     go : (t u : Bool) → ((t && u) && plain r) ≡ (t && (u && plain r))
     go true u = refl
     go false u = refl
+
+-- the same of two parts
+plain_append : (a b : List ℕ) → plain (a ++ b) ≡ (plain a && plain b)
+unfolding plain
+plain_append [] b = refl
+plain_append (x ∷ a) b = go (ltb x 0x20) (leb 0x80 x) (plain_append a b)
+  where
+    go : (t u : Bool) → plain (a ++ b) ≡ (plain a && plain b) → cond t false (cond u false (plain (a ++ b))) ≡ (cond t false (cond u false (plain a)) && plain b)
+    go true u e = refl
+    go false true e = refl
+    go false false e = e
+
+-- a turn along the blocks, from i to j, by what its own tells
+module _ (s : List ℕ) (i j : ℕ) (ordered : i ≤ j) (t k : Bool) (told : t ≡ plain (take (j - i) (drop i s))) (inv : plain (drop i s) ≡ k) where
+  plain_parts : (t && plain (drop j s)) ≡ k
+  plain_parts =
+      let r = drop i s in
+      let d : i + (j - i) ≡ j = omega arith in
+      let y : plain (drop (j - i) r) ≡ plain (drop j s) = rw (drop-drop (j - i) i s, d) in
+      let z : plain r ≡ (plain (take (j - i) r) && plain (drop (j - i) r)) =
+      ap plain (sym (take-append-drop (j - i) r)) ∙ plain_append (take (j - i) r) (drop (j - i) r) in
+      rw (told, ← y) (sym z ∙ inv)
+
+  pub plain_within : not t ≡ true → false ≡ k
+  plain_within e = go t e plain_parts
+    where
+      go : (t : Bool) → not t ≡ true → (t && plain (drop j s)) ≡ k → false ≡ k
+      go true e p = both false e refl
+      go false e p = p
+
+  pub plain_past : not t ≡ false → plain (drop j s) ≡ k
+  plain_past e = go t e plain_parts
+    where
+      go : (t : Bool) → not t ≡ false → (t && plain (drop j s)) ≡ k → plain (drop j s) ≡ k
+      go true e p = p
+      go false e p = both true refl e
+
+  pub plain_last : length s ≤ j → t ≡ k
+  unfolding plain
+  plain_last over = go t (rw (drop_over s j over) at plain_parts)
+    where
+      go : (t : Bool) → (t && true) ≡ k → t ≡ k
+      go true e = e
+      go false e = e
 
 -- a plain line has no stray byte, and is ASCII
 plain_is : (l : List ℕ) → plain l ≡ true → (rule5 l ≡ false) × (to_high l ≡ length l)

@@ -1,15 +1,15 @@
 -- Laws of fields: stray bytes, the quoting table, the count of fields, and a cursor's step along a line.
 use Rattle.std.specs.Prelude.{Some, None}
 use Rattle.std.proofs.lemmas.Option.{same_Some}
-use mathlib.Core.Path.{◌≡◌, refl, sym, ap}
-use mathlib.Core.Bool.{Bool, true, false, cond}
-use mathlib.Core.List.{List, [], ◌∷◌}
+use mathlib.Core.Path.{◌≡◌, refl, sym, ap, ◌∙◌}
+use mathlib.Core.Bool.{Bool, true, false, cond, ◌||◌}
+use mathlib.Core.List.{List, [], ◌∷◌, ◌++◌}
 use Prim.Native.Nat.{ℕ, zero, suc, ◌+◌, ◌-◌, ◌≤◌, ◌<◌, zero-le}
 use native.Mathlib.Numerals.{add-one}
 use native.Mathlib.Omega.{arith}
 use native.Mathlib.Nat.{add-zero, not-suc-le-zero, le_of_suc-le-suc}
 use lib.Dec.{eqb, ltb, leb→le}
-use lib.ListN.{length, get_or, drop, length-drop}
+use lib.ListN.{length, get_or, take, drop, length-drop, take-append-drop}
 use lib.Seq.{drop-drop}
 use borrow.Author.Tests.{eq-eqb, ne_eqb, lt-ltb, le-ltb, eqb-true, ltb-true, ltb-false}
 use Rattle.meaning.specs.declared.Bounds.{Bounds}
@@ -38,6 +38,42 @@ module _ (s : List ℕ) (i : ℕ) (k : Bool) (inv : rule5 (drop i s) ≡ k) wher
   pub stray_over : length s ≤ i → false ≡ k
   unfolding rule5
   stray_over h = rw (drop_over s i h) at inv
+
+-- the same of two parts
+stray_append : (a b : List ℕ) → rule5 (a ++ b) ≡ (rule5 a || rule5 b)
+unfolding rule5
+stray_append [] b = refl
+stray_append (x ∷ a) b = go (eqb x 9) (eqb x 13) (stray_append a b)
+  where
+    go : (t u : Bool) → rule5 (a ++ b) ≡ (rule5 a || rule5 b) → cond t true (cond u true (rule5 (a ++ b))) ≡ (cond t true (cond u true (rule5 a)) || rule5 b)
+    go true u e = refl
+    go false true e = refl
+    go false false e = e
+
+-- a turn along the stretches, from i to j, by what its own tells
+module _ (s : List ℕ) (i j : ℕ) (ordered : i ≤ j) (t k : Bool) (told : t ≡ rule5 (take (j - i) (drop i s))) (inv : rule5 (drop i s) ≡ k) where
+  stray_parts : (t || rule5 (drop j s)) ≡ k
+  stray_parts =
+      let r = drop i s in
+      let d : i + (j - i) ≡ j = omega arith in
+      let y : rule5 (drop (j - i) r) ≡ rule5 (drop j s) = rw (drop-drop (j - i) i s, d) in
+      let z : rule5 r ≡ (rule5 (take (j - i) r) || rule5 (drop (j - i) r)) =
+      ap rule5 (sym (take-append-drop (j - i) r)) ∙ stray_append (take (j - i) r) (drop (j - i) r) in
+      rw (told, ← y) (sym z ∙ inv)
+
+  pub stray_within : t ≡ true → true ≡ k
+  stray_within e = rw e at stray_parts
+
+  pub stray_past : t ≡ false → rule5 (drop j s) ≡ k
+  stray_past e = rw e at stray_parts
+
+  pub stray_last : length s ≤ j → t ≡ k
+  unfolding rule5
+  stray_last over = go t (rw (drop_over s j over) at stray_parts)
+    where
+      go : (t : Bool) → (t || false) ≡ k → t ≡ k
+      go true e = e
+      go false e = e
 
 pub next_lt : (q b : ℕ) → next q b < 5
 unfolding next quoting

@@ -119,11 +119,29 @@ pub fn next_line(s: &[u8], at: usize) -> Option<(Bounds, usize)>
     line_to(s, at, e)
 }
 
-// Is there a tab, or a CR outside an ending?
+// As many bytes as a turn looks at, for a tab and then for a CR. Most lines are shorter, and looked at whole.
+const STRETCH: usize = 256;
+
+// Is one of these bytes a tab or a CR?
+fn has_tab_or_cr(s: &[u8]) -> bool
+    ensures { result ≡ rule5 s.now }
+{
+    s.contains(&b'\t') || s.contains(&b'\r')
+}
+
+// Is there a tab, or a CR outside an ending? Stretch by stretch, no further than the first that has either, then the rest, less than a stretch: so no line is
+// walked for a tab far past its first CR. By index, as `count_lf`.
 pub fn has_stray(l: &[u8]) -> bool
     ensures { result ≡ rule5 l.now }
 {
-    l.contains(&b'\t') || l.contains(&b'\r')
+    let mut i = 0;
+    while STRETCH <= l.len() - i {
+        if has_tab_or_cr(&l[i..i + STRETCH]) {
+            return true;
+        }
+        i += STRETCH;
+    }
+    has_tab_or_cr(&l[i..])
 }
 
 // The states of the quoting table, and a fifth for bad.
