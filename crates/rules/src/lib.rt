@@ -10,12 +10,12 @@ ghost use Rattle.listing.specs.Handing.{state, noting, lent_only, handed_out, Sa
 ghost use Rattle.rules.specs.Tabled.{Tabled};
 
 use lent::Tables;
-use listing::Listing;
-use meaning::Profile;
+use listing::{Listing, Sink};
+use meaning::{Place, Profile};
 
-// All findings, of files of so many lines each, by the rules asked for: those after the list's place are written, as many as fit; the rest of the list stays.
-// A file has a record on each line but its header.
-pub fn list_findings(
+// All findings, of files of so many lines each, by the rules asked for, into a list that others may stand in: those after the list's place are written, as many
+// as fit; the rest of the list stays. A file has a record on each line but its header.
+pub fn list_files(
     counts: [usize; 6],
     tables: &Tables,
     marks: &[u16],
@@ -37,4 +37,30 @@ pub fn list_findings(
         let table = tables.table(f);
         file_rules::list_file(f, records, table, tables.stops, marks, list, asked);
     }
+}
+
+// The same into a list that has just been lent, and how many are written, and how many there are.
+pub fn list_findings(
+    counts: [usize; 6],
+    tables: &Tables,
+    marks: &[u16],
+    out: &mut [i32],
+    from: Place,
+    asked: Profile,
+) -> Sink
+    requires { (i : ℕ) → i < 6 → get_or counts i 0 ≤ max_lines }
+    ensures result_after { (w : Feed) → Tabled w counts (held tables.now) marks.now
+        → state out.new result ≡ handed_out from (findings_of asked w) out.old }
+    ensures total_bound { result.total ≤ 21 * max_lines }
+{
+    let mut list = Listing {
+        out,
+        from,
+        sink: Sink {
+            written: 0,
+            total: 0,
+        },
+    };
+    list_files(counts, tables, marks, &mut list, asked);
+    list.sink
 }

@@ -6,7 +6,7 @@ ghost use Rattle.meaning.specs.Refusals.{max_bytes, max_lines, few_lines, verdic
 ghost use Rattle.meaning.specs.Outcome.{read_outcome, outcome};
 ghost use Rattle.marks.specs.Marks.{Blank};
 ghost use Rattle.lent.specs.Lent.{held, Same};
-ghost use Rattle.listing.specs.Handing.{state, lent_only, SameList};
+ghost use Rattle.listing.specs.Handing.{state};
 ghost use Rattle.faults.specs.Told.{told};
 ghost use Rattle.tusuchiy.specs.Small.{Small};
 
@@ -44,23 +44,21 @@ fn checked_with(
     files: [&[u8]; 6],
     counts: [usize; 6],
     tables: &mut Tables,
-    list: &mut Listing,
+    findings: &mut [i32],
     marks: &mut [u16],
+    from: Place,
     asked: Profile,
 ) -> Answer
     requires read { verdict_of (map (λ x. x.now) files) (map length (held tables.old)) ≡ Ok tt }
     requires counts_value { counts ≡ map count_lf (map (λ x. x.now) files) }
     requires blank { Blank marks.old × ((i : ℕ) → i < 6 → get_or counts i 0 ≤ length marks.old) }
-    requires none_yet { state list.old.out.now list.old.sink ≡ lent_only list.old.out.now }
     ensures same { Same tables.old tables.new }
-    ensures same_list { SameList list.old list.new }
-    ensures asked_value { read_outcome (map (λ x. x.now) files.entry) (held tables.old) list.old.out.now list.old.from asked
-        ≡ record { answer = result; tables = held tables.new; list = list.new.out.now } }
+    ensures asked_value { read_outcome (map (λ x. x.now) files.entry) (held tables.old) findings.old from asked
+        ≡ record { answer = result; tables = held tables.new; list = findings.new } }
     ensures small { Small result }
 {
     tables::fill_all(files, tables, marks);
-    rules::list_findings(counts, tables, marks, list, asked);
-    answer_of(list.sink)
+    answer_of(rules::list_findings(counts, tables, marks, findings, from, asked))
 }
 
 // The same, where no file has more than N lines.
@@ -68,22 +66,21 @@ fn checked_up_to<const N: usize>(
     files: [&[u8]; 6],
     counts: [usize; 6],
     tables: &mut Tables,
-    list: &mut Listing,
+    findings: &mut [i32],
+    from: Place,
     asked: Profile,
 ) -> Answer
     requires read { verdict_of (map (λ x. x.now) files) (map length (held tables.old)) ≡ Ok tt }
     requires counts_value { counts ≡ map count_lf (map (λ x. x.now) files) }
     requires by_index { (i : ℕ) → i < 6 → get_or counts i 0 ≤ N }
     requires room { N ≤ max_lines }
-    requires none_yet { state list.old.out.now list.old.sink ≡ lent_only list.old.out.now }
     ensures same { Same tables.old tables.new }
-    ensures same_list { SameList list.old list.new }
-    ensures asked_value { read_outcome (map (λ x. x.now) files.entry) (held tables.old) list.old.out.now list.old.from asked
-        ≡ record { answer = result; tables = held tables.new; list = list.new.out.now } }
+    ensures asked_value { read_outcome (map (λ x. x.now) files.entry) (held tables.old) findings.old from asked
+        ≡ record { answer = result; tables = held tables.new; list = findings.new } }
     ensures small { Small result }
 {
     let mut marks = marks::blank::<N>();
-    checked_with(files, counts, tables, list, &mut marks, asked)
+    checked_with(files, counts, tables, findings, &mut marks, from, asked)
 }
 
 // The same, with marks by the number of lines: the first i files have few. It calls itself and makes no loop, in which the compiler would put both arrays into
@@ -93,26 +90,25 @@ fn checked_from(
     files: [&[u8]; 6],
     counts: [usize; 6],
     tables: &mut Tables,
-    list: &mut Listing,
+    findings: &mut [i32],
+    from: Place,
     asked: Profile,
 ) -> Answer
     requires read { verdict_of (map (λ x. x.now) files) (map length (held tables.old)) ≡ Ok tt }
     requires counts_value { counts ≡ map count_lf (map (λ x. x.now) files) }
     requires i_bound { (i ≤ 6) × ((k : ℕ) → k < i → get_or counts k 0 ≤ few_lines) }
-    requires none_yet { state list.old.out.now list.old.sink ≡ lent_only list.old.out.now }
     ensures same { Same tables.old tables.new }
-    ensures same_list { SameList list.old list.new }
-    ensures asked_value { read_outcome (map (λ x. x.now) files.entry) (held tables.old) list.old.out.now list.old.from asked
-        ≡ record { answer = result; tables = held tables.new; list = list.new.out.now } }
+    ensures asked_value { read_outcome (map (λ x. x.now) files.entry) (held tables.old) findings.old from asked
+        ≡ record { answer = result; tables = held tables.new; list = findings.new } }
     ensures small { Small result }
 {
     if i == 6 {
-        return checked_up_to::<FEW_LINES>(files, counts, tables, list, asked);
+        return checked_up_to::<FEW_LINES>(files, counts, tables, findings, from, asked);
     }
     if FEW_LINES < counts[i] {
-        return checked_up_to::<MAX_LINES>(files, counts, tables, list, asked);
+        return checked_up_to::<MAX_LINES>(files, counts, tables, findings, from, asked);
     }
-    checked_from(i + 1, files, counts, tables, list, asked)
+    checked_from(i + 1, files, counts, tables, findings, from, asked)
 }
 
 // The check: from six files, six tables and a list as lent, a starting place and the rules asked for, to the answer and what all seven hold.
@@ -130,16 +126,8 @@ pub fn check(
 {
     let counts = count_all(files);
     let rooms = tables.lengths();
-    let mut list = Listing {
-        out: findings,
-        from,
-        sink: Sink {
-            written: 0,
-            total: 0,
-        },
-    };
     match reading::verdict(files, rooms, counts) {
-        Ok(()) => checked_from(0, files, counts, tables, &mut list, asked),
+        Ok(()) => checked_from(0, files, counts, tables, findings, from, asked),
         Err(r) => Answer::Refused(r),
     }
 }

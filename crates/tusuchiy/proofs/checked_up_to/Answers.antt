@@ -7,13 +7,11 @@ checked_with-requires g c = record {
   read = c.requires.read;
   counts_value = c.requires.counts_value;
   blank = (c.blank-marks.ensures, λ i h. omega (arith, c.requires.by_index i h));
-  none_yet = c.requires.none_yet;
 }
 
 pub returns : goal.returns
 returns g c = record {
   same = c.checked_with.ensures.same;
-  same_list = c.checked_with.ensures.same_list;
   asked_value = c.checked_with.ensures.asked_value;
   small = c.checked_with.ensures.small;
 }

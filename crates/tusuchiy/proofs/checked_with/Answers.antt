@@ -1,9 +1,8 @@
 -- `tusuchiy::checked_with` meets its contract.
-use mathlib.Core.Path.{◌≡◌, refl, ap}
+use mathlib.Core.Path.{◌≡◌, refl}
 use mathlib.Core.List.{map}
 use lib.ListN.{length, length-map}
 use Rattle.lent.specs.Lent.{held}
-use Rattle.listing.specs.Handing.{State}
 use Rattle.meaning.specs.Refusals.{may_lack}
 use Rattle.rules.specs.Tabled.{table_of}
 use native.Mathlib.Omega.{arith}
@@ -29,22 +28,16 @@ fill_all-requires c =
 pub list_findings-requires : goal.list_findings-requires
 list_findings-requires c =
     let files = map (λ x. x.now) c.args.files in
-    let tables = held c.args.tables.now in
     let six : length files ≡ 6 = omega (arith, length-map c.args.files (λ x. x.now)) in
-    let none : c.args.list.now.sink.total ≡ 0 = ap (λ (z : State). z.total) c.requires.none_yet in record {
-      lines_bound = few_lines_lem files tables six refl c.requires.read _ c.requires.counts_value;
-      total_bound = omega (arith, none);
-    }
+    few_lines_lem files (held c.args.tables.now) six refl c.requires.read _ c.requires.counts_value
 
 pub returns : goal.returns
 returns c =
     let files = map (λ x. x.now) c.args.files in
     let tables = held c.args.tables.now in
     let six : length files ≡ 6 = omega (arith, length-map c.args.files (λ x. x.now)) in
-    let none : c.args.list.now.sink.total ≡ 0 = ap (λ (z : State). z.total) c.requires.none_yet in
-    let h = c.list_findings.ensures.from_none _ (tabled files tables six refl c.requires.read _ c.fill_all.ensures.tables_after _ c.requires.counts_value _ c.fill_all.ensures.noted.0 c.fill_all.ensures.noted.1) c.requires.none_yet in record {
+    let h = c.list_findings.ensures.result_after _ (tabled files tables six refl c.requires.read _ c.fill_all.ensures.tables_after _ c.requires.counts_value _ c.fill_all.ensures.noted.0 c.fill_all.ensures.noted.1) in record {
       same = c.fill_all.ensures.same;
-      same_list = c.list_findings.ensures.same_list;
-      asked_value = outcome_read files tables six refl c.requires.read _ c.fill_all.ensures.tables_after _ _ c.args.list.now.from c.args.asked _ _ h c.answer_of.ensures;
-      small = small_findings c.args.list.now.from _ _ _ _ _ h (omega (arith, none, c.list_findings.ensures.total_bound_2)) c.answer_of.ensures;
+      asked_value = outcome_read files tables six refl c.requires.read _ c.fill_all.ensures.tables_after _ _ c.args.from c.args.asked _ _ h c.answer_of.ensures;
+      small = small_findings c.args.from _ _ _ _ _ h c.list_findings.ensures.total_bound c.answer_of.ensures;
     }

@@ -1,9 +1,9 @@
--- `rules::list_findings` meets its contract. The loop's invariant: the findings of the files from f on bring the list to what all are to bring it to.
+-- `rules::list_files` meets its contract. The loop's invariant: the findings of the files from f on bring the list to what all are to bring it to.
 use Prim.Native.Nat.{◌-◌}
 use mathlib.Core.Path.{refl, ◌∙◌}
 use native.Mathlib.Omega.{arith}
 use Rattle.rules.proofs.Laws.{ready_at, note_next, note_over, all_left, all_noted, total_most, sum_after, sum_most}
-use Rattle.rules.proofs.list_findings.Goals as goal
+use Rattle.rules.proofs.list_files.Goals as goal
 
 pub loop-f-init : goal.loop-f-init
 loop-f-init c = ((refl, refl), (omega arith, (omega arith, (omega arith, λ w h. all_left _ w _ _))))

@@ -1,4 +1,4 @@
--- What the loop of `rules::list_findings` keeps.
+-- What the loop of `rules::list_files` keeps.
 use Prim.Native.Nat.{◌+◌, ◌*◌, ◌-◌, ◌≤◌}
 use mathlib.Core.Path.{◌≡◌}
 use mathlib.Core.List.{map}
@@ -11,7 +11,7 @@ use Rattle.lent.specs.Lent.{held}
 use Rattle.listing.specs.Handing.{state, noting, SameList}
 use Rattle.rules.specs.Tabled.{Tabled}
 use Rattle.rules.proofs.Laws.{rule_sum}
-use Rattle.rules.proofs.list_findings.Given as goal
+use Rattle.rules.proofs.list_files.Given as goal
 
 abbrev pub invariant-loop-f : goal.invariant-loop-f
 invariant-loop-f l =
