@@ -1,7 +1,7 @@
 // Writes what a call for faults answers, and the list that it leaves; the file `stdout` has what issue 19's words say, worked out by hand.
 #![tactic(auto)]
 
-ghost use Rattle.std.specs.Prelude.{◌≡◌, ◌≤◌, IfOk, vec_len};
+ghost use Rattle.std.specs.Prelude.{◌≡◌, ◌<◌, ◌≤◌, ◌^◌, IfOk, vec_len};
 
 use casework::{Feed, GOOD, Numbers, START};
 use meaning::{MAX_LINES, Place};
@@ -134,27 +134,25 @@ fn endings(alloc: Global, n: usize) -> Result<Vec<u8>, AllocError>
 }
 
 // So many, and a tab after them.
-fn endings_and_tab(alloc: Global, n: usize) -> Result<Vec<u8>, AllocError> {
-    let mut s = endings(alloc, n)?;
-    s.push(b'\t')?;
+fn endings_and_tab(alloc: Global, n: usize) -> Result<Vec<u8>, AllocError>
+    requires { n < 2 ^ 32 }
+{
+    let mut s = endings(alloc, n + 1)?;
+    s[n] = b'\t';
     Ok(s)
 }
 
-// Rule 2 hides every line of its file, and of no other: as many line endings as it allows, and one more.
+// Rule 2 hides every line of its file, and of no other: as many line endings as it allows, and one more. Each file is made for its case, so that one is held at a time.
 fn limits(rt: &impl Print, alloc: Global) -> io::Result<()> {
-    let most = endings(alloc, MAX_LINES)?;
-    let most_and_tab = endings_and_tab(alloc, MAX_LINES)?;
-    let too_many = endings(alloc, MAX_LINES + 1)?;
-    let too_many_and_tab = endings_and_tab(alloc, MAX_LINES + 1)?;
-    let cases = [
-        ("1,048,576 lines", most.as_slice()),
-        ("1,048,576 lines, unended", most_and_tab.as_slice()),
-        ("1,048,577 lines", too_many.as_slice()),
-        ("1,048,577 lines, unended", too_many_and_tab.as_slice()),
-    ];
-    routes(rt, &cases)?;
+    routes(rt, &[("1,048,576 lines", &endings(alloc, MAX_LINES)?)])?;
+    let unended = "1,048,576 lines, unended";
+    routes(rt, &[(unended, &endings_and_tab(alloc, MAX_LINES)?)])?;
+    routes(rt, &[("1,048,577 lines", &endings(alloc, MAX_LINES + 1)?)])?;
+    let unended = "1,048,577 lines, unended";
+    routes(rt, &[(unended, &endings_and_tab(alloc, MAX_LINES + 1)?)])?;
+    let stops = endings(alloc, MAX_LINES + 1)?;
     let feed = Feed {
-        stops: &too_many,
+        stops: &stops,
         routes: b"route_id,route_type\nR,x\n",
         dates: b"",
         ..BASE
