@@ -153,7 +153,7 @@ module _ (l : List ℕ) (at : ℕ) (stands : at ≡ 0 + to_high (drop 0 l)) wher
   all_ascii over = rw (drop_over l at over) at told_from
 
 -- one walk tells whether all bytes are plain
-plain_one : (b : ℕ) → (leb 0x20 b && ltb b 0x80) ≡ plain (b ∷ [])
+pub plain_one : (b : ℕ) → (leb 0x20 b && ltb b 0x80) ≡ plain (b ∷ [])
 unfolding plain
 plain_one b = go (ltb b 0x20) refl (leb 0x80 b) refl
   where

@@ -75,10 +75,10 @@ both_low : (t : Option Fault) → IfSome t (λ u. u.rule ≤ 14) → IfSome t (�
 both_low None rule column = tt
 both_low (Some u) rule column = (omega (arith, rule), omega (arith, column))
 
-first_column : (ts : List Test) → Each Few ts → IfSome (first ts) (λ u. u.column ≤ 32)
+pub first_column : (ts : List Test) → Each Few ts → IfSome (first ts) (λ u. u.column ≤ 32)
 first_column ts few = first_each (λ u. u.column ≤ 32) ts few
 
-first_rule : (ts : List Test) → T (all of_line ts) → IfSome (first ts) (λ u. u.rule ≤ 14)
+pub first_rule : (ts : List Test) → T (all of_line ts) → IfSome (first ts) (λ u. u.rule ≤ 14)
 first_rule ts small =
     first_each (λ u. u.rule ≤ 14) ts
     (λ u m. leb-true u.number 14 (and_both (leb 5 u.number) (leb u.number 14) (mem_all of_line ts small u m)).1)

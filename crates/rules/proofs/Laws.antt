@@ -107,7 +107,7 @@ unfoldable pub rule_sum : ℕ → ℕ
 rule_sum zero = 0
 rule_sum (suc i) = rule_sum i + rule_count Boards (i + 1)
 
-sum_next : (i m k r : ℕ) → k ≤ m + rule_sum i * max_lines → r ≤ k + rule_count Boards (i + 1) * max_lines → r ≤ m + rule_sum (i + 1) * max_lines
+pub sum_next : (i m k r : ℕ) → k ≤ m + rule_sum i * max_lines → r ≤ k + rule_count Boards (i + 1) * max_lines → r ≤ m + rule_sum (i + 1) * max_lines
 unfolding rule_sum
 sum_next i m k r a b = rw (add-one i) (omega (arith, rw (add-one i) at b))
 
