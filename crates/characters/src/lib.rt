@@ -90,8 +90,8 @@ pub fn is_ill_formed(l: &[u8]) -> bool
     awaits_more(l, at)
 }
 
-// As many bytes as a turn looks at before the walk may end: four wide registers.
-const BLOCK: usize = 64;
+// As many bytes as a turn looks at before the walk may end: two wide registers.
+const BLOCK: usize = 32;
 
 // Is each of these bytes one of 20 to 7F? No byte is left out, so that the compiler looks at many at once.
 fn all_plain(s: &[u8]) -> bool
