@@ -9,7 +9,7 @@ use std::io;
 fn tell<T: Display + Drop>(rt: &impl Print, value: Option<T>) -> io::Result<()> {
     match value {
         Some(value) => rt.print(value),
-        None => rt.print("refused"),
+        None => rt.write_all(b"refused"),
     }
 }
 
@@ -17,8 +17,8 @@ fn tell<T: Display + Drop>(rt: &impl Print, value: Option<T>) -> io::Result<()> 
 fn time(rt: &impl Print, raw: &[u8]) -> io::Result<()> {
     match forms::time_of(raw) {
         Time::Seconds(n) => rt.print(n),
-        Time::Untimed => rt.print("untimed"),
-        Time::NoTime => rt.print("refused"),
+        Time::Untimed => rt.write_all(b"untimed"),
+        Time::NoTime => rt.write_all(b"refused"),
     }
 }
 
@@ -37,15 +37,15 @@ fn answer(rt: &impl Print, form: u8, raw: &[u8]) -> io::Result<()> {
     }
 }
 
-// Writes a case and its answer; a line without one is passed over.
+// Writes a case and its answer; a line without one is passed over. What isn't a number is written as bytes: `print` makes a buffer for each of its values.
 fn case(rt: &impl Print, line: &[u8]) -> io::Result<()> {
     if line.len() < 2 {
         return Ok(());
     }
     rt.write_all(line)?;
-    rt.print(" = ")?;
+    rt.write_all(b" = ")?;
     answer(rt, line[0], &line[2..])?;
-    rt.print("\n")
+    rt.write_all(b"\n")
 }
 
 fn main(rt: HostRuntime) -> io::Result<()> {
